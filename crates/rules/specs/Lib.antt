@@ -1,3 +1,4 @@
 pub mod Choice
 pub mod Number
+pub mod NumberExamples
 pub mod Table

@@ -1,0 +1,4 @@
+pub mod Digits
+pub mod Groups
+pub mod Signs
+pub mod Writing
