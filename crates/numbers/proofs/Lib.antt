@@ -1,0 +1,4 @@
+pub mod Bases
+pub mod Signed
+pub mod Filling
+pub mod Grouping
