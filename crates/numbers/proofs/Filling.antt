@@ -7,7 +7,7 @@ use native.Mathlib.Omega.{arith}
 use lib.ListN.{length, drop, set, length-set}
 use lib.Seq.{lt-length-set, drop-cons, getD-set-same, drop-set-lt, drop-length}
 use Rattle.rules.specs.Number.{digitByte, digitsOf}
-use Rattle.rules.proofs.Digits.{shrinks, digits-one, digits-more, count-one, count-more, count-pos}
+use Rattle.rules.proofs.Digits.{digits-one, digits-more, count-one, count-more, count-pos}
 
 -- a store in front of what is written
 store-front : (l : List ℕ) (i v : ℕ) → i < length l → drop i (set l i v) ≡ v ∷ drop (i + 1) l

@@ -1,7 +1,7 @@
 -- The laws of `digitsOf`, over any base from 2 up: its two equations, which hide the fuel, and how many digits there
 -- are. Assumes nothing.
 use mathlib.Core.Path.{_≡_, refl, sym, _∙_}
-use mathlib.Core.List.{List, [], _∷_, _++_}
+use mathlib.Core.List.{[], _∷_, _++_}
 use Prim.Native.Nat.{ℕ, zero, suc, _+_, _*_, _/_, _%_, _^_, _≤_, _<_}
 use native.Mathlib.Nat.{div-lt-self, div-lt-iff-lt-mul, le-div-iff-mul-le, div-mul-le-self, pow-zero, pow-suc, pow-le-pow-left, one-le-pow}
 use native.Mathlib.Decide.{decLt}

@@ -1,10 +1,10 @@
 -- The length of digits in groups: it depends on their count and the width alone, and grows with the count.
 -- Assumes nothing.
-use mathlib.Core.Path.{_≡_, refl, sym, ap, _∙_}
+use mathlib.Core.Path.{_≡_, refl, sym, _∙_}
 use mathlib.Core.Logic.{_≢_}
 use mathlib.Core.Bool.{Bool, true, false, cond}
 use mathlib.Core.List.{List, [], _∷_}
-use Prim.Native.Nat.{ℕ, zero, suc, _+_, _-_, _*_, _/_, _%_, _≤_, _<_}
+use Prim.Native.Nat.{ℕ, suc, _+_, _-_, _*_, _/_, _%_, _≤_, _<_}
 use native.Mathlib.Nat.{zero-div, suc-mod, mod-lt, mod-self, mod-eq-of-lt, div-self, div-eq-of-lt, div-add-mod', mul-add-div-right, div-le-self}
 use native.Mathlib.Decide.{decLt, ℕ-discrete as decEq}
 use native.Mathlib.Omega.{arith}

@@ -1,11 +1,8 @@
 -- `numbers::fill_in` meets its contract. The digits of what is left of the number, with what is written, are the
 -- number's digits. Assumes nothing.
-use mathlib.Core.Path.{_≡_}
-use Prim.Native.Nat.{_≤_, _<_}
 use native.Mathlib.Nat.{mod-lt, lt-of-lt-of-le}
 use native.Mathlib.Omega.{arith}
 use lib.ListN.{length, length-set}
-use Rattle.rules.specs.Number.{digitsOf}
 use Rattle.rules.proofs.Digits.{shrinks, count-pos}
 use Rattle.numbers.proofs.Filling.{Filling, fill-none, fill-room, fill-more, fill-last}
 use Rattle.numbers.proofs.fill_in.Statement.{statement}

@@ -8,6 +8,12 @@ use Rattle.rules.proofs.Groups.{grouped-size}
 use Rattle.numbers.proofs.grouped_size.Statement.{statement}
 use Rattle.numbers.proofs.grouped_size.Tie as tie
 
+returns : tie.Need-returns
+returns c = (
+  λ comma digits e. rw (← e) (sym (grouped-size (c .args .width) comma digits (c .pre .1 .0))),
+  omega (arith, div-le-self (c .args .count - 1) (c .args .width)),
+)
+
 sub-result : tie.Need-sub-result
 sub-result c = search needs
 
@@ -16,12 +22,6 @@ div-result c = search needs
 
 add-result : tie.Need-add-result
 add-result c = omega (arith, div-le-self (c .args .count - 1) (c .args .width))
-
-returns : tie.Need-returns
-returns c = (
-  λ comma digits e. rw (← e) (sym (grouped-size (c .args .width) comma digits (c .pre .1 .0))),
-  omega (arith, div-le-self (c .args .count - 1) (c .args .width)),
-)
 
 pub grouped-size-spec : {M : Type 1} → statement M
 grouped-size-spec = tie.close (tie.spec sub-result div-result add-result returns)

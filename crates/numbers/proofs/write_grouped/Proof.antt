@@ -1,8 +1,8 @@
 -- `numbers::write_grouped` meets its contract. What is written, with what the digits that are left give, is the whole.
 -- Assumes nothing.
 use borrow.Author.Needs.{needs}
-use mathlib.Core.Path.{_≡_, sym, _∙_}
-use Prim.Native.Nat.{_-_, _<_}
+use mathlib.Core.Path.{sym, _∙_}
+use Prim.Native.Nat.{_-_}
 use native.Mathlib.Omega.{arith}
 use lib.ListN.{length, length-set}
 use Rattle.numbers.proofs.Grouping.{Grouping, group-none, group-all, digit-room, comma-room, group-plain, group-split}
