@@ -8,7 +8,8 @@ use Rattle.rules.specs.Number.{digitsOf}
 use Rattle.rules.proofs.Digits.{count-pos, count-word}
 
 module _ {b k : ℕ} (n : ℕ) (e : b ≡ k) where
-  pub count-at : 2 ≤ b → n < 2 ^ 64 → {r : ℕ} → r ≡ length (digitsOf k n) → (r ≡ length (digitsOf b n)) × ((1 ≤ r) × (r ≤ 64))
+  pub count-at : 2 ≤ b → n < 2 ^ 64 → {r : ℕ} → r ≡ length (digitsOf k n)
+      → (r ≡ length (digitsOf b n)) × ((1 ≤ r) × (r ≤ 64))
   count-at hb hn {r} h =
       let q : r ≡ length (digitsOf b n) = rw e h in
       (q, (omega (arith, count-pos b n hb), omega (arith, count-word b n hb hn)))

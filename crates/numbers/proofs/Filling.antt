@@ -22,7 +22,8 @@ pub record Filling (b n size : ℕ) (out : List ℕ) (i rest : ℕ) : Type 0 whe
   pub inside : i < length out
   pub same : length out ≡ size
 
-pub fill-none : (b n : ℕ) (out : List ℕ) → 2 ≤ b → length out ≡ length (digitsOf b n) → Filling b n (length out) out (length out - 1) n
+pub fill-none : (b n : ℕ) (out : List ℕ) → 2 ≤ b → length out ≡ length (digitsOf b n)
+    → Filling b n (length out) out (length out - 1) n
 fill-none b n out hb e =
     let p : 1 ≤ length (digitsOf b n) = count-pos b n hb in
     let q : length out - 1 + 1 ≡ length out = omega arith in
@@ -33,12 +34,16 @@ module _ {b n size i rest : ℕ} {out : List ℕ} (hb : 2 ≤ b) (f : Filling b 
   pub fill-room : b ≤ rest → 1 ≤ i
   fill-room h = omega (arith, count-more b rest hb h, count-pos b (rest / b) hb)
 
-  pub fill-more : (d : ℕ) → b ≤ rest → d ≡ digitByte (rest % b) → Filling b n size (set out i d) (i - 1) (rest / b)
+  pub fill-more : (d : ℕ) → b ≤ rest → d ≡ digitByte (rest % b)
+      → Filling b n size (set out i d) (i - 1) (rest / b)
   fill-more d h e =
+      let x : ℕ = digitByte (rest % b) in
       let k : 1 ≤ i = fill-room h in
       let j : i - 1 + 1 ≡ i = omega arith in
       record {
-        whole = rw (j, e, store-front out i (digitByte (rest % b)) (f .inside), ← append-assoc (digitsOf b (rest / b)) (digitByte (rest % b) ∷ []) (drop (i + 1) out), ← digits-more b rest hb h) (f .whole);
+        whole =
+            rw (j, e, store-front out i x (f .inside))
+            (rw (← append-assoc (digitsOf b (rest / b)) (x ∷ []) (drop (i + 1) out), ← digits-more b rest hb h) (f .whole));
         left = omega (arith, count-more b rest hb h);
         inside = simp length-set (omega arith);
         same = simp length-set (f .same);

@@ -102,7 +102,7 @@ pub fn fill_digits(base: u64, n: u64, out: &mut [u8])
 pub fn grouped_size(count: usize, width: usize) -> usize
     requires { ⌜ (1 ≤ count) × (count ≤ 64) ⌝ }
     requires { ⌜ (1 ≤ width) × (width ≤ 4096) ⌝ }
-    ensures size { λ r. ⌜ ((comma : ℕ) (digits : List ℕ) → length digits ≡ count → r ≡ length (grouped width comma digits)) ⌝ }
+    ensures size { λ r. ⌜ ((c : ℕ) (ds : List ℕ) → length ds ≡ count → r ≡ length (grouped width c ds)) ⌝ }
     ensures within { λ r. ⌜ (count ≤ r) × (r < 2 * count) ⌝ }
 {
     count + (count - 1) / width
