@@ -1,4 +1,5 @@
 pub mod Digits
 pub mod Groups
+pub mod Reading
 pub mod Signs
 pub mod Writing

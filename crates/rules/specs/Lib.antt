@@ -1,4 +1,6 @@
 pub mod Choice
+pub mod Directive
 pub mod Number
 pub mod NumberExamples
 pub mod Table
+pub mod Text

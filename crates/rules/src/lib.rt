@@ -20,3 +20,84 @@ pub enum Argument {
     Text { start: usize, end: usize },
     Entries { first: EntryIndex, count: usize },
 }
+
+// A directive that writes a text of its own and leaves the order of reading alone.
+pub enum Form {
+    // ~a, and with true ~s
+    Object(bool),
+    // ~d ~x ~o ~b, by their base
+    Numeral(u64),
+    // ~c
+    Glyph,
+    // ~p
+    Plural,
+    // ~~ ~% ~_ ~| ~/, by the byte that they repeat
+    Repeat(u8),
+    // tilde-newline
+    Fold,
+}
+
+// What the code of a directive stands for.
+pub enum Code {
+    Writes(Form),
+    // ~*
+    Jump,
+    // ~^
+    Escape,
+    // ~[
+    Conditional,
+    // ~;
+    Separator,
+    // ~]
+    EndConditional,
+    // ~{
+    Iteration,
+    // ~}
+    EndIteration,
+    // any other byte
+    Unknown,
+}
+
+// A parameter as it is written.
+pub enum Parameter {
+    // nothing is written
+    Default,
+    // 0 to 4,096
+    Number(usize),
+    // ' and a byte
+    Character(u8),
+    // v, which takes the next argument
+    Next,
+    // #, the arguments that remain
+    Remaining,
+}
+
+// The parameters of a directive: how many are written, empty ones included, and the first four of them.
+pub struct Parameters {
+    pub count: usize,
+    pub first: Parameter,
+    pub second: Parameter,
+    pub third: Parameter,
+    pub fourth: Parameter,
+}
+
+// A directive as it is written. The text goes on at next.
+pub struct Directive {
+    pub code: Code,
+    pub colon: bool,
+    pub at: bool,
+    pub parameters: Parameters,
+    pub next: usize,
+}
+
+// What stands at a position of a format text.
+pub enum Item {
+    // the end of the text
+    End,
+    Literal(u8),
+    Written(Directive),
+    // a directive with a number that is a sign without digits or out of range
+    BadNumber,
+    // a directive inside which the text ends
+    Unfinished,
+}
