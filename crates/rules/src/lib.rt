@@ -101,3 +101,17 @@ pub enum Item {
     // a directive inside which the text ends
     Unfinished,
 }
+
+// A parameter that is worked out: absent, or its number, which for a character is its byte.
+pub enum Setting {
+    Absent,
+    Is(usize),
+}
+
+// The parameters of a directive, worked out.
+pub struct Settings {
+    pub first: Setting,
+    pub second: Setting,
+    pub third: Setting,
+    pub fourth: Setting,
+}
