@@ -1,7 +1,10 @@
+pub mod Answer
 pub mod Choice
 pub mod Directive
 pub mod Number
 pub mod NumberExamples
 pub mod Piece
+pub mod Run
 pub mod Table
 pub mod Text
+pub mod Working
