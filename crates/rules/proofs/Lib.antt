@@ -1,0 +1,4 @@
+pub mod Tests
+pub mod TableLaws
+pub mod ViewLaws
+pub mod Unused
