@@ -1,6 +1,7 @@
 -- The argument table: what its bytes say, when they are refused, and what everything above it sees of them.
 -- In 01's order, each definition under the sentence that it says. Assumes nothing: these are definitions.
 use Prim.Native.Nat.{ℕ, zero, suc, _+_, _-_, _*_}
+use mathlib.Core.Path.{_≡_}
 use mathlib.Core.Bool.{Bool, true, false, cond}
 use mathlib.Core.List.{List, [], _∷_}
 use lib.Dec.{ltb, leb, eqb}
@@ -43,10 +44,13 @@ pub record Entry : Type 0 where
   pub high : ℕ
   pub low : ℕ
 
+abbrev pub zerosAfter : List ℕ → ℕ → ℕ
+zerosAfter t at = getD t (at + 1) 0 * 65536 + getD t (at + 2) 0 * 256 + getD t (at + 3) 0
+
 unfoldable pub entryAt : List ℕ → ℕ → Entry
 entryAt t i = record {
   tag = getD t (entryPlace i) 0;
-  zeros = getD t (entryPlace i + 1) 0 * 65536 + getD t (entryPlace i + 2) 0 * 256 + getD t (entryPlace i + 3) 0;
+  zeros = zerosAfter t (entryPlace i);
   high = be32At t (entryPlace i + 4);
   low = be32At t (entryPlace i + 8);
 }
@@ -113,6 +117,13 @@ within t n i (Integer z) = true
 within t n i (Character c) = leb c 127
 within t n i (Text start end) = both (leb start end) (both (leb end (length t)) (leb (end - start) 65536))
 within t n i (Entries first count) = both (ltb i (first .0)) (leb (first .0 + count) n)
+
+-- what reading entry i of an accepted table promises of its answer r
+pub record Holds (t : List ℕ) (i : ℕ) (r : Argument) : Type 0 where
+  -- it is the entry's value
+  pub value : meant t r ≡ valueAt t i
+  -- and can be followed: a string's bytes and a list's entries are there
+  pub inside : within t (entryCount t) i r ≡ true
 
 -- "Table check, in order, with its position: shorter than 8 bytes (0), n (0), m (2), pool (4), total length (4), then
 -- the first bad entry i (8 + 12i)." firstBad looks at the k entries from i on
