@@ -1,24 +1,25 @@
 -- The table check a step at a time: what each test of the code says of the verdict. Assumes nothing.
 use Prim.Native.Nat.{ℕ, zero, suc, _+_, _-_, _*_, _≤_, _<_}
 use mathlib.Core.Path.{_≡_, refl, sym, ap, _∙_}
-use mathlib.Core.Bool.{Bool, true, false, cond}
+use mathlib.Core.Bool.{Bool, true, false, cond, not}
 use mathlib.Core.List.{List}
 use native.Mathlib.Omega.{arith}
 use lib.ListN.{length, getD}
-use borrow.Author.Tests.{lt-ltb, le-ltb, eq-eqb, ne-eqb}
+use borrow.Author.Tests.{lt-ltb, le-ltb, eq-eqb, ne-eqb, not-true, not-false}
 use Rattle.rules.specs.Table.{be32At, entryCount, argumentCount, poolLength, entryPlace, zerosAfter, entryAt, rightFor, isRight, firstBad, tableVerdict}
 use Rattle.rules.specs.declared.Verdict.the-variants.{Accepted, Refused}
 
--- one entry
-module _ (t : List ℕ) (n pool i : ℕ) where
-  pub zeros-wrong : (zerosAfter t (entryPlace i) ≡ 0 → ⊥) → false ≡ isRight n pool i (entryAt t i)
+-- one entry, of which the code has read the three bytes after the tag
+module _ (t : List ℕ) (n pool i zeros : ℕ) (is-zeros : zeros ≡ zerosAfter t (entryPlace i)) where
+  pub zeros-wrong : (zeros ≡ 0 → ⊥) → false ≡ isRight n pool i (entryAt t i)
   unfolding entryAt
-  zeros-wrong h = rw (ne-eqb (zerosAfter t (entryPlace i)) 0 h)
+  zeros-wrong h = rw (ne-eqb (zerosAfter t (entryPlace i)) 0 (λ e. h (is-zeros ∙ e)))
 
-  pub by-tag : (high low : ℕ) → zerosAfter t (entryPlace i) ≡ 0 → high ≡ be32At t (entryPlace i + 4) → low ≡ be32At t (entryPlace i + 8)
-      → rightFor (getD t (entryPlace i) 0) n pool i high low ≡ isRight n pool i (entryAt t i)
+  pub by-tag : zeros ≡ 0 → (high low : ℕ) → high ≡ be32At t (entryPlace i + 4) → low ≡ be32At t (entryPlace i + 8) → (right : Bool)
+      → right ≡ rightFor (getD t (entryPlace i) 0) n pool i high low → right ≡ isRight n pool i (entryAt t i)
   unfolding entryAt
-  by-tag high low z h l = rw (eq-eqb (zerosAfter t (entryPlace i)) 0 z, h, l)
+  by-tag z high low is-high is-low right is-right =
+      rw (is-right, eq-eqb (zerosAfter t (entryPlace i)) 0 (sym is-zeros ∙ z), is-high, is-low)
 
 -- the loop over the entries: it begins with all of them, and i is the next to look at
 pub whole : (t : List ℕ) (n pool : ℕ) → firstBad t n pool (n - 0) 0 ≡ firstBad t n pool n 0
@@ -30,21 +31,29 @@ module _ (t : List ℕ) (n pool i : ℕ) (next : i < n) where
   left-over : n - i ≡ suc (n - (i + 1))
   left-over = omega arith
 
-  pub right-next : isRight n pool i (entryAt t i) ≡ true → firstBad t n pool (n - i) i ≡ firstBad t n pool (n - (i + 1)) (i + 1)
-  unfolding firstBad
-  right-next r =
-      let one : suc i ≡ i + 1 = omega arith in
-      rw (left-over, firstBad, r, one)
+  -- `right` is what the test of entry i answers
+  module _ (right : Bool) (is-right : right ≡ isRight n pool i (entryAt t i)) (from-here : firstBad t n pool (n - i) i ≡ firstBad t n pool n 0) where
+    pub right-next : not right ≡ false → firstBad t n pool (n - (i + 1)) (i + 1) ≡ firstBad t n pool n 0
+    unfolding firstBad
+    right-next r =
+        let one : suc i ≡ i + 1 = omega arith in
+        let e : isRight n pool i (entryAt t i) ≡ true = sym is-right ∙ not-false right r in
+        let step : firstBad t n pool (n - i) i ≡ firstBad t n pool (n - (i + 1)) (i + 1) = rw (left-over, firstBad, e, one) in
+        sym step ∙ from-here
 
-  pub wrong-here : isRight n pool i (entryAt t i) ≡ false → firstBad t n pool (n - i) i ≡ Refused 1 (entryPlace i)
-  unfolding firstBad
-  wrong-here r = rw (left-over, firstBad, r)
+    pub wrong-here : not right ≡ true → Refused 1 (entryPlace i) ≡ firstBad t n pool n 0
+    unfolding firstBad
+    wrong-here r =
+        let e : isRight n pool i (entryAt t i) ≡ false = sym is-right ∙ not-true right r in
+        let step : firstBad t n pool (n - i) i ≡ Refused 1 (entryPlace i) = rw (left-over, firstBad, e) in
+        sym step ∙ from-here
 
-pub none-left : (t : List ℕ) (n pool i : ℕ) → n ≤ i → firstBad t n pool (n - i) i ≡ Accepted
+pub none-left : (t : List ℕ) (n pool i : ℕ) → n ≤ i → firstBad t n pool (n - i) i ≡ firstBad t n pool n 0 → Accepted ≡ firstBad t n pool n 0
 unfolding firstBad
-none-left t n pool i h =
+none-left t n pool i h from-here =
     let none : n - i ≡ 0 = omega arith in
-    rw (none, firstBad)
+    let step : firstBad t n pool (n - i) i ≡ Accepted = rw (none, firstBad) in
+    sym step ∙ from-here
 
 -- the header, test by test
 module _ (t : List ℕ) where

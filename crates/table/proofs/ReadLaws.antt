@@ -2,17 +2,23 @@
 use Prim.Native.Nat.{ℕ, zero, suc, _+_, _-_, _*_, _≤_, _<_}
 use mathlib.Core.Path.{_≡_, refl, sym, ap, subst, _∙_}
 use mathlib.Core.Bool.{Bool, true, false}
-use mathlib.Core.List.{List}
+use mathlib.Core.List.{List, [], _∷_}
+use mathlib.Core.Logic.{⊎-elim}
 use native.Mathlib.Omega.{arith}
 use lib.Dec.{eqb, leb}
 use lib.ListN.{length, getD, take, drop}
 use lib.Seq.{drop-drop}
-use borrow.Author.Tests.{le-leb, lt-ltb}
-use Rattle.rules.specs.Table.{be32At, entryCount, poolLength, entryPlace, poolOf, Entry, entryAt, signedOf, valueBy, valueAt, string, list, Holds, tableVerdict}
+use types.Run.{OneOf}
+use denote.Enum.Declared.{tagOf}
+use borrow.Author.Tests.{le-leb, lt-ltb, leb-true}
+use Rattle.rules.specs.Choice.{both}
+use Rattle.rules.specs.Table.{be32At, entryCount, poolLength, entryPlace, poolOf, Entry, entryAt, signedOf, valueBy, valueAt, string, list, stringIn, Holds, tableVerdict}
 use Rattle.rules.specs.declared.Verdict.the-variants.{Accepted}
+use Rattle.rules.specs.declared.Argument.{Argument}
 use Rattle.rules.specs.declared.Argument.the-variants.{Boolean, Integer, Character, Text, Entries}
 use Rattle.rules.specs.declared.EntryIndex.{EntryIndex}
-use Rattle.rules.proofs.Tests.{true-both}
+use Rattle.rules.proofs.Argument.{the-type}
+use Rattle.rules.proofs.Tests.{both-true, true-both}
 use Rattle.rules.proofs.TableLaws.{Sound, RightEntry, accepted-sound, accepted-entry}
 
 -- a tag that is none of 0 to 3 is read as a list's
@@ -88,3 +94,24 @@ module _ (t : List ℕ) (ok : tableVerdict t ≡ Accepted) (i : ℕ) (h : i < en
           value = rw (is-high, is-low) (sym (other-kinds (poolOf t) (getD t (entryPlace i) 0) (be32At t (entryPlace i + 4)) (be32At t (entryPlace i + 8)) a b c d));
           inside = true-both (lt-ltb i high (omega (arith, facts .0))) (le-leb (high + low) (entryCount t) (omega (arith, facts .1)));
         }
+
+-- where the answer is a string's place, that part of the table is there, and is the string
+pub place-fits : (t : List ℕ) (i : ℕ) (r : Argument) (start end : ℕ) → Holds t i r → r ≡ Text start end → (start ≤ end) × (end ≤ length t)
+place-fits t i r start end h e =
+    let inside : both (leb start end) (both (leb end (length t)) (leb (end - start) 65536)) ≡ true = rw e at (h .inside) in
+    let parts = both-true (leb start end) (both (leb end (length t)) (leb (end - start) 65536)) inside in
+    (leb-true start end (parts .0), leb-true end (length t) (both-true (leb end (length t)) (leb (end - start) 65536) (parts .1) .0))
+
+pub place-string : (t : List ℕ) (i : ℕ) (r : Argument) (start end : ℕ) → Holds t i r → r ≡ Text start end → take (end - start) (drop start t) ≡ stringIn (valueAt t i)
+place-string t i r start end h e =
+    let value : string (take (end - start) (drop start t)) ≡ valueAt t i = rw e at (h .value) in
+    ap stringIn value
+
+-- where it is none, there is no string
+pub no-string : (t : List ℕ) (i : ℕ) (r : Argument) → Holds t i r → OneOf (0 ∷ 1 ∷ 2 ∷ 4 ∷ []) (tagOf the-type r) → [] ≡ stringIn (valueAt t i)
+no-string t i (Boolean b) h k = ap stringIn (h .value)
+no-string t i (Integer z) h k = ap stringIn (h .value)
+no-string t i (Character c) h k = ap stringIn (h .value)
+no-string t i (Text start end) h k =
+    absurd (⊎-elim (λ a. omega arith) (λ b. ⊎-elim (λ a. omega arith) (λ c. ⊎-elim (λ a. omega arith) (λ a. omega arith) c) b) k)
+no-string t i (Entries first count) h k = ap stringIn (h .value)

@@ -6,30 +6,38 @@ use rules::Verdict;
 ghost use mathlib.Core.Path.{_≡_};
 ghost use Prim.Native.Nat.{_+_, _-_, _*_, _≤_, _<_};
 ghost use lib.ListN.{length, take, drop};
-ghost use Rattle.rules.specs.Table.{be16At, be32At, entryCount, argumentCount, entryPlace, zerosAfter, entryAt, rightFor, isRight, firstBad, tableVerdict, signedOf, valueAt, stringIn, Holds};
+ghost use Rattle.rules.specs.Table.{be16At, be32At, entryCount, argumentCount, poolLength, entryPlace, zerosAfter, entryAt, rightFor, isRight, firstBad, tableVerdict, signedOf, valueAt, stringIn, Holds};
 ghost use Rattle.rules.specs.declared.Verdict.the-variants.{Accepted};
 
+// How many bytes the header takes.
+const HEADER: usize = 8;
+
+// How many bytes an entry takes.
+const ENTRY: usize = 12;
+
+const MOST_ENTRIES: usize = 1024;
+
+const MOST_POOL: usize = 65536;
+
+// A byte with its range, so that sums of bytes are seen to fit.
 fn wide(byte: u8) -> usize
     ensures { λ r. ⌜ (r ≡ byte) × (r < 256) ⌝ }
 {
     byte as usize
 }
 
-fn be16(table: &[u8], at: usize) -> usize
-    requires { ⌜ at + 2 ≤ length (now table) ⌝ }
-    ensures { λ r. ⌜ (r ≡ be16At (now (table .entry)) at) × (r < 65536) ⌝ }
+fn be16(t: &[u8], at: usize) -> usize
+    requires { ⌜ at + 2 ≤ length (now t) ⌝ }
+    ensures { λ r. ⌜ (r ≡ be16At (now (t .entry)) at) × (r < 65536) ⌝ }
 {
-    wide(table[at]) * 256 + wide(table[at + 1])
+    wide(t[at]) * 256 + wide(t[at + 1])
 }
 
-fn be32(table: &[u8], at: usize) -> usize
-    requires { ⌜ at + 4 ≤ length (now table) ⌝ }
-    ensures { λ r. ⌜ (r ≡ be32At (now (table .entry)) at) × (r < 4294967296) ⌝ }
+fn be32(t: &[u8], at: usize) -> usize
+    requires { ⌜ at + 4 ≤ length (now t) ⌝ }
+    ensures { λ r. ⌜ (r ≡ be32At (now (t .entry)) at) × (r < 4294967296) ⌝ }
 {
-    wide(table[at]) * 16777216
-        + wide(table[at + 1]) * 65536
-        + wide(table[at + 2]) * 256
-        + wide(table[at + 3])
+    wide(t[at]) * 16777216 + wide(t[at + 1]) * 65536 + wide(t[at + 2]) * 256 + wide(t[at + 3])
 }
 
 // The three bytes after a tag, which are to be zero.
@@ -54,6 +62,14 @@ pub fn argument_count(table: &[u8]) -> usize
     ensures { λ r. ⌜ (r ≡ argumentCount (now (table .entry))) × (r < 65536) ⌝ }
 {
     be16(table, 2)
+}
+
+// The length of the pool.
+fn pool_length(table: &[u8]) -> usize
+    requires { ⌜ 8 ≤ length (now table) ⌝ }
+    ensures { λ r. ⌜ (r ≡ poolLength (now (table .entry))) × (r < 4294967296) ⌝ }
+{
+    be32(table, 4)
 }
 
 // The one place where an argument position becomes an entry number.
@@ -85,11 +101,20 @@ fn entry_right(table: &[u8], n: usize, pool: usize, i: usize) -> bool
     requires { ⌜ entryPlace (i + 1) ≤ length (now table) ⌝ }
     ensures { λ r. ⌜ r ≡ isRight n pool i (entryAt (now (table .entry)) i) ⌝ }
 {
-    let at = 8 + 12 * i;
+    let at = HEADER + ENTRY * i;
     if zeros_after(table, at) != 0 {
         return false;
     }
-    right_for(table[at], n, pool, i, be32(table, at + 4), be32(table, at + 8))
+    let high = be32(table, at + 4);
+    let low = be32(table, at + 8);
+    right_for(table[at], n, pool, i, high, low)
+}
+
+// A bad table is code 1, whatever is wrong with it.
+fn refused(position: usize) -> Verdict
+    ensures { λ r. ⌜ r ≡ Verdict.Refused 1 position ⌝ }
+{
+    Verdict::Refused { code: 1, position }
 }
 
 // The first bad entry, in one pass.
@@ -101,10 +126,7 @@ fn check_entries(table: &[u8], n: usize, pool: usize) -> Verdict
     let mut i: usize = 0;
     while i < n {
         if !entry_right(table, n, pool, i) {
-            return Verdict::Refused {
-                code: 1,
-                position: 8 + 12 * i,
-            };
+            return refused(HEADER + ENTRY * i);
         }
         i += 1;
     }
@@ -115,30 +137,24 @@ fn check_entries(table: &[u8], n: usize, pool: usize) -> Verdict
 pub fn check_table(table: &[u8]) -> Verdict
     ensures { λ r. ⌜ r ≡ tableVerdict (now (table .entry)) ⌝ }
 {
-    if table.len() < 8 {
+    if table.len() < HEADER {
         return refused(0);
     }
-    let n = be16(table, 0);
-    if 1024 < n {
+    let n = entry_count(table);
+    if MOST_ENTRIES < n {
         return refused(0);
     }
-    if n < be16(table, 2) {
+    if n < argument_count(table) {
         return refused(2);
     }
-    let pool = be32(table, 4);
-    if 65536 < pool {
+    let pool = pool_length(table);
+    if MOST_POOL < pool {
         return refused(4);
     }
-    if table.len() == 8 + 12 * n + pool {
+    if table.len() == HEADER + ENTRY * n + pool {
         return check_entries(table, n, pool);
     }
     refused(4)
-}
-
-fn refused(position: usize) -> Verdict
-    ensures { λ r. ⌜ r ≡ Verdict.Refused 1 position ⌝ }
-{
-    Verdict::Refused { code: 1, position }
 }
 
 // 64 bits, given as two halves, as a signed number.
@@ -161,7 +177,7 @@ pub fn read_argument(table: &[u8], entry: EntryIndex) -> Argument
     ensures { λ r. ⌜ Holds (now (table .entry)) (entry .0) r ⌝ }
 {
     let i = entry.0;
-    let at = 8 + 12 * i;
+    let at = HEADER + ENTRY * i;
     let high = be32(table, at + 4);
     let low = be32(table, at + 8);
     let tag = table[at];
@@ -170,7 +186,8 @@ pub fn read_argument(table: &[u8], entry: EntryIndex) -> Argument
         1 => Argument::Integer(signed(high, low)),
         2 => Argument::Character(low as u8),
         3 => {
-            let start = 8 + 12 * entry_count(table) + high;
+            // the pool begins where entry n would
+            let start = HEADER + ENTRY * entry_count(table) + high;
             Argument::Text {
                 start,
                 end: start + low,
@@ -183,7 +200,7 @@ pub fn read_argument(table: &[u8], entry: EntryIndex) -> Argument
     }
 }
 
-// The part of the table from start to end.
+// The part of the lent table from start to end: no byte is copied.
 pub fn string_part(table: &[u8], start: usize, end: usize) -> &[u8]
     requires { ⌜ (start ≤ end) × (end ≤ length (now table)) ⌝ }
     ensures { λ r. ⌜ now r ≡ take (end - start) (drop start (now (table .entry))) ⌝ }

@@ -12,19 +12,19 @@ refused-requires c κs = search needs
 returns : tie.Need-returns
 returns c = c .refused .ensures ∙ too-short _ (c .before .if1 .taken)
 
-be16-requires : tie.Need-be16-requires
-be16-requires c κs = search needs
+entry-count-requires : tie.Need-entry-count-requires
+entry-count-requires c κs = search needs
 
 refused-requires-2 : tie.Need-refused-requires-2
 refused-requires-2 c κs = search needs
 
 returns-2 : tie.Need-returns-2
 returns-2 c =
-    let n = c .before .before .be16 .ensures .0 in
+    let n = c .before .before .entry-count .ensures .0 in
     c .refused2 .ensures ∙ too-many _ (c .before .before .before .if1 .left) (omega arith)
 
-be16-requires-2 : tie.Need-be16-requires-2
-be16-requires-2 c κs = search needs
+argument-count-requires : tie.Need-argument-count-requires
+argument-count-requires c κs = search needs
 
 refused-requires-3 : tie.Need-refused-requires-3
 refused-requires-3 c κs = search needs
@@ -34,8 +34,8 @@ returns-3 c =
     let b = c .before .before .before in
     c .refused3 .ensures ∙ too-many-arguments _ (b .before .before .if1 .left) (omega arith) (omega arith)
 
-be32-requires : tie.Need-be32-requires
-be32-requires c κs = search needs
+pool-length-requires : tie.Need-pool-length-requires
+pool-length-requires c κs = search needs
 
 refused-requires-4 : tie.Need-refused-requires-4
 refused-requires-4 c κs = search needs
@@ -61,7 +61,7 @@ returns-5 : tie.Need-returns-5
 returns-5 c =
     let b = c .before .before .before .before .before .before .before in
     c .check-entries .ensures
-    ∙ by-entries _ (b .before .if1 .left) (omega arith) (omega arith) (omega arith) _ _ (b .be16 .ensures .0) (c .before .before .before .be32 .ensures .0) (omega arith)
+    ∙ by-entries _ (b .before .if1 .left) (omega arith) (omega arith) (omega arith) _ _ (b .entry-count .ensures .0) (c .before .before .before .pool-length .ensures .0) (omega arith)
 
 refused-requires-5 : tie.Need-refused-requires-5
 refused-requires-5 c κs = search needs
@@ -77,13 +77,13 @@ check-table-spec =
     (tie.spec
     refused-requires
     returns
-    be16-requires
+    entry-count-requires
     refused-requires-2
     returns-2
-    be16-requires-2
+    argument-count-requires
     refused-requires-3
     returns-3
-    be32-requires
+    pool-length-requires
     refused-requires-4
     returns-4
     mul-if5

@@ -1,87 +1,97 @@
+-- `table::read_argument` meets its contract: the entry lies in the accepted table, and each arm answers what ReadLaws
+-- says of its kind. Assumes nothing.
+use Prim.Native.Nat.{_+_, _<_, _≤_}
+use mathlib.Core.Path.{_≡_, refl, ap, _∙_}
+use native.Mathlib.Omega.{arith}
+use mir.Syntax.{w64}
+use mir.ValLaws.{toZ-ofZ}
+use lib.ListN.{length}
+use Rattle.rules.specs.Table.{entryPlace, Holds}
+use Rattle.rules.specs.declared.Argument.the-variants.{Integer}
+use Rattle.table.proofs.ReadLaws.{entry-fits, boolean-holds, integer-holds, character-small, character-holds, string-holds, list-holds}
 use borrow.Author.Needs.{needs}
 use Rattle.table.proofs.read_argument.Statement.{statement}
 use Rattle.table.proofs.read_argument.Tie as tie
-use Rattle.table.proofs.read_argument.Reads as reads
-use Rattle.table.proofs.read_argument.Lts as lts
-use Rattle.table.proofs.be32.Reads as be32-reads
-use Rattle.table.proofs.entry_count.Reads as entry-count-reads
-use Rattle.table.proofs.signed.Reads as signed-reads
 
--- src/lib.rt:164:18
+inside : (c : tie.Start) → (c .args .entry .0 < 1024) × (entryPlace (c .args .entry .0) + 12 ≤ length (c .args .table .now))
+inside c = entry-fits (c .args .table .now) (c .pre .0) (c .args .entry .0) (c .pre .1)
+
 mul-at : tie.Need-mul-at
-mul-at c = ?
+mul-at c = omega (arith, inside (c .before))
 
--- src/lib.rt:164:14
 add-at : tie.Need-add-at
-add-at c = ?
+add-at c = omega (arith, inside (c .before))
 
--- src/lib.rt:165:28
 add-be32 : tie.Need-add-be32
-add-be32 c = ?
+add-be32 c = omega (arith, inside (c .before))
 
--- src/lib.rt:165:9
 be32-requires : tie.Need-be32-requires
-be32-requires c κs = ?
+be32-requires c κs = omega (arith, inside (c .before))
 
--- src/lib.rt:166:27
 add-be32-2 : tie.Need-add-be32-2
-add-be32-2 c = ?
+add-be32-2 c = omega (arith, inside (c .before .before))
 
--- src/lib.rt:166:9
 be32-requires-2 : tie.Need-be32-requires-2
-be32-requires-2 c κs = ?
+be32-requires-2 c κs = omega (arith, inside (c .before .before))
 
--- src/lib.rt:167:15
 shared-slice-read-tag : tie.Need-shared-slice-read-tag
-shared-slice-read-tag c = ?
+shared-slice-read-tag c = omega (arith, inside (c .before .before .before .before))
 
--- src/lib.rt:170:32
 signed-requires : tie.Need-signed-requires
 signed-requires c κs = search needs
 
--- src/lib.rt:171:34
 cast-t15 : tie.Need-cast-t15
-cast-t15 c = ?
+cast-t15 c =
+    let b = c .before .before in
+    let s = b .before .before .before in
+    omega (arith, character-small (s .args .table .now) (s .pre .0) (s .args .entry .0) (s .pre .1) (b .before .be32 .result) (b .be322 .result) (b .before .be32 .ensures .0) (b .be322 .ensures .0) (c .match .keys3))
 
--- src/lib.rt:173:34
 entry-count-requires : tie.Need-entry-count-requires
-entry-count-requires c κs = ?
+entry-count-requires c κs = omega (arith, inside (c .before .before .before .before .before))
 
--- src/lib.rt:173:29
 mul-start : tie.Need-mul-start
 mul-start c = search needs
 
--- src/lib.rt:173:25
 add-start : tie.Need-add-start
 add-start c = search needs
 
--- src/lib.rt:173:25
 add-start-2 : tie.Need-add-start-2
 add-start-2 c = search needs
 
--- src/lib.rt:176:22
 add-t16 : tie.Need-add-t16
 add-t16 c = search needs
 
--- src/lib.rt:158:1
 returns : tie.Need-returns
-returns c = ?
+returns c =
+    let b = c .before .before in
+    let s = b .before .before .before in
+    boolean-holds (s .args .table .now) (s .pre .0) (s .args .entry .0) (s .pre .1) _ _ (b .before .be32 .ensures .0) (b .be322 .ensures .0) (c .match .keys1)
 
--- src/lib.rt:158:1
 returns-2 : tie.Need-returns-2
-returns-2 c = ?
+returns-2 c =
+    let b = c .before .before .before in
+    let s = b .before .before .before in
+    rw (toZ-ofZ w64 (c .signed .result) (record { sfits = c .signed .ok }), c .signed .ensures)
+    (integer-holds (s .args .table .now) (s .pre .0) (s .args .entry .0) (s .pre .1) _ _ (b .before .be32 .ensures .0) (b .be322 .ensures .0) (c .before .match .keys2))
 
--- src/lib.rt:158:1
 returns-3 : tie.Need-returns-3
-returns-3 c = ?
+returns-3 c =
+    let b = c .before .before in
+    let s = b .before .before .before in
+    character-holds (s .args .table .now) (s .pre .0) (s .args .entry .0) (s .pre .1) _ _ (b .before .be32 .ensures .0) (b .be322 .ensures .0) (c .match .keys3)
 
--- src/lib.rt:158:1
 returns-4 : tie.Need-returns-4
-returns-4 c = ?
+returns-4 c =
+    let b = c .before .before .before in
+    let s = b .before .before .before in
+    string-holds (s .args .table .now) (s .pre .0) (s .args .entry .0) (s .pre .1) _ _ (b .before .be32 .ensures .0) (b .be322 .ensures .0) _ (omega (arith, c .entry-count .ensures .0)) (c .before .match .keys4)
 
--- src/lib.rt:158:1
 returns-5 : tie.Need-returns-5
-returns-5 c = ?
+returns-5 c =
+    let b = c .before .before in
+    let s = b .before .before .before in
+    let none = c .match .rest in
+    list-holds (s .args .table .now) (s .pre .0) (s .args .entry .0) (s .pre .1) _ _ (b .before .be32 .ensures .0) (b .be322 .ensures .0) (none .0 .0 .0 .1) (none .0 .0 .1) (none .0 .1) (none .1)
 
 pub read-argument-spec : {M : Type 1} → statement M
 read-argument-spec =
