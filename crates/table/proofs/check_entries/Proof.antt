@@ -1,6 +1,6 @@
 -- `table::check_entries` meets its contract. The loop's invariant: the first bad entry from i on is the first of all.
 -- The measure is the number of entries left. Assumes nothing.
-use Prim.Native.Nat.{ℕ, _-_, _≤_}
+use Prim.Native.Nat.{_-_, _≤_}
 use mathlib.Core.Path.{_≡_, _∙_}
 use native.Mathlib.Omega.{arith}
 use borrow.Author.Needs.{needs}
@@ -44,8 +44,7 @@ loop-less c = omega arith
 
 loop-again : tie.Need-loop-again Inv-loop μ-loop
 loop-again c =
-    let b = c .before .before in
-    (
+    let b = c .before .before in (
       omega arith,
       right-next _ _ _ _ (b .loop-test .taken) _ (c .before .entry-right .ensures) (b .before .loop .inv .1) (c .if1 .left),
     )

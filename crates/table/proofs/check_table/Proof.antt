@@ -1,5 +1,5 @@
 -- `table::check_table` meets its contract: each refusal and the last answer, by CheckLaws. Assumes nothing.
-use mathlib.Core.Path.{_≡_, _∙_}
+use mathlib.Core.Path.{_∙_}
 use native.Mathlib.Omega.{arith}
 use Rattle.table.proofs.CheckLaws.{too-short, too-many, too-many-arguments, too-large, wrong-length, by-entries}
 use borrow.Author.Needs.{needs}

@@ -1,20 +1,28 @@
 -- `table::read_argument` meets its contract: the entry lies in the accepted table, and each arm answers what ReadLaws
 -- says of its kind. Assumes nothing.
 use Prim.Native.Nat.{_+_, _<_, _≤_}
-use mathlib.Core.Path.{_≡_, refl, ap, _∙_}
 use native.Mathlib.Omega.{arith}
 use mir.Syntax.{w64}
 use mir.ValLaws.{toZ-ofZ}
 use lib.ListN.{length}
-use Rattle.rules.specs.Table.{entryPlace, Holds}
-use Rattle.rules.specs.declared.Argument.the-variants.{Integer}
-use Rattle.table.proofs.ReadLaws.{entry-fits, boolean-holds, integer-holds, character-small, character-holds, string-holds, list-holds}
+use Rattle.rules.specs.Table.{entryPlace}
+use Rattle.table.proofs.ReadLaws.{entry-fits, AtEntry, boolean-holds, integer-holds, character-small, character-holds, string-holds, list-holds}
 use borrow.Author.Needs.{needs}
 use Rattle.table.proofs.read_argument.Statement.{statement}
 use Rattle.table.proofs.read_argument.Tie as tie
 
 inside : (c : tie.Start) → (c .args .entry .0 < 1024) × (entryPlace (c .args .entry .0) + 12 ≤ length (c .args .table .now))
 inside c = entry-fits (c .args .table .now) (c .pre .0) (c .args .entry .0) (c .pre .1)
+
+at-entry : (c : tie.After-be322) → AtEntry (c .before .before .before .args .table .now) (c .before .before .before .args .entry .0) (c .before .be32 .result) (c .be322 .result)
+at-entry c =
+    let s = c .before .before .before in
+    record {
+      accepted = s .pre .0;
+      below = s .pre .1;
+      is-high = c .before .be32 .ensures .0;
+      is-low = c .be322 .ensures .0;
+    }
 
 mul-at : tie.Need-mul-at
 mul-at c = omega (arith, inside (c .before))
@@ -42,9 +50,7 @@ signed-requires c κs = search needs
 
 cast-t15 : tie.Need-cast-t15
 cast-t15 c =
-    let b = c .before .before in
-    let s = b .before .before .before in
-    omega (arith, character-small (s .args .table .now) (s .pre .0) (s .args .entry .0) (s .pre .1) (b .before .be32 .result) (b .be322 .result) (b .before .be32 .ensures .0) (b .be322 .ensures .0) (c .match .keys3))
+    omega (arith, character-small (at-entry (c .before .before)) (c .match .keys3))
 
 entry-count-requires : tie.Need-entry-count-requires
 entry-count-requires c κs = omega (arith, inside (c .before .before .before .before .before))
@@ -63,35 +69,25 @@ add-t16 c = search needs
 
 returns : tie.Need-returns
 returns c =
-    let b = c .before .before in
-    let s = b .before .before .before in
-    boolean-holds (s .args .table .now) (s .pre .0) (s .args .entry .0) (s .pre .1) _ _ (b .before .be32 .ensures .0) (b .be322 .ensures .0) (c .match .keys1)
+    boolean-holds (at-entry (c .before .before)) (c .match .keys1)
 
 returns-2 : tie.Need-returns-2
 returns-2 c =
-    let b = c .before .before .before in
-    let s = b .before .before .before in
     rw (toZ-ofZ w64 (c .signed .result) (record { sfits = c .signed .ok }), c .signed .ensures)
-    (integer-holds (s .args .table .now) (s .pre .0) (s .args .entry .0) (s .pre .1) _ _ (b .before .be32 .ensures .0) (b .be322 .ensures .0) (c .before .match .keys2))
+    (integer-holds (at-entry (c .before .before .before)) (c .before .match .keys2))
 
 returns-3 : tie.Need-returns-3
 returns-3 c =
-    let b = c .before .before in
-    let s = b .before .before .before in
-    character-holds (s .args .table .now) (s .pre .0) (s .args .entry .0) (s .pre .1) _ _ (b .before .be32 .ensures .0) (b .be322 .ensures .0) (c .match .keys3)
+    character-holds (at-entry (c .before .before)) (c .match .keys3)
 
 returns-4 : tie.Need-returns-4
 returns-4 c =
-    let b = c .before .before .before in
-    let s = b .before .before .before in
-    string-holds (s .args .table .now) (s .pre .0) (s .args .entry .0) (s .pre .1) _ _ (b .before .be32 .ensures .0) (b .be322 .ensures .0) _ (omega (arith, c .entry-count .ensures .0)) (c .before .match .keys4)
+    string-holds (at-entry (c .before .before .before)) _ (omega (arith, c .entry-count .ensures .0)) (c .before .match .keys4)
 
 returns-5 : tie.Need-returns-5
 returns-5 c =
-    let b = c .before .before in
-    let s = b .before .before .before in
     let none = c .match .rest in
-    list-holds (s .args .table .now) (s .pre .0) (s .args .entry .0) (s .pre .1) _ _ (b .before .be32 .ensures .0) (b .be322 .ensures .0) (none .0 .0 .0 .1) (none .0 .0 .1) (none .0 .1) (none .1)
+    list-holds (at-entry (c .before .before)) (none .0 .0 .0 .1) (none .0 .0 .1) (none .0 .1) (none .1)
 
 pub read-argument-spec : {M : Type 1} → statement M
 read-argument-spec =

@@ -1,6 +1,7 @@
 -- `table::read_string` meets its contract: a string's place lies in the table and holds the string. Assumes nothing.
-use mathlib.Core.Path.{_≡_, _∙_}
-use Rattle.table.proofs.ReadLaws.{place-fits, place-string, no-string}
+use mathlib.Core.Path.{_∙_}
+use Rattle.rules.proofs.AnswerLaws.{text-fits, text-bytes}
+use Rattle.table.proofs.ReadLaws.{no-string}
 use borrow.Author.Needs.{needs}
 use Rattle.table.proofs.read_string.Statement.{statement}
 use Rattle.table.proofs.read_string.Tie as tie
@@ -14,7 +15,7 @@ enum-known-argument c = search needs
 string-part-requires : tie.Need-string-part-requires
 string-part-requires c κs =
     let a = c .before .before .before in
-    place-fits _ _ _ _ _ (a .read-argument .ensures) (c .before .argument .given .1)
+    text-fits (a .read-argument .ensures) (c .before .argument .given .1)
 
 sub-result : tie.Need-sub-result
 sub-result c = search needs
@@ -28,7 +29,7 @@ part-result-end c = search needs
 returns : tie.Need-returns
 returns c =
     let a = c .before .before .before .before in
-    c .string-part .ensures ∙ place-string _ _ _ _ _ (a .read-argument .ensures) (c .before .before .argument .given .1)
+    c .string-part .ensures ∙ text-bytes (a .read-argument .ensures) (c .before .before .argument .given .1)
 
 returns-2 : tie.Need-returns-2
 returns-2 c =

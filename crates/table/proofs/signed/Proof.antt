@@ -1,5 +1,5 @@
 -- `table::signed` meets its contract: both halves of the range, by SignLaws. Assumes nothing.
-use Prim.Native.Nat.{ℕ, _+_, _*_}
+use Prim.Native.Nat.{_+_, _*_}
 use native.Mathlib.Omega.{arith}
 use borrow.Author.Needs.{needs}
 use Rattle.table.proofs.SignLaws.{lower-half, UpperHalf, upper-half}
