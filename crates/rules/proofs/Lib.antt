@@ -1,5 +1,11 @@
+pub mod AnswerLaws
 pub mod Digits
 pub mod Groups
 pub mod Reading
 pub mod Signs
+pub mod TableExamples
+pub mod TableLaws
+pub mod Tests
+pub mod Unused
+pub mod ViewLaws
 pub mod Writing
