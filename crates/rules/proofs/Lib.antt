@@ -1,6 +1,7 @@
 pub mod AnswerLaws
 pub mod Digits
 pub mod Groups
+pub mod JobExamples
 pub mod Reading
 pub mod RunLaws
 pub mod Signs
