@@ -1,7 +1,9 @@
+pub mod AnswerBounds
 pub mod AnswerLaws
 pub mod Digits
 pub mod Groups
 pub mod JobExamples
+pub mod JobLaws
 pub mod Reading
 pub mod RunLaws
 pub mod Signs

@@ -65,9 +65,12 @@ unfoldable pub answerBytes : Answer → List ℕ
 answerBytes a = numbersOf (a .code) (a .position) (a .steps) (length (a .text)) ++ a .text
 
 -- "A line that isn't such a frame (..) answers `ff`"
+abbrev pub noFrame : List ℕ
+noFrame = 102 ∷ 102 ∷ []
+
 abbrev pub ifFrame : Bool → (Bool → List ℕ) → List ℕ
 ifFrame true on = on true
-ifFrame false on = 102 ∷ 102 ∷ []
+ifFrame false on = noFrame
 
 -- "room 16,384 bytes"
 abbrev pub jobRoom : ℕ
