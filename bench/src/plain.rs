@@ -127,7 +127,7 @@ pub fn table(n: usize, pool: usize, entry: impl Fn(usize) -> [u8; ENTRY]) -> Vec
     bytes.extend((n as u16).to_be_bytes());
     bytes.extend((pool as u32).to_be_bytes());
     bytes.extend((0..n).flat_map(entry));
-    bytes.extend(std::iter::repeat(b'p').take(pool));
+    bytes.extend(vec![b'p'; pool]);
     bytes
 }
 
