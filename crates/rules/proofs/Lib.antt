@@ -1,12 +1,14 @@
 pub mod AnswerLaws
 pub mod Digits
 pub mod Groups
+pub mod Padding
 pub mod Reading
 pub mod RunLaws
 pub mod Signs
 pub mod TableExamples
 pub mod TableLaws
 pub mod Tests
+pub mod TextLaws
 pub mod Unused
 pub mod ViewLaws
 pub mod Writing
