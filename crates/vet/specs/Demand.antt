@@ -1,0 +1,79 @@
+-- Demand 3: what a vet's answer promises over all tables and buffers. Assumes nothing: these are definitions.
+use Prim.Native.Nat.{ℕ, _+_, _≤_, _<_}
+use mathlib.Core.Path.{_≡_}
+use mathlib.Core.Bool.{cond}
+use mathlib.Core.List.{List, [], _∷_, _++_}
+use lib.Dec.{ltb}
+use lib.ListN.{length, getD}
+use Rattle.rules.specs.Table.{argumentCount, entryAt, valueAt, stringIn, tableVerdict, viewOf}
+use Rattle.rules.specs.Run.{Flow, done, refused, put}
+use Rattle.rules.specs.Answer.{Answer, flowOf, answerOf}
+use Rattle.rules.specs.declared.Verdict.the-variants.{Accepted as accepted}
+use Rattle.vet.specs.Vet.{vetOf, kindIn}
+use Rattle.vet.specs.declared.Vetted.{Vetted}
+
+-- "A valid table with exactly those kinds and no longer strings passes the table check, has as many arguments as there
+-- are kinds, each with the tag of its kind in order, and no string argument above L bytes; its other entries may be any."
+pub record Suits (kinds : List ℕ) (longest : ℕ) (table : List ℕ) : Type 0 where
+  pub bytes : (i : ℕ) → getD table i 0 < 256
+  pub valid : tableVerdict table ≡ accepted
+  pub count : argumentCount table ≡ length kinds
+  pub tags : (i : ℕ) → i < length kinds → entryAt table i .tag ≡ kindIn kinds i
+  pub short : (i : ℕ) → i < length kinds → length (stringIn (valueAt table i)) ≤ longest
+
+-- "the text that these rules give": the pieces of a run, together
+unfoldable pub givenText : Flow → List ℕ
+givenText (done left) = []
+givenText (refused code p left) = []
+givenText (put p left piece more) = piece ++ givenText more
+
+-- "the pieces that the rules give it before the position of vet's refusal": how long they are together
+unfoldable pub bytesBefore : ℕ → Flow → ℕ
+bytesBefore position (done left) = 0
+bytesBefore position (refused code p left) = 0
+bytesBefore position (put p left piece more) = cond (ltb p position) (length piece) 0 + bytesBefore position more
+
+-- the run of a format over a table's arguments
+abbrev pub runOf : List ℕ → List ℕ → Flow
+runOf format table = flowOf format (viewOf table)
+
+-- "To format without refusal is code 0 with the text that these rules give"
+pub record Formats (format table : List ℕ) (room : ℕ) : Type 0 where
+  pub code : answerOf format table room .code ≡ 0
+  pub position : answerOf format table room .position ≡ 0
+  pub text : answerOf format table room .text ≡ givenText (runOf format table)
+
+-- "to fill a size is to do so with exactly that many bytes written"
+pub record Fills (format table : List ℕ) (size : ℕ) : Type 0 where
+  pub formats : Formats format table size
+  pub written : length (answerOf format table size .text) ≡ size
+
+-- Accepted: a byte count that is always enough, and that some table fills to the last byte
+pub record Accepted (format kinds : List ℕ) (longest count : ℕ) : Type 0 where
+  -- every such table is formatted in every buffer of that count or larger
+  pub enough : (table : List ℕ) → Suits kinds longest table → (room : ℕ) → count ≤ room → Formats format table room
+  -- this one fills it, and "want of room is code 10": no smaller buffer will do for it
+  pub table : List ℕ
+  pub suits : Suits kinds longest table
+  pub fills : Fills format table count
+  pub least : (room : ℕ) → room < count → answerOf format table room .code ≡ 10
+
+-- "There is room enough for a table when the pieces that the rules give it before the position of vet's refusal are
+-- together no longer than the buffer."
+abbrev pub roomNeeded : List ℕ → List ℕ → ℕ → ℕ
+roomNeeded format table position = bytesBefore position (runOf format table)
+
+-- Refused for its arguments: every such table is refused in every buffer; where there is room enough "for that same
+-- reason", which "is with the same code and position", and else for want of room
+pub record Refused (format kinds : List ℕ) (longest code position : ℕ) : Type 0 where
+  pub same : (table : List ℕ) → Suits kinds longest table → (room : ℕ) → roomNeeded format table position ≤ room
+      → (answerOf format table room .code ≡ code) × (answerOf format table room .position ≡ position)
+  pub full : (table : List ℕ) → Suits kinds longest table → (room : ℕ) → room < roomNeeded format table position
+      → answerOf format table room .code ≡ 10
+
+-- What a vet promises of its answer. Codes 2 to 5, 11 and 12 have the causes of the definition; "accepted is vet's code
+-- 0, and the count is the one answered with it. Refused for its arguments is vet's 6 to 8"
+pub record Promised (format kinds : List ℕ) (longest : ℕ) (r : Vetted) : Type 0 where
+  pub is : r ≡ vetOf format kinds longest
+  pub accepted : r .code ≡ 0 → Accepted format kinds longest (r .count)
+  pub refused : 6 ≤ r .code → r .code ≤ 8 → Refused format kinds longest (r .code) (r .position)
