@@ -2,6 +2,8 @@ pub mod Below
 pub mod Bytes
 pub mod Choices
 pub mod Encoded
+pub mod Items
 pub mod Lengths
+pub mod Ordinary
 pub mod Padding
 pub mod Values
