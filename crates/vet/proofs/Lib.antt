@@ -6,4 +6,7 @@ pub mod Items
 pub mod Lengths
 pub mod Ordinary
 pub mod Padding
+pub mod PlainRun
+pub mod Settling
+pub mod Uses
 pub mod Values

@@ -1,0 +1,88 @@
+-- What an ordinary item does with the arguments: a piece reads the next argument, or is a plural of the one before.
+-- Assumes nothing.
+use Prim.Native.Nat.{ℕ, zero, suc, _+_, _-_, _≤_, _<_}
+use mathlib.Core.Path.{_≡_, refl, subst⁻¹}
+use mathlib.Core.Logic.{_⊎_, inl, inr}
+use mathlib.Core.Bool.{Bool, true, false, cond}
+use mathlib.Core.List.{List, [], _∷_}
+use native.Mathlib.Omega.{arith}
+use lib.Dec.{ltb, eqb}
+use borrow.Author.Tests.{ltb-true, eqb-false}
+use Rattle.rules.specs.Directive.{formPlaces, inOrder}
+use Rattle.rules.specs.Working.{Settled, settled, unsettled, settingsOf, Source, own, back, given, glyphSource, sourceOf}
+use Rattle.rules.specs.declared.Code.{Code}
+use Rattle.rules.specs.declared.Directive.{Directive}
+use Rattle.rules.specs.declared.Form.{Form}
+use Rattle.rules.specs.declared.Form.the-variants.{Object, Numeral, Glyph, Plural, Repeat, Fold}
+use Rattle.rules.specs.declared.Item.{Item}
+use Rattle.rules.specs.declared.Item.the-variants.{End, Literal, Written, BadNumber, Unfinished}
+use Rattle.rules.specs.declared.Setting.{Setting}
+use Rattle.rules.specs.declared.Setting.the-variants.{Absent, Is}
+use Rattle.rules.specs.declared.Settings.{Settings}
+use Rattle.vet.specs.Use.{Use, writes, shows, stops, inHand, worked, useFrom, useSettled, useCode, useOf}
+use Rattle.vet.proofs.Lengths.{Proper}
+use Rattle.vet.proofs.Ordinary.{Writing, Ordinary}
+use Rattle.vet.proofs.Settling.{Settles, settle-placed, placed-proper, writing-suits}
+
+-- the text of argument i, where `next` is the next one, and `after` then
+pub record Shown (count next : ℕ) (f : Form) (s : Settings) (i after : ℕ) : Type 0 where
+  pub inside : i < count
+  pub proper : Proper f s
+  pub how : ((i ≡ next) × (after ≡ suc next)) ⊎ ((f ≡ Plural) × (suc i ≡ next) × (after ≡ next))
+
+abbrev pub Within : ℕ → ℕ → Use → Type 0
+Within count next (writes text after) = after ≡ next
+Within count next (shows f d s i after) = Shown count next f s i after
+Within count next (stops code) = code ≡ 0 → ⊥
+
+by-test : (P : Use → Type 0) (b : Bool) (x y : Use) → (b ≡ true → P x) → (b ≡ false → P y) → P (cond b x y)
+by-test P true x y f g = f refl
+by-test P false x y f g = g refl
+
+six : _≡_ {A = ℕ} 6 0 → ⊥
+six e = omega arith
+
+module _ (count : ℕ) (d : Directive) (s : Settings) (next : ℕ) where
+  own-within : (f : Form) → Proper f s → Within count next (useFrom count f d s next own)
+  own-within f p =
+      by-test (Within count next) (ltb next count) _ _ (λ h. record { inside = ltb-true next count h; proper = p; how = inl (refl, omega arith) }) (λ _. six)
+
+  back-within : Within count next (useFrom count Plural d s next back)
+  back-within =
+      by-test (Within count next) (eqb next 0) _ _ (λ _. six)
+      (λ z. by-test (Within count next) (ltb (next - 1) count) _ _
+      (λ h. let n : next ≡ 0 → ⊥ = eqb-false next 0 z in record { inside = ltb-true (next - 1) count h; proper = tt; how = inr (refl, omega arith, refl) })
+      (λ _. six))
+
+  glyph-within : (x : Setting) → Within count next (useFrom count Glyph d s next (glyphSource x))
+  glyph-within Absent = own-within Glyph tt
+  glyph-within (Is n) = refl
+
+  plural-within : (colon : Bool) → Within count next (useFrom count Plural d s next (cond colon back own))
+  plural-within true = back-within
+  plural-within false = own-within Plural tt
+
+  form-within : (f : Form) → Proper f s → Within count next (useFrom count f d s next (sourceOf f (d .colon) s))
+  form-within (Object q) p = own-within (Object q) p
+  form-within (Numeral base) p = own-within (Numeral base) p
+  form-within Glyph p = glyph-within (s .first)
+  form-within Plural p = plural-within (d .colon)
+  form-within (Repeat b) p = refl
+  form-within Fold p = refl
+
+settled-within : (count : ℕ) (d : Directive) (w : Writing d) (next : ℕ) (z : Settled) → Settles (formPlaces (w .form)) next z
+    → Within count next (useSettled count (w .form) d z)
+settled-within count d w next (settled ss after) h =
+    rw (h .0) (form-within count d (settingsOf ss) next (w .form) (placed-proper (w .form) ss (w .based) (h .1)))
+settled-within count d w next (unsettled code) h = h
+
+pub use-within : (count : ℕ) (x : Item) (next : ℕ) → Ordinary x → Within count next (useOf count x next)
+unfolding useOf
+use-within count End next o = absurd o
+use-within count (Literal b) next o = refl
+use-within count (Written d) next w =
+    subst⁻¹ (λ (k : Code). Within count next (useCode count d k next)) (w .code)
+    (settled-within count d w next (worked count (w .form) d next)
+    (settle-placed (inHand count next) (formPlaces (w .form)) (inOrder (d .parameters)) next (w .fixed) (writing-suits d w)))
+use-within count BadNumber next o = absurd o
+use-within count Unfinished next o = absurd o
