@@ -2,6 +2,7 @@ pub mod AnswerLaws
 pub mod Digits
 pub mod Groups
 pub mod Reading
+pub mod RunLaws
 pub mod Signs
 pub mod TableExamples
 pub mod TableLaws

@@ -7,7 +7,7 @@ use lib.Dec.{ltb, leb, eqb}
 use lib.IntN.{ℤ, pos, negsuc}
 use lib.ListN.{length}
 use Rattle.rules.specs.Table.{Value, boolean, integer, character, string, list, View}
-use Rattle.rules.specs.Directive.{placesOf, inOrder, either}
+use Rattle.rules.specs.Directive.{placesOf, inOrder, either, wellWritten}
 use Rattle.rules.specs.Text.{Sequence, end, acts, escapes, iterates, chooses, Clauses, none, clause, deepest}
 use Rattle.rules.specs.Piece.{orElse, textOf, kindOf, accepts}
 use Rattle.rules.specs.Working.{Context, goTo, noneRemain, argumentIn, Settled, settled, unsettled, settle, settingsOf, Source, own, back, given, sourceOf}
@@ -91,9 +91,13 @@ onSettled p m (settled ss next) on = on (settingsOf ss) next
 onSettled p m (unsettled code) on = refused code p m
 
 module _ (v : View) where
+  -- the worked-out parameters of a directive; one that is not well written has none, and an accepted text has no such
+  -- directive
   abbrev pub withSettings : ℕ → ℕ → Directive → Context → (Settings → ℕ → Flow) → Flow
   withSettings p m d c on =
-      onSettled p m (settle v c (placesOf (d .code) (either (d .colon) (d .at))) (inOrder (d .parameters)) (c .next)) on
+      choose (wellWritten d)
+      (λ _. onSettled p m (settle v c (placesOf (d .code) (either (d .colon) (d .at))) (inOrder (d .parameters)) (c .next)) on)
+      (λ _. refused 5 p m)
 
   -- argument i of those in hand, or code 6
   abbrev pub withArgument : ℕ → ℕ → Context → ℕ → (Value → Flow) → Flow
