@@ -109,6 +109,7 @@ module _ (v : View) (count : ℕ) where
       let xs = inOrder (d .parameters) in
       let on-one : Settings → ℕ → Flow = λ s after. writeFrom v p m f d c s after on (sourceOf f (d .colon) s) in
       ap (λ (k : Code). directiveActs v p m d k c on) (w .code)
+      ∙ ap (λ (b : Bool). choose b (λ _. onSettled p m (settle v c (placesOf (d .code) (either (d .colon) (d .at))) xs next) on-one) (λ _. refused 5 p m)) (w .written)
       ∙ ap (λ (k : Code). onSettled p m (settle v c (placesOf k (either (d .colon) (d .at))) xs next) on-one) (w .code)
       ∙ ap (λ (z : Settled). onSettled p m z on-one) (settle-plain v c (formPlaces f) xs next (w .fixed))
       ∙ settled-same p m d f next on (worked count f d next)
