@@ -49,7 +49,7 @@ module _ (kinds : List ℕ) (longest : ℕ) (v : View)
       → ((i n : ℕ) → Bounded (on i) (rest i n) n) → Bounded (flowBy v count p m u on) (onTurn kinds longest p (turnBy kinds longest u) sum rest) sum
   use-bounded p m (writes text after) next sum on rest w h =
       piece-more p m text (on after) (rest after (sum + length text)) sum (length text) (omega arith) (h after (sum + length text))
-  use-bounded p m (stops code) next sum on rest w h = record { code = refl; position = refl; origin = λ e. absurd (w e); bound = λ e. absurd (w e) }
+  use-bounded p m (stops code) next sum on rest w h = record { code = refl; position = refl; origin = λ e. absurd (omega arith); bound = λ e. absurd (omega arith) }
   use-bounded p m (shows f d s i after) next sum on rest w h =
       rw (sym (agree i (w .inside)))
       (pick (accepts f (kindOf x)) (λ t. piece-bound longest f (d .colon) (d .at) s x (w .proper) t (allowed i (w .inside))))

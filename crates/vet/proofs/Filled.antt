@@ -140,7 +140,7 @@ module _ (kinds : List ℕ) (longest : ℕ) (hc : length kinds ≤ 1024) (hl : l
             full-piece p (n - 1) w (on v (n - 1) next) (rest next (sum + length w)) sum (length w) refl (more next .full v m (n - 1) (sum + length w));
       })
   filling-use p (stops code) next on rest e more =
-      filling-none next (λ v n. refused code p (n - 1)) (λ sum. record { code = code; position = p; count = 0 }) (λ v n sum z. absurd (e z))
+      filling-none next (λ v n. refused code p (n - 1)) (λ sum. record { code = code; position = p; count = 0 }) (λ v n sum z. absurd (omega arith))
   filling-use p (shows f d s i after) next on rest e more = filling-shown p f d s on rest i next after e more
 
   pub plain-filling : (xs : List Token) → AllOrdinary xs → (next : ℕ) → Filling next (λ v n. flowFrom v count xs n next) (λ sum. vetFrom kinds longest xs next sum)

@@ -2,6 +2,7 @@ pub mod Before
 pub mod Below
 pub mod Bound
 pub mod Bytes
+pub mod Causes
 pub mod Choices
 pub mod Codes
 pub mod Encoded
@@ -16,3 +17,4 @@ pub mod Promise
 pub mod Settling
 pub mod Uses
 pub mod Values
+pub mod Witness

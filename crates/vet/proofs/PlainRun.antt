@@ -23,7 +23,7 @@ use Rattle.rules.specs.declared.Item.the-variants.{End, Literal, Written, BadNu
 use Rattle.rules.specs.declared.Setting.{Setting}
 use Rattle.rules.specs.declared.Setting.the-variants.{Absent, Is}
 use Rattle.rules.specs.declared.Settings.{Settings}
-use Rattle.vet.specs.Use.{Use, writes, shows, stops, inHand, noEntries, worked, useFrom, useSettled, useCode, useOf}
+use Rattle.vet.specs.Use.{Use, writes, shows, stops, inHand, noEntries, workedOut, useFrom, useSettled, useCode, useOf}
 use Rattle.vet.proofs.Ordinary.{Writing, Ordinary, AllOrdinary}
 use Rattle.vet.proofs.Settling.{settle-plain}
 
@@ -112,7 +112,7 @@ module _ (v : View) (count : ℕ) where
       ∙ ap (λ (b : Bool). choose b (λ _. onSettled p m (settle v c (placesOf (d .code) (either (d .colon) (d .at))) xs next) on-one) (λ _. refused 5 p m)) (w .written)
       ∙ ap (λ (k : Code). onSettled p m (settle v c (placesOf k (either (d .colon) (d .at))) xs next) on-one) (w .code)
       ∙ ap (λ (z : Settled). onSettled p m z on-one) (settle-plain v c (formPlaces f) xs next (w .fixed))
-      ∙ settled-same p m d f next on (worked count f d next)
+      ∙ settled-same p m d f next on (workedOut count f d next)
       ∙ sym (ap (λ (k : Code). flowBy p m (useCode count d k next) on) (w .code))
   item-same p m BadNumber next on o = absurd o
   item-same p m Unfinished next on o = absurd o

@@ -15,22 +15,20 @@ use Rattle.rules.specs.declared.Verdict.{Verdict}
 use Rattle.rules.specs.declared.Verdict.the-variants.{Accepted as yes-verdict, Refused as no-verdict}
 use Rattle.rules.proofs.ViewLaws.{view-arguments}
 use Rattle.vet.specs.declared.Vetted.{Vetted}
-use Rattle.vet.specs.Encode.{tableOf}
 use Rattle.vet.specs.Plain.{plainVerdict}
 use Rattle.vet.specs.Use.{inHand}
 use Rattle.vet.specs.Vet.{kindIn, askedVerdict, declined, unlessDeclined, vetFrom, vetOf}
 use Rattle.vet.specs.Demand.{Suits, givenText, bytesBefore, runOf, Formats, Fills, Accepted, roomNeeded, Refused, Promised}
 use Rattle.vet.proofs.Before.{plain-before}
 use Rattle.vet.proofs.Bound.{Bounded, plain-bounded}
-use Rattle.vet.proofs.Bytes.{Bytes}
-use Rattle.vet.proofs.Choices.{marks, Chosen}
+use Rattle.vet.proofs.Causes.{exact-causes}
 use Rattle.vet.proofs.Codes.{Between, text-codes, plain-codes, asked-codes, Asked, asked-of}
-use Rattle.vet.proofs.Encoded.{Holdable, made-entry, made-value, made-arguments, made-accepted, made-bytes}
 use Rattle.vet.proofs.Filled.{Meets, Filling, plain-filling}
 use Rattle.vet.proofs.Fits.{endCode, endPosition, Ends, fit-all, fit-not}
 use Rattle.vet.proofs.Items.{tokens-read}
 use Rattle.vet.proofs.Ordinary.{AllOrdinary, items-few, items-ordinary}
 use Rattle.vet.proofs.PlainRun.{valueIn, flowFrom, plain-run}
+use Rattle.vet.proofs.Witness.{witness, worth, suited}
 use Rattle.vet.proofs.Values.{Allowed, argument-allowed, argument-kind, argument-read}
 
 -- a plain text that is accepted
@@ -108,60 +106,32 @@ module _ (format kinds : List ℕ) (longest : ℕ) (tv : textVerdict format ≡ 
     filling : Filling kinds longest (a .many) (a .long) (a .tags) 0 (λ v n. flowFrom v count items n 0) (λ sum. vetFrom kinds longest items 0 sum)
     filling = plain-filling kinds longest (a .many) (a .long) (a .tags) items ordinary 0
 
-    pool-length : length (marks longest) ≡ suc longest
-    pool-length = ap suc (length-replicate longest 34)
+    abbrev filler : List ℕ
+    filler = witness kinds longest a (filling .entry) (filling .chosen)
 
-    pool-fits : length (marks longest) ≤ 65536
-    pool-fits = omega (arith, pool-length, a .long)
+    suits-filler : Suits kinds longest filler
+    suits-filler = suited kinds longest a (filling .entry) (filling .chosen)
 
-    quotes-bytes : (n : ℕ) → Bytes (replicate n 34)
-    quotes-bytes zero = tt
-    quotes-bytes (suc n) = (omega arith, quotes-bytes n)
-
-    pool-bytes : Bytes (marks longest)
-    pool-bytes = (omega arith, quotes-bytes longest)
-
-    held : (i : ℕ) → i < count → Holdable (filling .entry i)
-    held i h = filling .chosen i h .held
-
-    abbrev witness : List ℕ
-    witness = tableOf count (filling .entry) (marks longest)
-
-    worth : (i : ℕ) → i < count → valueAt witness i ≡ valueOf (marks longest) (filling .entry i)
-    worth = made-value count (filling .entry) (marks longest) (a .many) pool-fits pool-bytes held
-
-    suited : Suits kinds longest witness
-    suited = record {
-      bytes = made-bytes count (filling .entry) (marks longest) (a .many) pool-fits pool-bytes held;
-      valid = made-accepted count (filling .entry) (marks longest) (a .many) pool-fits pool-bytes held
-          (λ i h. rw pool-length (filling .chosen i h .right i h));
-      count = made-arguments count (filling .entry) (marks longest) (a .many) pool-fits pool-bytes held;
-      tags = λ i h.
-          ap (λ (e : Entry). e .tag) (made-entry count (filling .entry) (marks longest) (a .many) pool-fits pool-bytes held i h)
-          ∙ filling .chosen i h .tag;
-      short = λ i h. rw (worth i h) (filling .chosen i h .short);
-    }
-
-    met : Meets kinds longest (a .many) (a .long) (a .tags) 0 (filling .entry) (viewOf witness)
+    met : Meets kinds longest (a .many) (a .long) (a .tags) 0 (filling .entry) (viewOf filler)
     met = record {
-      from = λ i _ h. argument-read suited i h ∙ worth i h;
+      from = λ i _ h. argument-read suits-filler i h ∙ worth kinds longest a (filling .entry) (filling .chosen) i h;
       last = λ i e. absurd (omega arith);
-      kind-of = λ i h. ap kindOf (argument-read suited i h) ∙ argument-kind suited i h;
+      kind-of = λ i h. ap kindOf (argument-read suits-filler i h) ∙ argument-kind suits-filler i h;
     }
 
-    filled : answer .code ≡ 0 → length (givenText (flow witness suited)) ≡ answer .count
-    filled z = omega (arith, filling .full (viewOf witness) met limit 0 z)
+    filled : answer .code ≡ 0 → length (givenText (flow filler suits-filler)) ≡ answer .count
+    filled z = omega (arith, filling .full (viewOf filler) met limit 0 z)
 
     pub accepted-promise : answer .code ≡ 0 → Accepted format kinds longest (answer .count)
     accepted-promise z = record {
       enough = λ table s room h. formats table s z room (omega (arith, ending table s .bound z));
-      table = witness;
-      suits = suited;
+      table = filler;
+      suits = suits-filler;
       fills = record {
-        formats = formats witness suited z (answer .count) (omega (arith, filled z));
-        written = ap length (roomy witness suited (answer .count) (omega (arith, filled z)) .text) ∙ filled z;
+        formats = formats filler suits-filler z (answer .count) (omega (arith, filled z));
+        written = ap length (roomy filler suits-filler (answer .count) (omega (arith, filled z)) .text) ∙ filled z;
       };
-      least = λ room h. cramped witness suited room (omega (arith, filled z));
+      least = λ room h. cramped filler suits-filler room (omega (arith, filled z));
     }
 
 -- what is promised of an answer r
@@ -202,4 +172,4 @@ module _ (format kinds : List ℕ) (longest : ℕ) where
   unfolding vetOf
   promised =
       let k = keep-asked (askedVerdict kinds longest) refl (asked-codes kinds longest) in
-      record { is = refl; accepted = k .0; refused = k .1 }
+      record { is = refl; causes = exact-causes format kinds longest; accepted = k .0; refused = k .1 }

@@ -59,7 +59,7 @@ Placed (y ∷ ys) (s ∷ ss) = InPlace y s × Placed ys ss
 -- parameters that are worked out: all in their places, with the same argument next; or a refusal
 abbrev pub Settles : List Place → ℕ → Settled → Type 0
 Settles ys next (settled ss after) = (after ≡ next) × Placed ys ss
-Settles ys next (unsettled code) = code ≡ 0 → ⊥
+Settles ys next (unsettled code) = (6 ≤ code) × (code ≤ 8)
 
 with-one : (y : Place) (ys : List Place) (next : ℕ) (s : Setting) (z : Settled) → InPlace y s → Settles ys next z → Settles (y ∷ ys) next (together s z)
 with-one y ys next s (settled ss after) i h = (h .0, (i, h .1))
@@ -77,9 +77,6 @@ character-placed : (y : Place) (b : ℕ) → suits y (Character b) ≡ true → 
 character-placed (number least most) b e = absurd (not-both-ways e refl)
 character-placed characterPlace b e = tt
 
-eight : _≡_ {A = ℕ} 8 0 → ⊥
-eight e = omega arith
-
 -- `#`
 count-placed : (y : Place) (ys : List Place) (next n : ℕ) (on : ℕ → Settled) → Settles ys next (on next)
     → Settles (y ∷ ys) next (afterOne (fromCount y n next) (λ s after. together s (on after)))
@@ -88,8 +85,8 @@ count-placed (number least most) ys next n on h = pick (both (leb least n) (leb 
     pick : (t : Bool) → (t ≡ true → least ≤ n)
         → Settles (number least most ∷ ys) next (afterOne (cond t (worked (Is n) next) (wrong 8)) (λ s after. together s (on after)))
     pick true i = with-one (number least most) ys next (Is n) (on next) (i refl) h
-    pick false i = eight
-count-placed characterPlace ys next n on h = eight
+    pick false i = (omega arith, omega arith)
+count-placed characterPlace ys next n on h = (omega arith, omega arith)
 
 pub settle-placed : (c : Context) (ys : List Place) (xs : List Parameter) (next : ℕ) → noneNext xs ≡ true → eachSuits ys xs ≡ true
     → Settles ys next (settle noEntries c ys xs next)

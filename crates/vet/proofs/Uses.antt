@@ -19,7 +19,7 @@ use Rattle.rules.specs.declared.Item.the-variants.{End, Literal, Written, BadNu
 use Rattle.rules.specs.declared.Setting.{Setting}
 use Rattle.rules.specs.declared.Setting.the-variants.{Absent, Is}
 use Rattle.rules.specs.declared.Settings.{Settings}
-use Rattle.vet.specs.Use.{Use, writes, shows, stops, inHand, worked, useFrom, useSettled, useCode, useOf}
+use Rattle.vet.specs.Use.{Use, writes, shows, stops, inHand, workedOut, useFrom, useSettled, useCode, useOf}
 use Rattle.vet.proofs.Lengths.{Proper}
 use Rattle.vet.proofs.Ordinary.{Writing, Ordinary}
 use Rattle.vet.proofs.Settling.{Settles, settle-placed, placed-proper, writing-suits}
@@ -33,26 +33,23 @@ pub record Shown (count next : ℕ) (f : Form) (s : Settings) (i after : ℕ) : 
 abbrev pub Within : ℕ → ℕ → Use → Type 0
 Within count next (writes text after) = after ≡ next
 Within count next (shows f d s i after) = Shown count next f s i after
-Within count next (stops code) = code ≡ 0 → ⊥
+Within count next (stops code) = (6 ≤ code) × (code ≤ 8)
 
 by-test : (P : Use → Type 0) (b : Bool) (x y : Use) → (b ≡ true → P x) → (b ≡ false → P y) → P (cond b x y)
 by-test P true x y f g = f refl
 by-test P false x y f g = g refl
 
-six : _≡_ {A = ℕ} 6 0 → ⊥
-six e = omega arith
-
 module _ (count : ℕ) (d : Directive) (s : Settings) (next : ℕ) where
   own-within : (f : Form) → Proper f s → Within count next (useFrom count f d s next own)
   own-within f p =
-      by-test (Within count next) (ltb next count) _ _ (λ h. record { inside = ltb-true next count h; proper = p; how = inl (refl, omega arith) }) (λ _. six)
+      by-test (Within count next) (ltb next count) _ _ (λ h. record { inside = ltb-true next count h; proper = p; how = inl (refl, omega arith) }) (λ _. (omega arith, omega arith))
 
   back-within : Within count next (useFrom count Plural d s next back)
   back-within =
-      by-test (Within count next) (eqb next 0) _ _ (λ _. six)
+      by-test (Within count next) (eqb next 0) _ _ (λ _. (omega arith, omega arith))
       (λ z. by-test (Within count next) (ltb (next - 1) count) _ _
       (λ h. let n : next ≡ 0 → ⊥ = eqb-false next 0 z in record { inside = ltb-true (next - 1) count h; proper = tt; how = inr (refl, omega arith, refl) })
-      (λ _. six))
+      (λ _. (omega arith, omega arith)))
 
   glyph-within : (x : Setting) → Within count next (useFrom count Glyph d s next (glyphSource x))
   glyph-within Absent = own-within Glyph tt
@@ -82,7 +79,7 @@ use-within count End next o = absurd o
 use-within count (Literal b) next o = refl
 use-within count (Written d) next w =
     subst⁻¹ (λ (k : Code). Within count next (useCode count d k next)) (w .code)
-    (settled-within count d w next (worked count (w .form) d next)
+    (settled-within count d w next (workedOut count (w .form) d next)
     (settle-placed (inHand count next) (formPlaces (w .form)) (inOrder (d .parameters)) next (w .fixed) (writing-suits d w)))
 use-within count BadNumber next o = absurd o
 use-within count Unfinished next o = absurd o

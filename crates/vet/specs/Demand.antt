@@ -1,15 +1,18 @@
 -- Demand 3: what a vet's answer promises over all tables and buffers. Assumes nothing: these are definitions.
 use Prim.Native.Nat.{ℕ, _+_, _≤_, _<_}
 use mathlib.Core.Path.{_≡_}
-use mathlib.Core.Bool.{cond}
+use mathlib.Core.Logic.{_↔_, _⊎_}
+use mathlib.Core.Bool.{true, false, cond}
 use mathlib.Core.List.{List, [], _∷_, _++_}
 use lib.Dec.{ltb}
 use lib.ListN.{length, getD}
 use Rattle.rules.specs.Table.{argumentCount, entryAt, valueAt, stringIn, tableVerdict, viewOf}
+use Rattle.rules.specs.Text.{tokensAt, textVerdict}
 use Rattle.rules.specs.Run.{Flow, done, refused, put}
 use Rattle.rules.specs.Answer.{Answer, flowOf, answerOf}
-use Rattle.rules.specs.declared.Verdict.the-variants.{Accepted as accepted}
-use Rattle.vet.specs.Vet.{vetOf, kindIn}
+use Rattle.rules.specs.declared.Verdict.the-variants.{Accepted as accepted, Refused as refusal}
+use Rattle.vet.specs.Plain.{plainVerdict}
+use Rattle.vet.specs.Vet.{mayAsk, declined, counted, kindIn, vetOf}
 use Rattle.vet.specs.declared.Vetted.{Vetted}
 
 -- "A valid table with exactly those kinds and no longer strings passes the table check, has as many arguments as there
@@ -71,9 +74,24 @@ pub record Refused (format kinds : List ℕ) (longest code position : ℕ) : Typ
   pub full : (table : List ℕ) → Suits kinds longest table → (room : ℕ) → room < roomNeeded format table position
       → answerOf format table room .code ≡ 10
 
--- What a vet promises of its answer. Codes 2 to 5, 11 and 12 have the causes of the definition; "accepted is vet's code
--- 0, and the count is the one answered with it. Refused for its arguments is vet's 6 to 8"
+-- "its codes 2 to 5, 11 and 12 have exact causes", in the order of the rules
+pub record Causes (format kinds : List ℕ) (longest : ℕ) (r : Vetted) : Type 0 where
+  -- 12, at 0: "more than 1,024 kinds, unknown tag, L above 4,096"
+  pub asked : (r ≡ declined 12 0) ↔ (mayAsk kinds longest ≡ false)
+  -- 2 to 5: what the text is refused for, wherever it is formatted
+  pub text : (code position : ℕ) → 2 ≤ code → code ≤ 5
+      → (r ≡ declined code position) ↔ ((mayAsk kinds longest ≡ true) × (textVerdict format ≡ refusal code position))
+  -- 11: the first tilde that is not plain
+  pub plain : (position : ℕ) → (r ≡ declined 11 position)
+      ↔ ((mayAsk kinds longest ≡ true) × (textVerdict format ≡ accepted) × (plainVerdict (tokensAt format 0) ≡ refusal 11 position))
+  -- there are no other codes but 0 and 6 to 8, and "a refusal's count is 0"
+  pub others : (r ≡ counted (r .count)) ⊎ (((2 ≤ r .code) × (r .code ≤ 8)) ⊎ ((11 ≤ r .code) × (r .code ≤ 12)))
+  pub none : (r .code ≡ 0 → ⊥) → r .count ≡ 0
+
+-- What a vet promises of its answer: it is the definition's, with exact causes; "accepted is vet's code 0, and the count
+-- is the one answered with it. Refused for its arguments is vet's 6 to 8"
 pub record Promised (format kinds : List ℕ) (longest : ℕ) (r : Vetted) : Type 0 where
   pub is : r ≡ vetOf format kinds longest
+  pub causes : Causes format kinds longest r
   pub accepted : r .code ≡ 0 → Accepted format kinds longest (r .count)
   pub refused : 6 ≤ r .code → r .code ≤ 8 → Refused format kinds longest (r .code) (r .position)

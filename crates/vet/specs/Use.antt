@@ -31,8 +31,8 @@ inHand count next = record { first = 0; count = count; next = next }
 abbrev pub noEntries : View
 noEntries = record { entries = []; arguments = 0 }
 
-abbrev pub worked : ℕ → Form → Directive → ℕ → Settled
-worked count f d next = settle noEntries (inHand count next) (formPlaces f) (inOrder (d .parameters)) next
+abbrev pub workedOut : ℕ → Form → Directive → ℕ → Settled
+workedOut count f d next = settle noEntries (inHand count next) (formPlaces f) (inOrder (d .parameters)) next
 
 -- "own argument 6"
 abbrev pub useFrom : ℕ → Form → Directive → Settings → ℕ → Source → Use
@@ -47,7 +47,7 @@ useSettled count f d (unsettled code) = stops code
 
 -- a directive that writes; a plain format has no other
 abbrev pub useCode : ℕ → Directive → Code → ℕ → Use
-useCode count d (Writes f) next = useSettled count f d (worked count f d next)
+useCode count d (Writes f) next = useSettled count f d (workedOut count f d next)
 useCode count d Jump next = writes [] next
 useCode count d Escape next = writes [] next
 useCode count d Conditional next = writes [] next
