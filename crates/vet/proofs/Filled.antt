@@ -132,7 +132,7 @@ module _ (kinds : List ℕ) (longest : ℕ) (hc : length kinds ≤ 1024) (hl : l
       → ((j : ℕ) → Filling j (λ v n. on v n j) (rest j))
       → Filling next (λ v n. flowBy v count p (n - 1) u (on v (n - 1))) (λ sum. onTurn kinds longest p (turnBy kinds longest u) sum rest)
   filling-use p (writes w after) next on rest e more =
-      subst⁻¹ (λ (x : ℕ). Filling next (λ v n. put p (n - 1) w (on v (n - 1) x)) (λ sum. rest x (sum + length w))) e
+      subst⁻¹ (λ (x : ℕ). Filling next (λ v n. put p (n - 1) w (on v (n - 1) x)) (λ sum. rest x (sum + length w))) (e .0)
       (record {
         entry = more next .entry;
         chosen = more next .chosen;

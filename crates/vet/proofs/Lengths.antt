@@ -159,7 +159,7 @@ numeral-bound longest base colon at s (string x) hb hw k a = absurd (omega arith
 numeral-bound longest base colon at s (list first count) hb hw k a = absurd (omega arith)
 
 -- characters and plurals
-glyph-length : (colon at : Bool) (c : ℕ) → c < 128 → length (glyphOf colon at c) ≤ cond at 11 (cond colon 2 1)
+pub glyph-length : (colon at : Bool) (c : ℕ) → c < 128 → length (glyphOf colon at c) ≤ cond at 11 (cond colon 2 1)
 glyph-length colon true c h = written-most (length (writtenOf c)) (named (length (nameOf c)) (name-length c h))
 glyph-length true false c h = pick (ltb c 32)
   where

@@ -20,6 +20,7 @@ use Rattle.rules.specs.declared.Parameter.{Parameter}
 use Rattle.rules.specs.declared.Parameter.the-variants.{Default, Number, Character, Next, Remaining}
 use Rattle.rules.specs.declared.Setting.{Setting}
 use Rattle.rules.specs.declared.Setting.the-variants.{Absent, Is}
+use Rattle.rules.specs.declared.Settings.{Settings}
 use Rattle.rules.proofs.Tests.{both-true, not-both-ways}
 use Rattle.vet.specs.Plain.{isNext, noneNext}
 use Rattle.vet.specs.Use.{noEntries}
@@ -48,7 +49,7 @@ settle-plain v c (y ∷ ys) (Remaining ∷ xs) next h =
 -- a setting in the range of its place
 abbrev InPlace : Place → Setting → Type 0
 InPlace (number least most) Absent = Unit {0}
-InPlace (number least most) (Is n) = least ≤ n
+InPlace (number least most) (Is n) = (least ≤ n) × (n ≤ most)
 InPlace characterPlace s = Unit {0}
 
 abbrev Placed : List Place → List Setting → Type 0
@@ -69,8 +70,13 @@ default-placed : (y : Place) → InPlace y Absent
 default-placed (number least most) = tt
 default-placed characterPlace = tt
 
+range : (least most n : ℕ) → both (leb least n) (leb n most) ≡ true → (least ≤ n) × (n ≤ most)
+range least most n e =
+    let h = both-true (leb least n) (leb n most) e in
+    (leb-true least n (h .0), leb-true n most (h .1))
+
 number-placed : (y : Place) (n : ℕ) → suits y (Number n) ≡ true → InPlace y (Is n)
-number-placed (number least most) n e = leb-true least n (both-true (leb least n) (leb n most) e .0)
+number-placed (number least most) n e = range least most n e
 number-placed characterPlace n e = tt
 
 character-placed : (y : Place) (b : ℕ) → suits y (Character b) ≡ true → InPlace y (Is b)
@@ -80,9 +86,9 @@ character-placed characterPlace b e = tt
 -- `#`
 count-placed : (y : Place) (ys : List Place) (next n : ℕ) (on : ℕ → Settled) → Settles ys next (on next)
     → Settles (y ∷ ys) next (afterOne (fromCount y n next) (λ s after. together s (on after)))
-count-placed (number least most) ys next n on h = pick (both (leb least n) (leb n most)) (λ e. leb-true least n (both-true (leb least n) (leb n most) e .0))
+count-placed (number least most) ys next n on h = pick (both (leb least n) (leb n most)) (range least most n)
   where
-    pick : (t : Bool) → (t ≡ true → least ≤ n)
+    pick : (t : Bool) → (t ≡ true → (least ≤ n) × (n ≤ most))
         → Settles (number least most ∷ ys) next (afterOne (cond t (worked (Is n) next) (wrong 8)) (λ s after. together s (on after)))
     pick true i = with-one (number least most) ys next (Is n) (on next) (i refl) h
     pick false i = (omega arith, omega arith)
@@ -108,7 +114,11 @@ settle-placed c (y ∷ ys) (Remaining ∷ xs) next h e =
 -- so padinc and commawidth are from 1
 from-one : (least most default : ℕ) (s : Setting) → least ≤ default → InPlace (number least most) s → least ≤ orElse s default
 from-one least most default Absent h i = h
-from-one least most default (Is n) h i = i
+from-one least most default (Is n) h i = i .0
+
+to-most : (least most default : ℕ) (s : Setting) → default ≤ most → InPlace (number least most) s → orElse s default ≤ most
+to-most least most default Absent h i = h
+to-most least most default (Is n) h i = i .1
 
 pub placed-proper : (f : Form) (ss : List Setting) → BasedForm f → Placed (formPlaces f) ss → Proper f (settingsOf ss)
 placed-proper (Object q) [] b p = omega arith
@@ -123,6 +133,31 @@ placed-proper Glyph ss b p = tt
 placed-proper Plural ss b p = tt
 placed-proper (Repeat x) ss b p = tt
 placed-proper Fold ss b p = tt
+
+-- and all numbers are at most 4,096
+abbrev pub Small : Form → Settings → Type 0
+Small (Object q) s = (orElse (s .first) 0 ≤ 4096) × (orElse (s .second) 1 ≤ 4096) × (orElse (s .third) 0 ≤ 4096)
+Small (Numeral base) s = orElse (s .first) 0 ≤ 4096
+Small Glyph s = orElse (s .first) 0 ≤ 127
+Small Plural s = Unit {0}
+Small (Repeat b) s = orElse (s .first) 1 ≤ 4096
+Small Fold s = Unit {0}
+
+pub placed-small : (f : Form) (ss : List Setting) → Placed (formPlaces f) ss → Small f (settingsOf ss)
+placed-small (Object q) [] p = (omega arith, omega arith, omega arith)
+placed-small (Object q) (x ∷ []) p = (to-most 0 4096 0 x (omega arith) (p .0), omega arith, omega arith)
+placed-small (Object q) (x ∷ y ∷ []) p =
+    (to-most 0 4096 0 x (omega arith) (p .0), to-most 1 4096 1 y (omega arith) (p .1 .0), omega arith)
+placed-small (Object q) (x ∷ y ∷ z ∷ ss) p =
+    (to-most 0 4096 0 x (omega arith) (p .0), to-most 1 4096 1 y (omega arith) (p .1 .0), to-most 0 4096 0 z (omega arith) (p .1 .1 .0))
+placed-small (Numeral base) [] p = omega arith
+placed-small (Numeral base) (x ∷ ss) p = to-most 0 4096 0 x (omega arith) (p .0)
+placed-small Glyph [] p = omega arith
+placed-small Glyph (x ∷ ss) p = to-most 0 127 0 x (omega arith) (p .0)
+placed-small Plural ss p = tt
+placed-small (Repeat b) [] p = omega arith
+placed-small (Repeat b) (x ∷ ss) p = to-most 0 4096 1 x (omega arith) (p .0)
+placed-small Fold ss p = tt
 
 -- a well-written directive's parameters suit its places
 pub writing-suits : (d : Directive) (w : Writing d) → eachSuits (formPlaces (w .form)) (inOrder (d .parameters)) ≡ true
