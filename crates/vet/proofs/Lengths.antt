@@ -124,7 +124,7 @@ object-length q at s v =
     pad-length at (paddingOf (orElse (s .first) 0) (orElse (s .second) 1) (orElse (s .third) 0) (length (bareOf q v))) (orElse (s .fourth) 32) (bareOf q v)
 
 -- numerals
-left-length : (width pad : ℕ) (text : List ℕ) → length (padLeft width pad text) ≡ width - length text + length text
+pub left-length : (width pad : ℕ) (text : List ℕ) → length (padLeft width pad text) ≡ width - length text + length text
 unfolding padLeft
 left-length width pad text =
     length-append (replicate (width - length text) pad) text ∙ omega (arith, length-replicate {A = ℕ} (width - length text) pad)

@@ -10,11 +10,13 @@ pub mod Filled
 pub mod Fits
 pub mod Items
 pub mod Lengths
+pub mod Loop
 pub mod Ordinary
 pub mod Padding
 pub mod PlainRun
 pub mod Promise
 pub mod Settling
+pub mod Sizes
 pub mod Uses
 pub mod Values
 pub mod Witness
