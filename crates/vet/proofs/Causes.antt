@@ -6,9 +6,8 @@ use mathlib.Core.Bool.{Bool, true, false, cond}
 use mathlib.Core.List.{List, [], _∷_}
 use native.Mathlib.Omega.{arith}
 use lib.ListN.{length}
-use Rattle.rules.specs.Text.{Token, tokensAt, textVerdict, provided}
+use Rattle.rules.specs.Text.{Token, tokensAt, textVerdict}
 use Rattle.rules.specs.Piece.{accepts}
-use Rattle.rules.specs.declared.Verdict.{Verdict}
 use Rattle.rules.specs.declared.Verdict.the-variants.{Accepted, Refused}
 use Rattle.rules.proofs.Tests.{not-both-ways}
 use Rattle.vet.specs.declared.Turn.the-variants.{Goes, Stops}
@@ -16,29 +15,29 @@ use Rattle.vet.specs.declared.Vetted.{Vetted}
 use Rattle.vet.specs.Plain.{plainVerdict}
 use Rattle.vet.specs.Use.{Use, writes, shows, stops, useOf}
 use Rattle.vet.specs.Worst.{worst}
-use Rattle.vet.specs.Vet.{mayAsk, askedVerdict, declined, counted, unlessDeclined, kindIn, turnBy, turnOf, onTurn, vetFrom, vetOf}
+use Rattle.vet.specs.Vet.{mayAsk, declined, counted, kindIn, turnBy, turnOf, onTurn, vetFrom, vetOf}
 use Rattle.vet.specs.Demand.{Causes}
-use Rattle.vet.proofs.Codes.{Between, text-codes, plain-codes}
 use Rattle.vet.proofs.Ordinary.{AllOrdinary, items-ordinary}
+use Rattle.vet.proofs.Stages.{Running, stages}
 use Rattle.vet.proofs.Uses.{Within, use-within}
 
 -- what a vet's run answers: a count, or a refusal with 6 to 8
-pub data Running : Vetted → Type 0 where
-  counts : (n : ℕ) → Running (counted n)
-  declines : (code p : ℕ) → 6 ≤ code → code ≤ 8 → Running (declined code p)
+pub data Ran : Vetted → Type 0 where
+  counts : (n : ℕ) → Ran (counted n)
+  declines : (code p : ℕ) → 6 ≤ code → code ≤ 8 → Ran (declined code p)
 
 module _ (kinds : List ℕ) (longest : ℕ) where
-  use-running : (p : ℕ) (u : Use) (next sum : ℕ) (rest : ℕ → ℕ → Vetted) → Within (length kinds) next u → ((i n : ℕ) → Running (rest i n))
-      → Running (onTurn kinds longest p (turnBy kinds longest u) sum rest)
+  use-running : (p : ℕ) (u : Use) (next sum : ℕ) (rest : ℕ → ℕ → Vetted) → Within (length kinds) next u → ((i n : ℕ) → Ran (rest i n))
+      → Ran (onTurn kinds longest p (turnBy kinds longest u) sum rest)
   use-running p (writes text after) next sum rest w h = h after (sum + length text)
   use-running p (stops code) next sum rest w h = declines code p (w .0) (w .1)
   use-running p (shows f d s i after) next sum rest w h = pick (accepts f (kindIn kinds i))
     where
-      pick : (b : Bool) → Running (onTurn kinds longest p (cond b (Goes after (worst longest f (d .colon) (d .at) s (kindIn kinds i))) (Stops 7)) sum rest)
+      pick : (b : Bool) → Ran (onTurn kinds longest p (cond b (Goes after (worst longest f (d .colon) (d .at) s (kindIn kinds i))) (Stops 7)) sum rest)
       pick true = h after (sum + worst longest f (d .colon) (d .at) s (kindIn kinds i))
       pick false = declines 7 p (omega arith) (omega arith)
 
-  pub vet-running : (xs : List Token) → AllOrdinary xs → (next sum : ℕ) → Running (vetFrom kinds longest xs next sum)
+  pub vet-running : (xs : List Token) → AllOrdinary xs → (next sum : ℕ) → Ran (vetFrom kinds longest xs next sum)
   unfolding vetFrom turnOf
   vet-running [] o next sum = counts sum
   vet-running (x ∷ xs) o next sum =
@@ -96,56 +95,36 @@ module _ (format kinds : List ℕ) (longest : ℕ) where
     none = λ _. refl;
   }
 
-  by-plain : mayAsk kinds longest ≡ true → textVerdict format ≡ Accepted → (c p : ℕ) → plainVerdict items ≡ Refused c p → c ≡ 11 → Caused (declined c p)
-  by-plain a t c p e k = record {
+  by-plain : mayAsk kinds longest ≡ true → textVerdict format ≡ Accepted → (p : ℕ) → plainVerdict items ≡ Refused 11 p
+      → Caused (declined 11 p)
+  by-plain a t p e = record {
     asked = (λ z. absurd (omega (arith, same-code z)), λ h. absurd (not-both-ways a h));
     text = λ code position l m. (λ z. absurd (omega (arith, same-code z)), λ h. absurd (never-both (sym t ∙ h .1)));
     plain = λ position. (
-      λ z. (a, t, e ∙ as-refused k (same-position z)),
-      λ h. as-declined k (verdict-position (sym e ∙ h .2)),
+      λ z. (a, t, e ∙ as-refused refl (same-position z)),
+      λ h. as-declined refl (verdict-position (sym e ∙ h .2)),
     );
     others = inr (inr (omega arith, omega arith));
     none = λ _. refl;
   }
 
-  by-run : mayAsk kinds longest ≡ true → textVerdict format ≡ Accepted → plainVerdict items ≡ Accepted → (r : Vetted) → Running r → Caused r
-  by-run a t p _ (counts n) = record {
-    asked = (λ z. absurd (let c = ap (λ (r : Vetted). r .code) z in omega arith), λ h. absurd (not-both-ways a h));
-    text = λ code position l m. (λ z. absurd (let c = ap (λ (r : Vetted). r .code) z in omega arith), λ h. absurd (never-both (sym t ∙ h .1)));
-    plain = λ position. (λ z. absurd (let c = ap (λ (r : Vetted). r .code) z in omega arith), λ h. absurd (never-both (sym p ∙ h .2)));
+  by-run : Running format kinds longest → (r : Vetted) → Ran r → Caused r
+  by-run g _ (counts n) = record {
+    asked = (λ z. absurd (let c = ap (λ (r : Vetted). r .code) z in omega arith), λ h. absurd (not-both-ways (g .may) h));
+    text = λ code position l m. (λ z. absurd (let c = ap (λ (r : Vetted). r .code) z in omega arith), λ h. absurd (never-both (sym (g .text) ∙ h .1)));
+    plain = λ position. (λ z. absurd (let c = ap (λ (r : Vetted). r .code) z in omega arith), λ h. absurd (never-both (sym (g .plain) ∙ h .2)));
     others = inl refl;
     none = λ n. absurd (n refl);
   }
-  by-run a t p _ (declines c q lo hi) = record {
-    asked = (λ z. absurd (omega (arith, same-code z)), λ h. absurd (not-both-ways a h));
-    text = λ code position l m. (λ z. absurd (omega (arith, same-code z)), λ h. absurd (never-both (sym t ∙ h .1)));
-    plain = λ position. (λ z. absurd (omega (arith, same-code z)), λ h. absurd (never-both (sym p ∙ h .2)));
+  by-run g _ (declines c q lo hi) = record {
+    asked = (λ z. absurd (omega (arith, same-code z)), λ h. absurd (not-both-ways (g .may) h));
+    text = λ code position l m. (λ z. absurd (omega (arith, same-code z)), λ h. absurd (never-both (sym (g .text) ∙ h .1)));
+    plain = λ position. (λ z. absurd (omega (arith, same-code z)), λ h. absurd (never-both (sym (g .plain) ∙ h .2)));
     others = inr (inl (omega arith, hi));
     none = λ _. refl;
   }
 
-  abbrev counting : Bool → Vetted
-  counting _ = vetFrom kinds longest items 0 0
-
-  abbrev plainness : Bool → Vetted
-  plainness _ = unlessDeclined (plainVerdict items) counting
-
-  abbrev reading : Bool → Vetted
-  reading _ = unlessDeclined (textVerdict format) plainness
-
-  from-plain : mayAsk kinds longest ≡ true → textVerdict format ≡ Accepted → (x : Verdict) → plainVerdict items ≡ x → Between 11 11 x
-      → Caused (unlessDeclined x counting)
-  from-plain a t Accepted e b = by-run a t e (counting true) (vet-running kinds longest items (items-ordinary format t e) 0 0)
-  from-plain a t (Refused c p) e b = by-plain a t c p e (omega arith)
-
-  from-text : mayAsk kinds longest ≡ true → (x : Verdict) → textVerdict format ≡ x → Between 2 5 x → Caused (unlessDeclined x plainness)
-  from-text a Accepted e b = from-plain a e (plainVerdict items) refl (plain-codes items)
-  from-text a (Refused c p) e b = by-text a c p e (b .0) (b .1)
-
-  from-asked : (b : Bool) → mayAsk kinds longest ≡ b → Caused (unlessDeclined (provided b 12 0 (λ _. Accepted)) reading)
-  from-asked true e = from-text e (textVerdict format) refl (text-codes format)
-  from-asked false e = by-asked e
-
   pub exact-causes : Causes format kinds longest (vetOf format kinds longest)
-  unfolding vetOf askedVerdict
-  exact-causes = from-asked (mayAsk kinds longest) refl
+  exact-causes =
+      stages format kinds longest Caused by-asked by-text by-plain
+      (λ r. by-run r (vetFrom kinds longest items 0 0) (vet-running kinds longest items (items-ordinary format (r .text) (r .plain)) 0 0))

@@ -1,4 +1,4 @@
--- The codes of the checks before a vet's run: 2 to 5 of a text, 11 of a text that is not plain, 12 of what is asked.
+-- The codes of the checks before a vet's run, 2 to 5 of a text and 11 of one that is not plain; and what may be asked.
 -- Assumes nothing.
 use Prim.Native.Nat.{ℕ, zero, suc, _≤_, _<_}
 use mathlib.Core.Path.{_≡_, refl}
@@ -8,6 +8,7 @@ use native.Mathlib.Omega.{arith}
 use lib.Dec.{ltb, leb}
 use lib.ListN.{length, getD}
 use borrow.Author.Tests.{leb-true}
+use Rattle.rules.specs.Choice.{both}
 use Rattle.rules.specs.Directive.{wellWritten}
 use Rattle.rules.specs.Text.{Token, Block, opened, separated, isConditional, maySeparate, rightCount, hasBody, deepest, provided, directiveMet, itemMet, atEnd, verdictOf, longest as longestText, tokensAt, textVerdict}
 use Rattle.rules.specs.declared.Code.{Code}
@@ -19,8 +20,7 @@ use Rattle.rules.specs.declared.Verdict.{Verdict}
 use Rattle.rules.specs.declared.Verdict.the-variants.{Accepted, Refused}
 use Rattle.rules.proofs.Tests.{both-true}
 use Rattle.vet.specs.Plain.{plainItem, plainVerdict}
-use Rattle.vet.specs.Vet.{kindIn, knownTags, mayAsk, askedVerdict}
-use Rattle.vet.proofs.Ordinary.{past-test}
+use Rattle.vet.specs.Vet.{kindIn, knownTags, mayAsk}
 
 -- a refusal has a code from least to most
 abbrev pub Between : ℕ → ℕ → Verdict → Type 0
@@ -84,10 +84,6 @@ unfolding plainVerdict
 plain-codes [] = tt
 plain-codes (x ∷ xs) = test-between 11 11 (plainItem (x .item)) 11 (x .at) _ (omega arith) (omega arith) (plain-codes xs)
 
-pub asked-codes : (kinds : List ℕ) (longest : ℕ) → Between 12 12 (askedVerdict kinds longest)
-unfolding askedVerdict
-asked-codes kinds longest = test-between 12 12 (mayAsk kinds longest) 12 0 _ (omega arith) (omega arith) tt
-
 -- what may be asked: at most 1,024 kinds, all known, and a length of at most 4,096
 pub record Asked (kinds : List ℕ) (longest : ℕ) : Type 0 where
   pub many : length kinds ≤ 1024
@@ -99,12 +95,9 @@ known-at [] e i h = omega arith
 known-at (k ∷ ks) e zero h = leb-true k 4 (both-true (leb k 4) (knownTags ks) e .0)
 known-at (k ∷ ks) e (suc i) h = known-at ks (both-true (leb k 4) (knownTags ks) e .1) i (omega arith)
 
-pub asked-of : (kinds : List ℕ) (longest : ℕ) → askedVerdict kinds longest ≡ Accepted → Asked kinds longest
-unfolding askedVerdict
+pub asked-of : (kinds : List ℕ) (longest : ℕ) → mayAsk kinds longest ≡ true → Asked kinds longest
 asked-of kinds longest e =
-    let all = past-test (mayAsk kinds longest) 12 0 (λ _. Accepted) e .0 in
-    let rest = Rattle.rules.specs.Choice.both (knownTags kinds) (leb longest 4096) in
-    let a = both-true (leb (length kinds) 1024) rest all in
+    let a = both-true (leb (length kinds) 1024) (both (knownTags kinds) (leb longest 4096)) e in
     let b = both-true (knownTags kinds) (leb longest 4096) (a .1) in
     record {
       many = leb-true (length kinds) 1024 (a .0);

@@ -17,6 +17,7 @@ pub mod PlainRun
 pub mod Promise
 pub mod Settling
 pub mod Sizes
+pub mod Stages
 pub mod Uses
 pub mod Values
 pub mod Witness

@@ -17,17 +17,18 @@ use Rattle.rules.proofs.ViewLaws.{view-arguments}
 use Rattle.vet.specs.declared.Vetted.{Vetted}
 use Rattle.vet.specs.Plain.{plainVerdict}
 use Rattle.vet.specs.Use.{inHand}
-use Rattle.vet.specs.Vet.{kindIn, askedVerdict, declined, unlessDeclined, vetFrom, vetOf}
+use Rattle.vet.specs.Vet.{declined, vetFrom, vetOf}
 use Rattle.vet.specs.Demand.{Suits, givenText, bytesBefore, runOf, Formats, Fills, Accepted, roomNeeded, Refused, Promised}
 use Rattle.vet.proofs.Before.{plain-before}
 use Rattle.vet.proofs.Bound.{Bounded, plain-bounded}
 use Rattle.vet.proofs.Causes.{exact-causes}
-use Rattle.vet.proofs.Codes.{Between, text-codes, plain-codes, asked-codes, Asked, asked-of}
+use Rattle.vet.proofs.Codes.{Asked}
 use Rattle.vet.proofs.Filled.{Meets, Filling, plain-filling}
 use Rattle.vet.proofs.Fits.{endCode, endPosition, Ends, fit-all, fit-not}
 use Rattle.vet.proofs.Items.{tokens-read}
 use Rattle.vet.proofs.Ordinary.{AllOrdinary, items-few, items-ordinary}
 use Rattle.vet.proofs.PlainRun.{valueIn, flowFrom, plain-run}
+use Rattle.vet.proofs.Stages.{stages}
 use Rattle.vet.proofs.Witness.{witness, worth, suited}
 use Rattle.vet.proofs.Values.{Allowed, argument-allowed, argument-kind, argument-read}
 
@@ -140,36 +141,18 @@ Kept format kinds longest r = (r .code ≡ 0 → Accepted format kinds longest (
     × (6 ≤ r .code → r .code ≤ 8 → Refused format kinds longest (r .code) (r .position))
 
 module _ (format kinds : List ℕ) (longest : ℕ) where
-  -- a check that refuses with another code promises nothing here
-  other-code : (least most code p : ℕ) → 1 ≤ least → least ≤ code → code ≤ most → (most < 6) ⊎ (8 < least) → Kept format kinds longest (declined code p)
-  other-code least most code p o l m (inl h) = (λ z. absurd (omega arith), λ a b. absurd (omega arith))
-  other-code least most code p o l m (inr h) = (λ z. absurd (omega arith), λ a b. absurd (omega arith))
+  -- a refusal with another code promises nothing of tables
+  other-code : (code p : ℕ) → 1 ≤ code → (code < 6) ⊎ (8 < code) → Kept format kinds longest (declined code p)
+  other-code code p o (inl h) = (λ z. absurd (omega arith), λ l m. absurd (omega arith))
+  other-code code p o (inr h) = (λ z. absurd (omega arith), λ l m. absurd (omega arith))
 
-  abbrev counting : Bool → Vetted
-  counting _ = vetFrom kinds longest (tokensAt format 0) 0 0
-
-  abbrev plainness : Bool → Vetted
-  plainness _ = unlessDeclined (plainVerdict (tokensAt format 0)) counting
-
-  abbrev reading : Bool → Vetted
-  reading _ = unlessDeclined (textVerdict format) plainness
-
-  keep-plain : Asked kinds longest → textVerdict format ≡ yes-verdict → (x : Verdict) → plainVerdict (tokensAt format 0) ≡ x → Between 11 11 x
-      → Kept format kinds longest (unlessDeclined x counting)
-  keep-plain a tv yes-verdict e b =
-      (accepted-promise format kinds longest tv e a, λ l m. refused-promise format kinds longest tv e (λ z. omega arith))
-  keep-plain a tv (no-verdict code p) e b = other-code 11 11 code p (omega arith) (b .0) (b .1) (inr (omega arith))
-
-  keep-text : Asked kinds longest → (x : Verdict) → textVerdict format ≡ x → Between 2 5 x → Kept format kinds longest (unlessDeclined x plainness)
-  keep-text a yes-verdict e b = keep-plain a e (plainVerdict (tokensAt format 0)) refl (plain-codes (tokensAt format 0))
-  keep-text a (no-verdict code p) e b = other-code 2 5 code p (omega arith) (b .0) (b .1) (inl (omega arith))
-
-  keep-asked : (x : Verdict) → askedVerdict kinds longest ≡ x → Between 12 12 x → Kept format kinds longest (unlessDeclined x reading)
-  keep-asked yes-verdict e b = keep-text (asked-of kinds longest e) (textVerdict format) refl (text-codes format)
-  keep-asked (no-verdict code p) e b = other-code 12 12 code p (omega arith) (b .0) (b .1) (inr (omega arith))
+  kept : Kept format kinds longest (vetOf format kinds longest)
+  kept =
+      stages format kinds longest (Kept format kinds longest)
+      (λ _. other-code 12 0 (omega arith) (inr (omega arith)))
+      (λ _ code p e l h. other-code code p (omega arith) (inl (omega arith)))
+      (λ _ t p e. other-code 11 p (omega arith) (inr (omega arith)))
+      (λ r. (accepted-promise format kinds longest (r .text) (r .plain) (r .asked), λ l m. refused-promise format kinds longest (r .text) (r .plain) (λ z. omega arith)))
 
   pub promised : Promised format kinds longest (vetOf format kinds longest)
-  unfolding vetOf
-  promised =
-      let k = keep-asked (askedVerdict kinds longest) refl (asked-codes kinds longest) in
-      record { is = refl; causes = exact-causes format kinds longest; accepted = k .0; refused = k .1 }
+  promised = record { is = refl; causes = exact-causes format kinds longest; accepted = kept .0; refused = kept .1 }

@@ -8,28 +8,25 @@ use native.Mathlib.Omega.{arith}
 use lib.Dec.{ltb}
 use lib.ListN.{length, length-append}
 use Rattle.rules.specs.Number.{digitsOf, magnitudeOf, signOf}
-use Rattle.rules.specs.Text.{Token, tokensAt, textVerdict}
+use Rattle.rules.specs.Text.{Token, tokensAt}
 use Rattle.rules.specs.Piece.{orElse, digitsIn, numeralOf, accepts}
 use Rattle.rules.specs.declared.Form.{Form}
 use Rattle.rules.specs.declared.Form.the-variants.{Object, Numeral, Glyph, Plural, Repeat, Fold}
 use Rattle.rules.specs.declared.Item.{Item}
 use Rattle.rules.specs.declared.Settings.{Settings}
-use Rattle.rules.specs.declared.Verdict.{Verdict}
-use Rattle.rules.specs.declared.Verdict.the-variants.{Accepted, Refused}
 use Rattle.rules.proofs.Digits.{count-word}
 use Rattle.rules.proofs.Groups.{grouped-most}
 use Rattle.vet.specs.declared.Turn.{Turn}
 use Rattle.vet.specs.declared.Turn.the-variants.{Goes, Stops}
 use Rattle.vet.specs.declared.Vetted.{Vetted}
-use Rattle.vet.specs.Plain.{plainVerdict}
 use Rattle.vet.specs.Use.{Use, writes, shows, stops, useOf}
 use Rattle.vet.specs.Worst.{larger, paddedSize, topOf, greatest, Span, span, spansOf, greatestOver, leastInteger, worst}
-use Rattle.vet.specs.Vet.{askedVerdict, declined, unlessDeclined, kindIn, turnBy, turnOf, onTurn, vetFrom, vetOf}
-use Rattle.vet.proofs.Codes.{asked-of}
+use Rattle.vet.specs.Vet.{kindIn, turnBy, turnOf, onTurn, vetFrom, vetOf}
 use Rattle.vet.proofs.Lengths.{Proper, left-length}
 use Rattle.vet.proofs.Ordinary.{Ordinary, AllOrdinary, items-few, items-ordinary}
 use Rattle.vet.proofs.Padding.{larger-one, up-near}
 use Rattle.vet.proofs.Settling.{Small}
+use Rattle.vet.proofs.Stages.{stages}
 use Rattle.vet.proofs.Uses.{Shown, Within, use-within}
 
 abbrev pub mostPiece : ℕ
@@ -140,33 +137,15 @@ module _ (kinds : List ℕ) (longest : ℕ) (hl : longest ≤ 4096) where
   items-count [] o next sum h = omega arith
   items-count (x ∷ xs) o next sum h =
       let r = turn-count (x .at) (turnOf kinds longest (x .item) next) sum (mostPiece * length xs) (λ i n. vetFrom kinds longest xs i n)
-        (item-turned (x .item) (o .0) next h) (λ i n g. items-count xs (o .1) i n g) in
+      (item-turned (x .item) (o .0) next h) (λ i n g. items-count xs (o .1) i n g) in
       omega (arith, r)
 
 -- the count of an answer, whatever was asked
-module _ (format kinds : List ℕ) (longest : ℕ) where
-  abbrev counting : Bool → Vetted
-  counting _ = vetFrom kinds longest (tokensAt format 0) 0 0
-
-  abbrev plainness : Bool → Vetted
-  plainness _ = unlessDeclined (plainVerdict (tokensAt format 0)) counting
-
-  abbrev reading : Bool → Vetted
-  reading _ = unlessDeclined (textVerdict format) plainness
-
-  from-plain : longest ≤ 4096 → textVerdict format ≡ Accepted → (x : Verdict) → plainVerdict (tokensAt format 0) ≡ x → unlessDeclined x counting .count ≤ mostCount
-  from-plain h t Accepted e =
-      omega (arith, items-count kinds longest h (tokensAt format 0) (items-ordinary format t e) 0 0 (omega arith), items-few format t)
-  from-plain h t (Refused code p) e = omega arith
-
-  from-text : longest ≤ 4096 → (x : Verdict) → textVerdict format ≡ x → unlessDeclined x plainness .count ≤ mostCount
-  from-text h Accepted e = from-plain h e (plainVerdict (tokensAt format 0)) refl
-  from-text h (Refused code p) e = omega arith
-
-  from-asked : (x : Verdict) → askedVerdict kinds longest ≡ x → unlessDeclined x reading .count ≤ mostCount
-  from-asked Accepted e = from-text (asked-of kinds longest e .long) (textVerdict format) refl
-  from-asked (Refused code p) e = omega arith
-
-  pub vet-count : vetOf format kinds longest .count ≤ mostCount
-  unfolding vetOf
-  vet-count = from-asked (askedVerdict kinds longest) refl
+pub vet-count : (format kinds : List ℕ) (longest : ℕ) → vetOf format kinds longest .count ≤ mostCount
+vet-count format kinds longest =
+    stages format kinds longest (λ r. r .count ≤ mostCount) (λ _. omega arith) (λ _ code p e l h. omega arith) (λ _ t p e. omega arith)
+    (λ r. omega (
+      arith,
+      items-count kinds longest (r .asked .long) (tokensAt format 0) (items-ordinary format (r .text) (r .plain)) 0 0 (omega arith),
+      items-few format (r .text),
+    ))
