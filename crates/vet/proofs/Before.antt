@@ -18,9 +18,11 @@ use Rattle.vet.proofs.PlainRun.{valueIn, flowBy, flowFrom}
 
 -- refused at a position from `least` on, with all its pieces before that
 abbrev pub Before : ℕ → Flow → Type 0
-Before least flow = (endCode flow ≡ 0 → ⊥) → (least ≤ endPosition flow) × (bytesBefore (endPosition flow) flow ≡ length (givenText flow))
+Before least flow =
+    (endCode flow ≡ 0 → ⊥) → (least ≤ endPosition flow) × (bytesBefore (endPosition flow) flow ≡ length (givenText flow))
 
-before-piece : (p m : ℕ) (text : List ℕ) (flow : Flow) (least : ℕ) → least ≤ p → Before (suc p) flow → Before least (put p m text flow)
+before-piece : (p m : ℕ) (text : List ℕ) (flow : Flow) (least : ℕ) → least ≤ p → Before (suc p) flow
+    → Before least (put p m text flow)
 unfolding givenText bytesBefore
 before-piece p m text flow least h b n =
     let r = b n in
@@ -31,7 +33,8 @@ unfolding givenText bytesBefore
 before-refused code p m least h n = (h, refl)
 
 module _ (v : View) (count : ℕ) where
-  before-use : (p m : ℕ) (u : Use) (on : ℕ → Flow) (least : ℕ) → least ≤ p → ((i : ℕ) → Before (suc p) (on i)) → Before least (flowBy v count p m u on)
+  before-use : (p m : ℕ) (u : Use) (on : ℕ → Flow) (least : ℕ) → least ≤ p → ((i : ℕ) → Before (suc p) (on i))
+      → Before least (flowBy v count p m u on)
   before-use p m (writes text after) on least h b = before-piece p m text (on after) least h (b after)
   before-use p m (stops code) on least h b = before-refused code p m least h
   before-use p m (shows f d s i after) on least h b = pick (accepts f (kindOf (valueIn v count i)))

@@ -36,7 +36,8 @@ module _ (kinds : List ℕ) (longest : ℕ) (v : View)
   abbrev count : ℕ
   count = length kinds
 
-  piece-more : (p m : ℕ) (text : List ℕ) (flow : Flow) (r : Vetted) (sum most : ℕ) → length text ≤ most → Bounded flow r (sum + most) → Bounded (put p m text flow) r sum
+  piece-more : (p m : ℕ) (text : List ℕ) (flow : Flow) (r : Vetted) (sum most : ℕ) → length text ≤ most
+      → Bounded flow r (sum + most) → Bounded (put p m text flow) r sum
   unfolding givenText
   piece-more p m text flow r sum most h b = record {
     code = b .code;
@@ -46,10 +47,13 @@ module _ (kinds : List ℕ) (longest : ℕ) (v : View)
   }
 
   use-bounded : (p m : ℕ) (u : Use) (next sum : ℕ) (on : ℕ → Flow) (rest : ℕ → ℕ → Vetted) → Within count next u
-      → ((i n : ℕ) → Bounded (on i) (rest i n) n) → Bounded (flowBy v count p m u on) (onTurn kinds longest p (turnBy kinds longest u) sum rest) sum
+      → ((i n : ℕ) → Bounded (on i) (rest i n) n)
+      → Bounded (flowBy v count p m u on) (onTurn kinds longest p (turnBy kinds longest u) sum rest) sum
   use-bounded p m (writes text after) next sum on rest w h =
-      piece-more p m text (on after) (rest after (sum + length text)) sum (length text) (omega arith) (h after (sum + length text))
-  use-bounded p m (stops code) next sum on rest w h = record { code = refl; position = refl; origin = λ e. absurd (omega arith); bound = λ e. absurd (omega arith) }
+      piece-more p m text (on after) (rest after (sum + length text)) sum (length text) (omega arith)
+      (h after (sum + length text))
+  use-bounded p m (stops code) next sum on rest w h =
+      record { code = refl; position = refl; origin = λ e. absurd (omega arith); bound = λ e. absurd (omega arith) }
   use-bounded p m (shows f d s i after) next sum on rest w h =
       rw (sym (agree i (w .inside)))
       (pick (accepts f (kindOf x)) (λ t. piece-bound longest f (d .colon) (d .at) s x (w .proper) t (allowed i (w .inside))))
@@ -66,12 +70,16 @@ module _ (kinds : List ℕ) (longest : ℕ) (v : View)
       pick : (b : Bool) → (b ≡ true → length (textOf f (d .colon) (d .at) s x) ≤ most)
           → Bounded (choose b (λ _. put p m (textOf f (d .colon) (d .at) s x) (on after)) (λ _. refused 7 p m))
           (onTurn kinds longest p (cond b (Goes after most) (Stops 7)) sum rest) sum
-      pick true l = piece-more p m (textOf f (d .colon) (d .at) s x) (on after) (rest after (sum + most)) sum most (l refl) (h after (sum + most))
+      pick true l =
+          piece-more p m (textOf f (d .colon) (d .at) s x) (on after) (rest after (sum + most)) sum most (l refl)
+          (h after (sum + most))
       pick false l = record { code = refl; position = refl; origin = λ e. absurd (seven e); bound = λ e. absurd (seven e) }
 
-  pub plain-bounded : (xs : List Token) → AllOrdinary xs → (n next sum : ℕ) → Bounded (flowFrom v count xs n next) (vetFrom kinds longest xs next sum) sum
+  pub plain-bounded : (xs : List Token) → AllOrdinary xs → (n next sum : ℕ)
+      → Bounded (flowFrom v count xs n next) (vetFrom kinds longest xs next sum) sum
   unfolding flowFrom vetFrom turnOf givenText
   plain-bounded [] o n next sum = record { code = refl; position = refl; origin = λ e. refl; bound = λ e. omega arith }
   plain-bounded (x ∷ xs) o n next sum =
-      use-bounded (x .at) (n - 1) (useOf count (x .item) next) next sum (λ i. flowFrom v count xs (n - 1) i) (λ i s. vetFrom kinds longest xs i s)
+      use-bounded (x .at) (n - 1) (useOf count (x .item) next) next sum (λ i. flowFrom v count xs (n - 1) i)
+      (λ i s. vetFrom kinds longest xs i s)
       (use-within count (x .item) next (o .0)) (λ i s. plain-bounded xs (o .1) (n - 1) i s)

@@ -27,13 +27,15 @@ pub data Ran : Vetted → Type 0 where
   declines : (code p : ℕ) → 6 ≤ code → code ≤ 8 → Ran (declined code p)
 
 module _ (kinds : List ℕ) (longest : ℕ) where
-  use-running : (p : ℕ) (u : Use) (next sum : ℕ) (rest : ℕ → ℕ → Vetted) → Within (length kinds) next u → ((i n : ℕ) → Ran (rest i n))
+  use-running : (p : ℕ) (u : Use) (next sum : ℕ) (rest : ℕ → ℕ → Vetted) → Within (length kinds) next u
+      → ((i n : ℕ) → Ran (rest i n))
       → Ran (onTurn kinds longest p (turnBy kinds longest u) sum rest)
   use-running p (writes text after) next sum rest w h = h after (sum + length text)
   use-running p (stops code) next sum rest w h = declines code p (w .0) (w .1)
   use-running p (shows f d s i after) next sum rest w h = pick (accepts f (kindIn kinds i))
     where
-      pick : (b : Bool) → Ran (onTurn kinds longest p (cond b (Goes after (worst longest f (d .colon) (d .at) s (kindIn kinds i))) (Stops 7)) sum rest)
+      pick : (b : Bool)
+          → Ran (onTurn kinds longest p (cond b (Goes after (worst longest f (d .colon) (d .at) s (kindIn kinds i))) (Stops 7)) sum rest)
       pick true = h after (sum + worst longest f (d .colon) (d .at) s (kindIn kinds i))
       pick false = declines 7 p (omega arith) (omega arith)
 
@@ -83,7 +85,8 @@ module _ (format kinds : List ℕ) (longest : ℕ) where
     none = λ _. refl;
   }
 
-  by-text : mayAsk kinds longest ≡ true → (c p : ℕ) → textVerdict format ≡ Refused c p → 2 ≤ c → c ≤ 5 → Caused (declined c p)
+  by-text : mayAsk kinds longest ≡ true → (c p : ℕ) → textVerdict format ≡ Refused c p → 2 ≤ c → c ≤ 5
+      → Caused (declined c p)
   by-text a c p e lo hi = record {
     asked = (λ z. absurd (omega (arith, same-code z)), λ h. absurd (not-both-ways a h));
     text = λ code position l m. (
@@ -111,8 +114,12 @@ module _ (format kinds : List ℕ) (longest : ℕ) where
   by-run : Running format kinds longest → (r : Vetted) → Ran r → Caused r
   by-run g _ (counts n) = record {
     asked = (λ z. absurd (let c = ap (λ (r : Vetted). r .code) z in omega arith), λ h. absurd (not-both-ways (g .may) h));
-    text = λ code position l m. (λ z. absurd (let c = ap (λ (r : Vetted). r .code) z in omega arith), λ h. absurd (never-both (sym (g .text) ∙ h .1)));
-    plain = λ position. (λ z. absurd (let c = ap (λ (r : Vetted). r .code) z in omega arith), λ h. absurd (never-both (sym (g .plain) ∙ h .2)));
+    text =
+        λ code position l m.
+        (λ z. absurd (let c = ap (λ (r : Vetted). r .code) z in omega arith), λ h. absurd (never-both (sym (g .text) ∙ h .1)));
+    plain =
+        λ position.
+        (λ z. absurd (let c = ap (λ (r : Vetted). r .code) z in omega arith), λ h. absurd (never-both (sym (g .plain) ∙ h .2)));
     others = inl refl;
     none = λ n. absurd (n refl);
   }

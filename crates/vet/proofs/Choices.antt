@@ -109,9 +109,11 @@ unfolding Spanning spansOf
 spans-reached w p m h longest q zero a = over-reached w p m h (span 2 2) [] (omega arith) tt
 spans-reached w p m h longest q (suc zero) a = over-reached w p m h (span 1 20) [] (omega arith) tt
 spans-reached w p m h longest false (suc (suc zero)) a = over-reached w p m h (span 1 1) [] (omega arith) tt
-spans-reached w p m h longest true (suc (suc zero)) a = over-reached w p m h (span 3 9) (span 11 11 ∷ []) (omega arith) (omega arith, tt)
+spans-reached w p m h longest true (suc (suc zero)) a =
+    over-reached w p m h (span 3 9) (span 11 11 ∷ []) (omega arith) (omega arith, tt)
 spans-reached w p m h longest false (suc (suc (suc zero))) a = over-reached w p m h (span 0 longest) [] (omega arith) tt
-spans-reached w p m h longest true (suc (suc (suc zero))) a = over-reached w p m h (span 2 (2 * longest + 2)) [] (omega arith) tt
+spans-reached w p m h longest true (suc (suc (suc zero))) a =
+    over-reached w p m h (span 2 (2 * longest + 2)) [] (omega arith) tt
 spans-reached w p m h longest q (suc (suc (suc (suc k)))) a = absurd (omega arith)
 
 module _ (n longest : ℕ) (hn : n ≤ 1024) (hl : longest ≤ 4096) where
@@ -249,12 +251,14 @@ module _ (n longest : ℕ) (hn : n ≤ 1024) (hl : longest ≤ 4096) where
   reached false (suc (suc zero)) size (inl i) = sized false 2 1 size (omega arith) the-letter
   reached false (suc (suc zero)) size (inr i) = absurd i
   reached true (suc (suc zero)) size (inl i) =
-      sized true 2 (suc (suc (suc (size - 3)))) size (omega arith) (a-name (suc (size - 3)) (names (size - 3) (omega arith)))
+      sized true 2 (suc (suc (suc (size - 3)))) size (omega arith)
+      (a-name (suc (size - 3)) (names (size - 3) (omega arith)))
   reached true (suc (suc zero)) size (inr (inl i)) = sized true 2 11 size (omega arith) (a-name 9 name-nine)
   reached true (suc (suc zero)) size (inr (inr i)) = absurd i
   reached false (suc (suc (suc zero))) size (inl i) = a-text size (i .1)
   reached false (suc (suc (suc zero))) size (inr i) = absurd i
-  reached true (suc (suc (suc zero))) size (inl i) = sized true 3 (suc (suc (size - 2))) size (omega arith) (a-quoted (size - 2) (omega arith))
+  reached true (suc (suc (suc zero))) size (inl i) =
+      sized true 3 (suc (suc (size - 2))) size (omega arith) (a-quoted (size - 2) (omega arith))
   reached true (suc (suc (suc zero))) size (inr i) = absurd i
   reached q (suc (suc (suc (suc k)))) size i = absurd i
 
@@ -269,9 +273,11 @@ module _ (n longest : ℕ) (hn : n ≤ 1024) (hl : longest ≤ 4096) where
 
   -- an entry whose piece has the greatest length
   abbrev Filling : Form → Bool → Bool → Settings → ℕ → Type 0
-  Filling f colon at s k = (e : Entry) × Chosen n longest k e × (length (textOf f colon at s (valueOf pool e)) ≡ worst longest f colon at s k)
+  Filling f colon at s k =
+      (e : Entry) × Chosen n longest k e × (length (textOf f colon at s (valueOf pool e)) ≡ worst longest f colon at s k)
 
-  object-reached : (q colon at : Bool) (s : Settings) (k : ℕ) → 1 ≤ orElse (s .second) 1 → k < 4 → Filling (Object q) colon at s k
+  object-reached : (q colon at : Bool) (s : Settings) (k : ℕ) → 1 ≤ orElse (s .second) 1 → k < 4
+      → Filling (Object q) colon at s k
   unfolding worst textOf
   object-reached q colon at s k h a =
       let z = spans-reached (orElse (s .first) 0) (orElse (s .second) 1) (orElse (s .third) 0) h longest q k a in
@@ -288,7 +294,8 @@ module _ (n longest : ℕ) (hn : n ≤ 1024) (hl : longest ≤ 4096) where
   glyph-reached true false s = (entry 2 0 0, a-character 0 (omega arith), refl)
   glyph-reached false false s = (entry 2 0 97, a-character 97 (omega arith), refl)
 
-  pub plural-other : (longest : ℕ) (colon at : Bool) (s : Settings) (v : Value) (k : ℕ) → isOne v ≡ false → length (textOf Plural colon at s v) ≡ worst longest Plural colon at s k
+  pub plural-other : (longest : ℕ) (colon at : Bool) (s : Settings) (v : Value) (k : ℕ) → isOne v ≡ false
+      → length (textOf Plural colon at s v) ≡ worst longest Plural colon at s k
   unfolding worst textOf
   plural-other longest colon true s v k e = rw e
   plural-other longest colon false s v k e = rw e
@@ -302,10 +309,12 @@ module _ (n longest : ℕ) (hn : n ≤ 1024) (hl : longest ≤ 4096) where
   fold-reached colon true s k h = (anEntry n k, any k h, refl)
   fold-reached colon false s k h = (anEntry n k, any k h, refl)
 
-  pub piece-reached : (f : Form) (colon at : Bool) (s : Settings) (k : ℕ) → Proper f s → k ≤ 4 → accepts f k ≡ true → Filling f colon at s k
+  pub piece-reached : (f : Form) (colon at : Bool) (s : Settings) (k : ℕ) → Proper f s → k ≤ 4 → accepts f k ≡ true
+      → Filling f colon at s k
   piece-reached (Object q) colon at s k h a b = object-reached q colon at s k h (shown-kind k a b)
   piece-reached (Numeral base) colon at s k h a b = rw (eqb-true k 1 b) (numeral-reached base colon at s)
   piece-reached Glyph colon at s k h a b = rw (eqb-true k 2 b) (glyph-reached colon at s)
-  piece-reached Plural colon at s k h a b = (anEntry n k, any k a, plural-other longest colon at s (valueOf pool (anEntry n k)) k (any k a .other))
+  piece-reached Plural colon at s k h a b =
+      (anEntry n k, any k a, plural-other longest colon at s (valueOf pool (anEntry n k)) k (any k a .other))
   piece-reached (Repeat x) colon at s k h a b = repeat-reached x colon at s k a
   piece-reached Fold colon at s k h a b = fold-reached colon at s k a

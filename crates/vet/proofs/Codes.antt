@@ -27,7 +27,8 @@ abbrev pub Between : ℕ → ℕ → Verdict → Type 0
 Between least most Accepted = Unit {0}
 Between least most (Refused code p) = (least ≤ code) × (code ≤ most)
 
-test-between : (least most : ℕ) (b : Bool) (code p : ℕ) (on : Bool → Verdict) → least ≤ code → code ≤ most → Between least most (on true) → Between least most (provided b code p on)
+test-between : (least most : ℕ) (b : Bool) (code p : ℕ) (on : Bool → Verdict) → least ≤ code → code ≤ most
+    → Between least most (on true) → Between least most (provided b code p on)
 test-between least most true code p on l m h = h
 test-between least most false code p on l m h = (l, m)
 
@@ -37,18 +38,22 @@ Early v = Between 2 5 v
 early : (b : Bool) (code p : ℕ) (on : Bool → Verdict) → 2 ≤ code → code ≤ 5 → Early (on true) → Early (provided b code p on)
 early b code p on l m h = test-between 2 5 b code p on l m h
 
-directive-early : (p : ℕ) (d : Directive) (c : Code) (os : List Block) (on : List Block → Verdict) → ((os₂ : List Block) → Early (on os₂)) → Early (directiveMet p d c os on)
+directive-early : (p : ℕ) (d : Directive) (c : Code) (os : List Block) (on : List Block → Verdict)
+    → ((os₂ : List Block) → Early (on os₂)) → Early (directiveMet p d c os on)
 unfolding directiveMet
 directive-early p d (Writes f) os on h = early (wellWritten d) 5 p _ (omega arith) (omega arith) (h os)
 directive-early p d Jump os on h = early (wellWritten d) 5 p _ (omega arith) (omega arith) (h os)
 directive-early p d Escape os on h = early (wellWritten d) 5 p _ (omega arith) (omega arith) (h os)
 directive-early p d Conditional os on h =
-    early (ltb (length os) deepest) 4 p _ (omega arith) (omega arith) (early (wellWritten d) 5 p _ (omega arith) (omega arith) (h (opened p d ∷ os)))
+    early (ltb (length os) deepest) 4 p _ (omega arith) (omega arith)
+    (early (wellWritten d) 5 p _ (omega arith) (omega arith) (h (opened p d ∷ os)))
 directive-early p d Iteration os on h =
-    early (ltb (length os) deepest) 4 p _ (omega arith) (omega arith) (early (wellWritten d) 5 p _ (omega arith) (omega arith) (h (opened p d ∷ os)))
+    early (ltb (length os) deepest) 4 p _ (omega arith) (omega arith)
+    (early (wellWritten d) 5 p _ (omega arith) (omega arith) (h (opened p d ∷ os)))
 directive-early p d Separator [] on h = (omega arith, omega arith)
 directive-early p d Separator (o ∷ os) on h =
-    early (maySeparate o d) 4 p _ (omega arith) (omega arith) (early (wellWritten d) 5 p _ (omega arith) (omega arith) (h (separated o d ∷ os)))
+    early (maySeparate o d) 4 p _ (omega arith) (omega arith)
+    (early (wellWritten d) 5 p _ (omega arith) (omega arith) (h (separated o d ∷ os)))
 directive-early p d EndConditional [] on h = (omega arith, omega arith)
 directive-early p d EndConditional (o ∷ os) on h =
     early (isConditional o) 4 p _ (omega arith) (omega arith)
@@ -59,7 +64,8 @@ directive-early p d EndIteration (o ∷ os) on h =
     (early (hasBody o p) 4 (o .at) _ (omega arith) (omega arith) (early (wellWritten d) 5 p _ (omega arith) (omega arith) (h os)))
 directive-early p d Unknown os on h = (omega arith, omega arith)
 
-item-early : (p : ℕ) (x : Item) (os : List Block) (on : List Block → Verdict) → ((os₂ : List Block) → Early (on os₂)) → Early (itemMet p x os on)
+item-early : (p : ℕ) (x : Item) (os : List Block) (on : List Block → Verdict) → ((os₂ : List Block) → Early (on os₂))
+    → Early (itemMet p x os on)
 item-early p End os on h = h os
 item-early p (Literal b) os on h = h os
 item-early p (Written d) os on h = directive-early p d (d .code) os on h
@@ -77,7 +83,8 @@ items-early (x ∷ xs) os = item-early (x .at) (x .item) os (λ os₂. verdictOf
 
 pub text-codes : (t : List ℕ) → Between 2 5 (textVerdict t)
 unfolding textVerdict
-text-codes t = early (not (ltb longestText (length t))) 2 longestText _ (omega arith) (omega arith) (items-early (tokensAt t 0) [])
+text-codes t =
+    early (not (ltb longestText (length t))) 2 longestText _ (omega arith) (omega arith) (items-early (tokensAt t 0) [])
 
 pub plain-codes : (xs : List Token) → Between 11 11 (plainVerdict xs)
 unfolding plainVerdict

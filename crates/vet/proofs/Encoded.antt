@@ -26,7 +26,8 @@ entries-length : (e : ℕ → Entry) (k i : ℕ) → length (entriesFrom e k i) 
 unfolding entriesFrom
 entries-length e zero i = refl
 entries-length e (suc k) i =
-    length-append (entryBytes (e i)) (entriesFrom e k (suc i)) ∙ omega (arith, entries-length e k (suc i), entry-length (e i))
+    length-append (entryBytes (e i)) (entriesFrom e k (suc i))
+    ∙ omega (arith, entries-length e k (suc i), entry-length (e i))
 
 -- past a first part of so many bytes
 past : (xs ys : List ℕ) (size n m : ℕ) → length xs ≡ size → n ≡ size + m → getD (xs ++ ys) n 0 ≡ getD ys m 0
@@ -136,7 +137,8 @@ module _ (n : ℕ) (e : ℕ → Entry) (pool : List ℕ) (hn : n ≤ 1024) (hp :
         arguments = omega (arith, made-count, made-arguments);
         pool = omega (arith, made-pool-length);
         total = omega (arith, made-length, made-count, made-pool-length);
-        right = λ i h. (let k : i < n = omega (arith, made-count) in rw (made-count, made-pool-length, made-entry i k) (g i k));
+        right =
+            λ i h. (let k : i < n = omega (arith, made-count) in rw (made-count, made-pool-length, made-entry i k) (g i k));
       })
 
   entries-bytes : (k i : ℕ) → i + k ≤ n → Bytes (entriesFrom e k i)

@@ -50,12 +50,14 @@ module _ (kinds : List ℕ) (longest : ℕ) (hc : length kinds ≤ 1024) (hl : l
     pub chosen : (i : ℕ) → i < count → Chosen count longest (kindIn kinds i) (entry i)
     pub full : (v : View) → Meets next entry v → (n sum : ℕ) → Full (flow v n) (answer sum) sum
 
-  full-piece : (p m : ℕ) (text : List ℕ) (flow : Flow) (r : Vetted) (sum most : ℕ) → length text ≡ most → Full flow r (sum + most) → Full (put p m text flow) r sum
+  full-piece : (p m : ℕ) (text : List ℕ) (flow : Flow) (r : Vetted) (sum most : ℕ) → length text ≡ most
+      → Full flow r (sum + most) → Full (put p m text flow) r sum
   unfolding givenText
   full-piece p m text flow r sum most e h z = omega (arith, h z, length-append text (givenText flow))
 
   -- where the answer is a refusal, any entries will do
-  filling-none : (next : ℕ) (flow : View → ℕ → Flow) (answer : ℕ → Vetted) → ((v : View) (n sum : ℕ) → Full (flow v n) (answer sum) sum) → Filling next flow answer
+  filling-none : (next : ℕ) (flow : View → ℕ → Flow) (answer : ℕ → Vetted)
+      → ((v : View) (n sum : ℕ) → Full (flow v n) (answer sum) sum) → Filling next flow answer
   filling-none next flow answer h = record {
     entry = λ i. anEntry count (kindIn kinds i);
     chosen = λ i b. any count longest hc hl (kindIn kinds i) (tags i b);
@@ -80,12 +82,15 @@ module _ (kinds : List ℕ) (longest : ℕ) (hc : length kinds ≤ 1024) (hl : l
 
     -- the next argument, whose entry is chosen here
     filling-next : (next : ℕ) → next < count → Proper f s → Filling (suc next) (λ v n. on v n (suc next)) (rest (suc next))
-        → (b : Bool) → accepts f (kindIn kinds next) ≡ b → Filling next (flowAt next (suc next)) (answerAt next (suc next) b)
+        → (b : Bool) → accepts f (kindIn kinds next) ≡ b
+        → Filling next (flowAt next (suc next)) (answerAt next (suc next) b)
     filling-next next h q more true t =
         let r = piece-reached count longest hc hl f (d .colon) (d .at) s (kindIn kinds next) q (tags next h) t in
         record {
           entry = λ i. cond (eqb i next) (r .0) (more .entry i);
-          chosen = λ i hi. elim (decEq i next) [ yes e ↦ rw (eq-eqb i next e, e) (r .1) | no e ↦ rw (ne-eqb i next e) (more .chosen i hi) ];
+          chosen =
+              λ i hi. elim (decEq i next)
+              [ yes e ↦ rw (eq-eqb i next e, e) (r .1) | no e ↦ rw (ne-eqb i next e) (more .chosen i hi) ];
           full = λ v m n sum.
               let x : valueIn v count next ≡ valueOf (marks longest) (r .0) = m .from next (omega arith) h ∙ rw (eq-eqb next next refl) in
               let g : Meets (suc next) (more .entry) v = record {
@@ -95,14 +100,17 @@ module _ (kinds : List ℕ) (longest : ℕ) (hc : length kinds ≤ 1024) (hl : l
               } in
               rw (m .kind-of next h, t)
               (full-piece p (n - 1) (text v next) (on v (n - 1) (suc next)) (rest (suc next) (sum + most next)) sum (most next)
-              (ap (λ (y : Value). length (textOf f (d .colon) (d .at) s y)) x ∙ r .2) (more .full v g (n - 1) (sum + most next)));
+              (ap (λ (y : Value). length (textOf f (d .colon) (d .at) s y)) x ∙ r .2)
+              (more .full v g (n - 1) (sum + most next)));
         }
     filling-next next h q more false t =
         filling-none next (flowAt next (suc next)) (answerAt next (suc next) false) (λ v n sum z. absurd (seven z))
 
   -- a plural of the argument before: it is no 1
-  filling-again : (p : ℕ) (d : Directive) (s : Settings) (on : View → ℕ → ℕ → Flow) (rest : ℕ → ℕ → Vetted) (i next : ℕ) → suc i ≡ next
-      → Filling next (λ v n. on v n next) (rest next) → Filling next (flowAt p Plural d s on rest i next) (answerAt p Plural d s on rest i next true)
+  filling-again : (p : ℕ) (d : Directive) (s : Settings) (on : View → ℕ → ℕ → Flow) (rest : ℕ → ℕ → Vetted) (i next : ℕ)
+      → suc i ≡ next
+      → Filling next (λ v n. on v n next) (rest next)
+      → Filling next (flowAt p Plural d s on rest i next) (answerAt p Plural d s on rest i next true)
   filling-again p d s on rest i next e more = record {
     entry = more .entry;
     chosen = more .chosen;
@@ -113,17 +121,23 @@ module _ (kinds : List ℕ) (longest : ℕ) (hc : length kinds ≤ 1024) (hl : l
         (more .full v m (n - 1) (sum + size));
   }
 
-  filling-shown : (p : ℕ) (f : Form) (d : Directive) (s : Settings) (on : View → ℕ → ℕ → Flow) (rest : ℕ → ℕ → Vetted) (i next after : ℕ) → Shown count next f s i after
-      → ((j : ℕ) → Filling j (λ v n. on v n j) (rest j)) → Filling next (flowAt p f d s on rest i after) (answerAt p f d s on rest i after (accepts f (kindIn kinds i)))
+  filling-shown : (p : ℕ) (f : Form) (d : Directive) (s : Settings) (on : View → ℕ → ℕ → Flow) (rest : ℕ → ℕ → Vetted) (i next after : ℕ)
+      → Shown count next f s i after
+      → ((j : ℕ) → Filling j (λ v n. on v n j) (rest j))
+      → Filling next (flowAt p f d s on rest i after) (answerAt p f d s on rest i after (accepts f (kindIn kinds i)))
   filling-shown p f d s on rest i next after w more =
       elim (w .how) [
         | inl e ↦
             let g : next < count = subst (λ (x : ℕ). x < count) (e .0) (w .inside) in
-            subst⁻¹ (λ (x : ℕ). Filling next (flowAt p f d s on rest x after) (answerAt p f d s on rest x after (accepts f (kindIn kinds x)))) (e .0)
+            subst⁻¹
+            (λ (x : ℕ). Filling next (flowAt p f d s on rest x after) (answerAt p f d s on rest x after (accepts f (kindIn kinds x))))
+            (e .0)
             (subst⁻¹ (λ (x : ℕ). Filling next (flowAt p f d s on rest next x) (answerAt p f d s on rest next x (accepts f (kindIn kinds next)))) (e .1)
             (filling-next p f d s on rest next g (w .proper) (more (suc next)) (accepts f (kindIn kinds next)) refl))
         | inr e ↦
-            subst⁻¹ (λ (x : Form). Filling next (flowAt p x d s on rest i after) (answerAt p x d s on rest i after (accepts x (kindIn kinds i)))) (e .0)
+            subst⁻¹
+            (λ (x : Form). Filling next (flowAt p x d s on rest i after) (answerAt p x d s on rest i after (accepts x (kindIn kinds i))))
+            (e .0)
             (subst⁻¹ (λ (x : ℕ). Filling next (flowAt p Plural d s on rest i x) (answerAt p Plural d s on rest i x true)) (e .2)
             (filling-again p d s on rest i next (e .1) (more next)))
       ]
@@ -137,15 +151,20 @@ module _ (kinds : List ℕ) (longest : ℕ) (hc : length kinds ≤ 1024) (hl : l
         entry = more next .entry;
         chosen = more next .chosen;
         full = λ v m n sum.
-            full-piece p (n - 1) w (on v (n - 1) next) (rest next (sum + length w)) sum (length w) refl (more next .full v m (n - 1) (sum + length w));
+            full-piece p (n - 1) w (on v (n - 1) next) (rest next (sum + length w)) sum (length w) refl
+            (more next .full v m (n - 1) (sum + length w));
       })
   filling-use p (stops code) next on rest e more =
-      filling-none next (λ v n. refused code p (n - 1)) (λ sum. record { code = code; position = p; count = 0 }) (λ v n sum z. absurd (omega arith))
+      filling-none next (λ v n. refused code p (n - 1)) (λ sum. record { code = code; position = p; count = 0 })
+      (λ v n sum z. absurd (omega arith))
   filling-use p (shows f d s i after) next on rest e more = filling-shown p f d s on rest i next after e more
 
-  pub plain-filling : (xs : List Token) → AllOrdinary xs → (next : ℕ) → Filling next (λ v n. flowFrom v count xs n next) (λ sum. vetFrom kinds longest xs next sum)
+  pub plain-filling : (xs : List Token) → AllOrdinary xs → (next : ℕ)
+      → Filling next (λ v n. flowFrom v count xs n next) (λ sum. vetFrom kinds longest xs next sum)
   unfolding flowFrom vetFrom turnOf givenText
-  plain-filling [] o next = filling-none next (λ v n. done n) (λ sum. record { code = 0; position = 0; count = sum }) (λ v n sum z. omega arith)
+  plain-filling [] o next =
+      filling-none next (λ v n. done n) (λ sum. record { code = 0; position = 0; count = sum }) (λ v n sum z. omega arith)
   plain-filling (x ∷ xs) o next =
-      filling-use (x .at) (useOf count (x .item) next) next (λ v n i. flowFrom v count xs n i) (λ i sum. vetFrom kinds longest xs i sum)
+      filling-use (x .at) (useOf count (x .item) next) next (λ v n i. flowFrom v count xs n i)
+      (λ i sum. vetFrom kinds longest xs i sum)
       (use-within count (x .item) next (o .0)) (plain-filling xs (o .1))

@@ -119,7 +119,8 @@ Readable BadNumber = Unit {0}
 Readable Unfinished = Unit {0}
 
 on-step : (s : Step) (on : Reading → Directive → Item) (last : Directive → Item) → EndsBased s
-    → ((r : Reading) (d : Directive) → Readable (on r d)) → ((d : Directive) → Based (d .code) → Readable (last d)) → Readable (onStep s on last)
+    → ((r : Reading) (d : Directive) → Readable (on r d)) → ((d : Directive) → Based (d .code) → Readable (last d))
+    → Readable (onStep s on last)
 on-step (goes r d) on last e h k = h r d
 on-step bad on last e h k = tt
 on-step (ends d) on last e h k = k d e
@@ -155,7 +156,8 @@ Read p (x ∷ xs) = (p ≤ x .at) × Readable (x .item) × Read (suc (x .at)) xs
 from-read : (bs : List ℕ) (over p q : ℕ) → q ≤ p → Read q (tokensFrom bs over p)
 unfolding tokensFrom
 from-read [] over p q h = tt
-from-read (b ∷ bs) zero p q h = (h, item-readable b bs p, from-read bs (lengthAfter p (itemOf (b ∷ bs) p)) (suc p) (suc p) (omega arith))
+from-read (b ∷ bs) zero p q h =
+    (h, item-readable b bs p, from-read bs (lengthAfter p (itemOf (b ∷ bs) p)) (suc p) (suc p) (omega arith))
 from-read (b ∷ bs) (suc over) p q h = from-read bs over (suc p) q (omega arith)
 
 from-count : (bs : List ℕ) (over p : ℕ) → length (tokensFrom bs over p) ≤ length bs

@@ -42,10 +42,12 @@ In n [] = ⊥
 In n (s ∷ ss) = ((s .least ≤ n) × (n ≤ s .most)) ⊎ In n ss
 
 decimal-length : (z : ℤ) → mag z < 2 ^ 63 → (1 ≤ length (decimalOf z)) × (length (decimalOf z) ≤ 20)
-decimal-length (pos zero) h = (count-pos 10 0 (omega arith), omega (arith, count-below 19 10 0 (omega arith) (omega arith) (omega arith)))
+decimal-length (pos zero) h =
+    (count-pos 10 0 (omega arith), omega (arith, count-below 19 10 0 (omega arith) (omega arith) (omega arith)))
 decimal-length (pos (suc n)) h =
     (count-pos 10 (suc n) (omega arith), omega (arith, count-below 19 10 (suc n) (omega arith) (omega arith) (omega arith)))
-decimal-length (negsuc n) h = (omega arith, omega (arith, count-below 19 10 (suc n) (omega arith) (omega arith) (omega arith)))
+decimal-length (negsuc n) h =
+    (omega arith, omega (arith, count-below 19 10 (suc n) (omega arith) (omega arith) (omega arith)))
 
 escaped-length : (s : List ℕ) → (length s ≤ length (escaped s)) × (length (escaped s) ≤ 2 * length s)
 unfolding escaped
@@ -96,20 +98,29 @@ kind-most (character c) = omega arith
 kind-most (string s) = omega arith
 kind-most (list first count) = omega arith
 
-bare-within : (longest : ℕ) (q : Bool) (v : Value) → kindOf v < 4 → Allowed longest v → In (length (bareOf q v)) (spansOf longest q (kindOf v))
+bare-within : (longest : ℕ) (q : Bool) (v : Value) → kindOf v < 4 → Allowed longest v
+    → In (length (bareOf q v)) (spansOf longest q (kindOf v))
 unfolding spansOf bareOf
 bare-within longest q (boolean b) k a = inl (omega arith, omega arith)
 bare-within longest q (integer z) k a = inl (decimal-length z a)
 bare-within longest false (character c) k a = inl (omega arith, omega arith)
 bare-within longest true (character c) k a = named (length (nameOf c)) (name-length c a)
 bare-within longest false (string s) k a = inl (omega arith, a)
-bare-within longest true (string s) k a = inl (omega (arith, length-append (escaped s) (34 ∷ [])), omega (arith, escaped-length s, length-append (escaped s) (34 ∷ [])))
+bare-within longest true (string s) k a =
+    inl (
+      omega (arith, length-append (escaped s) (34 ∷ [])),
+      omega (arith, escaped-length s, length-append (escaped s) (34 ∷ [])),
+    )
 bare-within longest q (list first count) k a = absurd (omega arith)
 
 over-bound : (w p m : ℕ) → 1 ≤ p → (ss : List Span) (n : ℕ) → In n ss → paddedSize w p m n ≤ greatestOver w p m ss
 over-bound w p m h [] n i = absurd i
 over-bound w p m h (s ∷ ss) n (inl i) =
-    omega (arith, pad-bound p h w m (s .least) (s .most) n (i .0) (i .1), larger-left (greatest w p m (s .least) (s .most)) (greatestOver w p m ss))
+    omega (
+      arith,
+      pad-bound p h w m (s .least) (s .most) n (i .0) (i .1),
+      larger-left (greatest w p m (s .least) (s .most)) (greatestOver w p m ss),
+    )
 over-bound w p m h (s ∷ ss) n (inr i) =
     omega (arith, over-bound w p m h ss n i, larger-right (greatest w p m (s .least) (s .most)) (greatestOver w p m ss))
 
@@ -121,21 +132,26 @@ pad-length false n pad text = length-append text (replicate n pad) ∙ omega (ar
 pub object-length : (q at : Bool) (s : Settings) (v : Value)
     → length (objectOf q at s v) ≡ paddedSize (orElse (s .first) 0) (orElse (s .second) 1) (orElse (s .third) 0) (length (bareOf q v))
 object-length q at s v =
-    pad-length at (paddingOf (orElse (s .first) 0) (orElse (s .second) 1) (orElse (s .third) 0) (length (bareOf q v))) (orElse (s .fourth) 32) (bareOf q v)
+    pad-length at (paddingOf (orElse (s .first) 0) (orElse (s .second) 1) (orElse (s .third) 0) (length (bareOf q v)))
+    (orElse (s .fourth) 32) (bareOf q v)
 
 -- numerals
 pub left-length : (width pad : ℕ) (text : List ℕ) → length (padLeft width pad text) ≡ width - length text + length text
 unfolding padLeft
 left-length width pad text =
-    length-append (replicate (width - length text) pad) text ∙ omega (arith, length-replicate {A = ℕ} (width - length text) pad)
+    length-append (replicate (width - length text) pad) text
+    ∙ omega (arith, length-replicate {A = ℕ} (width - length text) pad)
 
-left-mono : (width pad : ℕ) (a b : List ℕ) → length a ≤ length b → length (padLeft width pad a) ≤ length (padLeft width pad b)
+left-mono : (width pad : ℕ) (a b : List ℕ) → length a ≤ length b
+    → length (padLeft width pad a) ≤ length (padLeft width pad b)
 left-mono width pad a b h = omega (arith, left-length width pad a, left-length width pad b)
 
 module _ (base : ℕ) (s : Settings) (hb : 2 ≤ base) (hw : 1 ≤ orElse (s .fourth) 3) where
-  digits-mono : (colon : Bool) (n m : ℕ) → n ≤ m → length (digitsIn colon s (digitsOf base n)) ≤ length (digitsIn colon s (digitsOf base m))
+  digits-mono : (colon : Bool) (n m : ℕ) → n ≤ m
+      → length (digitsIn colon s (digitsOf base n)) ≤ length (digitsIn colon s (digitsOf base m))
   digits-mono true n m h =
-      grouped-mono (orElse (s .fourth) 3) (orElse (s .third) 44) (orElse (s .third) 44) (digitsOf base n) (digitsOf base m) hw (count-mono base n m hb h)
+      grouped-mono (orElse (s .fourth) 3) (orElse (s .third) 44) (orElse (s .third) 44) (digitsOf base n) (digitsOf base m)
+      hw (count-mono base n m hb h)
   digits-mono false n m h = count-mono base n m hb h
 
   magnitude-least : (z : ℤ) → mag z < 2 ^ 63 → magnitudeOf z ≤ magnitudeOf leastInteger
@@ -143,14 +159,16 @@ module _ (base : ℕ) (s : Settings) (hb : 2 ≤ base) (hw : 1 ≤ orElse (s .fo
   magnitude-least (negsuc n) h = omega arith
 
   -- no integer is longer than the least
-  pub numeral-most : (colon at : Bool) (z : ℤ) → mag z < 2 ^ 63 → length (numeralOf base colon at s z) ≤ length (numeralOf base colon at s leastInteger)
+  pub numeral-most : (colon at : Bool) (z : ℤ) → mag z < 2 ^ 63
+      → length (numeralOf base colon at s z) ≤ length (numeralOf base colon at s leastInteger)
   numeral-most colon at z h =
       let ds = digitsIn colon s (digitsOf base (magnitudeOf z)) in
       let es = digitsIn colon s (digitsOf base (magnitudeOf leastInteger)) in
       left-mono (orElse (s .first) 0) (orElse (s .second) 32) (signOf at z ++ ds) (signOf at leastInteger ++ es)
       (omega (arith, length-append (signOf at z) ds, sign-most at z, digits-mono colon (magnitudeOf z) (magnitudeOf leastInteger) (magnitude-least z h)))
 
-numeral-bound : (longest base : ℕ) (colon at : Bool) (s : Settings) (v : Value) → 2 ≤ base → 1 ≤ orElse (s .fourth) 3 → kindOf v ≡ 1 → Allowed longest v
+numeral-bound : (longest base : ℕ) (colon at : Bool) (s : Settings) (v : Value) → 2 ≤ base → 1 ≤ orElse (s .fourth) 3
+    → kindOf v ≡ 1 → Allowed longest v
     → length (numeralOf base colon at s (integerIn v)) ≤ length (numeralOf base colon at s leastInteger)
 numeral-bound longest base colon at s (integer z) hb hw k a = numeral-most base s hb hw colon at z a
 numeral-bound longest base colon at s (boolean b) hb hw k a = absurd (omega arith)
@@ -168,7 +186,8 @@ glyph-length true false c h = pick (ltb c 32)
     pick false = omega arith
 glyph-length false false c h = omega arith
 
-glyph-bound : (longest : ℕ) (colon at : Bool) (v : Value) → kindOf v ≡ 2 → Allowed longest v → length (glyphOf colon at (codeIn v)) ≤ cond at 11 (cond colon 2 1)
+glyph-bound : (longest : ℕ) (colon at : Bool) (v : Value) → kindOf v ≡ 2 → Allowed longest v
+    → length (glyphOf colon at (codeIn v)) ≤ cond at 11 (cond colon 2 1)
 glyph-bound longest colon at (character c) k a = glyph-length colon at c a
 glyph-bound longest colon at (boolean b) k a = absurd (omega arith)
 glyph-bound longest colon at (integer z) k a = absurd (omega arith)
@@ -185,14 +204,16 @@ fold-bound : (at : Bool) → length {A = ℕ} (cond at (10 ∷ []) []) ≤ cond 
 fold-bound true = omega arith
 fold-bound false = omega arith
 
-pub piece-bound : (longest : ℕ) (f : Form) (colon at : Bool) (s : Settings) (v : Value) → Proper f s → accepts f (kindOf v) ≡ true → Allowed longest v
+pub piece-bound : (longest : ℕ) (f : Form) (colon at : Bool) (s : Settings) (v : Value) → Proper f s
+    → accepts f (kindOf v) ≡ true → Allowed longest v
     → length (textOf f colon at s v) ≤ worst longest f colon at s (kindOf v)
 unfolding worst textOf
 piece-bound longest (Object q) colon at s v h k a =
     rw (object-length q at s v)
     (over-bound (orElse (s .first) 0) (orElse (s .second) 1) (orElse (s .third) 0) h (spansOf longest q (kindOf v)) (length (bareOf q v))
     (bare-within longest q v (shown-kind (kindOf v) (kind-most v) k) a))
-piece-bound longest (Numeral base) colon at s v h k a = numeral-bound longest base colon at s v (h .0) (h .1) (eqb-true (kindOf v) 1 k) a
+piece-bound longest (Numeral base) colon at s v h k a =
+    numeral-bound longest base colon at s v (h .0) (h .1) (eqb-true (kindOf v) 1 k) a
 piece-bound longest Glyph colon at s v h k a = glyph-bound longest colon at v (eqb-true (kindOf v) 2 k) a
 piece-bound longest Plural colon at s v h k a = plural-bound at (isOne v)
 piece-bound longest (Repeat b) colon at s v h k a = omega (arith, length-replicate {A = ℕ} (orElse (s .first) 1) b)

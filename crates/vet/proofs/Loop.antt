@@ -40,7 +40,8 @@ module _ (t : List ℕ) (p q : ℕ) (x : Item) (s : Stands t p x q) where
     unfolding vetFrom
     vet-on after size e = rw (s .is, vetFrom, e)
 
-    pub vet-stops : (code : ℕ) → turnOf kinds longest x next ≡ Stops code → vetFrom kinds longest (tokensAt t p) next sum ≡ declined code p
+    pub vet-stops : (code : ℕ) → turnOf kinds longest x next ≡ Stops code
+        → vetFrom kinds longest (tokensAt t p) next sum ≡ declined code p
     unfolding vetFrom
     vet-stops code e = rw (s .is, vetFrom, e)
 
@@ -48,6 +49,7 @@ pub plain-end : (t : List ℕ) (p : ℕ) → length t ≤ p → plainVerdict (to
 unfolding plainVerdict
 plain-end t p h = rw (no-items t p h)
 
-pub vet-end : (t kinds : List ℕ) (longest p next sum : ℕ) → length t ≤ p → vetFrom kinds longest (tokensAt t p) next sum ≡ counted sum
+pub vet-end : (t kinds : List ℕ) (longest p next sum : ℕ) → length t ≤ p
+    → vetFrom kinds longest (tokensAt t p) next sum ≡ counted sum
 unfolding vetFrom
 vet-end t kinds longest p next sum h = rw (no-items t p h)

@@ -46,12 +46,14 @@ refused-accepted : {code position : ℕ} → Refused code position ≡ Accepted 
 refused-accepted e = let z : _≡_ {A = ℕ} 0 1 = cc in omega arith
 
 -- a test that refuses where it fails held, and reading went on
-pub past-test : (b : Bool) (code p : ℕ) (on : Bool → Verdict) → provided b code p on ≡ Accepted → (b ≡ true) × (on true ≡ Accepted)
+pub past-test : (b : Bool) (code p : ℕ) (on : Bool → Verdict) → provided b code p on ≡ Accepted
+    → (b ≡ true) × (on true ≡ Accepted)
 past-test true code p on e = (refl, e)
 past-test false code p on e = absurd (refused-accepted e)
 
 directive-ordinary : (p : ℕ) (d : Directive) (on : List Block → Verdict) (c : Code) → d .code ≡ c → Based c
-    → both (plainCode c) (noneNext (inOrder (d .parameters))) ≡ true → directiveMet p d c [] on ≡ Accepted → Writing d × (on [] ≡ Accepted)
+    → both (plainCode c) (noneNext (inOrder (d .parameters))) ≡ true → directiveMet p d c [] on ≡ Accepted
+    → Writing d × (on [] ≡ Accepted)
 unfolding directiveMet
 directive-ordinary p d on (Writes f) e h k m =
     let r = past-test (wellWritten d) 5 p (λ _. on []) m in
@@ -65,7 +67,8 @@ directive-ordinary p d on EndConditional e h k m = absurd (refused-accepted m)
 directive-ordinary p d on EndIteration e h k m = absurd (refused-accepted m)
 directive-ordinary p d on Unknown e h k m = absurd (refused-accepted m)
 
-item-ordinary : (p : ℕ) (x : Item) (on : List Block → Verdict) → Readable x → plainItem x ≡ true → itemMet p x [] on ≡ Accepted
+item-ordinary : (p : ℕ) (x : Item) (on : List Block → Verdict) → Readable x → plainItem x ≡ true
+    → itemMet p x [] on ≡ Accepted
     → Ordinary x × (on [] ≡ Accepted)
 unfolding plainItem
 item-ordinary p End on r k m = absurd r
@@ -74,7 +77,8 @@ item-ordinary p (Written d) on r k m = directive-ordinary p d on (d .code) refl 
 item-ordinary p BadNumber on r k m = absurd (refused-accepted m)
 item-ordinary p Unfinished on r k m = absurd (refused-accepted m)
 
-all-ordinary : (p : ℕ) (xs : List Token) → Read p xs → verdictOf [] xs ≡ Accepted → plainVerdict xs ≡ Accepted → AllOrdinary xs
+all-ordinary : (p : ℕ) (xs : List Token) → Read p xs → verdictOf [] xs ≡ Accepted → plainVerdict xs ≡ Accepted
+    → AllOrdinary xs
 unfolding verdictOf plainVerdict
 all-ordinary p [] r v k = tt
 all-ordinary p (x ∷ xs) r v k =

@@ -11,11 +11,13 @@ use Rattle.vet.specs.Worst.{larger, roundUp, paddedSize, topOf, greatest
 
 pub larger-left : (a b : ℕ) → a ≤ larger a b
 unfolding larger
-larger-left a b = elim (decLt b a) [ yes h ↦ rw (lt-leb a b h) (omega arith) | no h ↦ rw (le-leb a b (omega arith)) (omega arith) ]
+larger-left a b =
+    elim (decLt b a) [ yes h ↦ rw (lt-leb a b h) (omega arith) | no h ↦ rw (le-leb a b (omega arith)) (omega arith) ]
 
 pub larger-right : (a b : ℕ) → b ≤ larger a b
 unfolding larger
-larger-right a b = elim (decLt b a) [ yes h ↦ rw (lt-leb a b h) (omega arith) | no h ↦ rw (le-leb a b (omega arith)) (omega arith) ]
+larger-right a b =
+    elim (decLt b a) [ yes h ↦ rw (lt-leb a b h) (omega arith) | no h ↦ rw (le-leb a b (omega arith)) (omega arith) ]
 
 -- the larger is one of the two
 pub larger-one : (a b : ℕ) → (larger a b ≡ a) ⊎ (larger a b ≡ b)
@@ -88,7 +90,8 @@ module _ (p : ℕ) (h : 1 ≤ p) where
                       n,
                       omega arith,
                       inside hi short (up-least (w - 1 - (hi + m))),
-                      reaches n short (roundUp p (w - (n + m))) (omega arith) (ap (roundUp p) g ∙ up-next (w - 1 - (hi + m))) ∙ sym e,
+                      reaches n short (roundUp p (w - (n + m))) (omega arith)
+                          (ap (roundUp p) g ∙ up-next (w - 1 - (hi + m))) ∙ sym e,
                     )
               ])
           | no t ↦

@@ -36,7 +36,8 @@ module _ (v : View) (count : ℕ) where
   abbrev pub flowBy : ℕ → ℕ → Use → (ℕ → Flow) → Flow
   flowBy p m (writes text next) on = put p m text (on next)
   flowBy p m (shows f d s i next) on =
-      choose (accepts f (kindOf (valueIn i))) (λ _. put p m (textOf f (d .colon) (d .at) s (valueIn i)) (on next)) (λ _. refused 7 p m)
+      choose (accepts f (kindOf (valueIn i))) (λ _. put p m (textOf f (d .colon) (d .at) s (valueIn i)) (on next))
+      (λ _. refused 7 p m)
   flowBy p m (stops code) on = refused code p m
 
   -- the flow of items
@@ -70,7 +71,8 @@ module _ (v : View) (count : ℕ) where
     back-same : (f : Form) → Same f back
     back-same f = pick (eqb next 0) (ltb (next - 1) count)
       where
-        pick : (a b : Bool) → choose a (λ _. refused 6 p m) (λ _. choose b (λ _. write v p m f d s (valueIn (next - 1)) next on) (λ _. refused 6 p m))
+        pick : (a b : Bool)
+            → choose a (λ _. refused 6 p m) (λ _. choose b (λ _. write v p m f d s (valueIn (next - 1)) next on) (λ _. refused 6 p m))
             ≡ flowBy p m (cond a (stops 6) (cond b (shows f d s (next - 1) next) (stops 6))) on
         pick true b = refl
         pick false true = refl
@@ -109,7 +111,9 @@ module _ (v : View) (count : ℕ) where
       let xs = inOrder (d .parameters) in
       let on-one : Settings → ℕ → Flow = λ s after. writeFrom v p m f d c s after on (sourceOf f (d .colon) s) in
       ap (λ (k : Code). directiveActs v p m d k c on) (w .code)
-      ∙ ap (λ (b : Bool). choose b (λ _. onSettled p m (settle v c (placesOf (d .code) (either (d .colon) (d .at))) xs next) on-one) (λ _. refused 5 p m)) (w .written)
+      ∙ ap
+      (λ (b : Bool). choose b (λ _. onSettled p m (settle v c (placesOf (d .code) (either (d .colon) (d .at))) xs next) on-one) (λ _. refused 5 p m))
+      (w .written)
       ∙ ap (λ (k : Code). onSettled p m (settle v c (placesOf k (either (d .colon) (d .at))) xs next) on-one) (w .code)
       ∙ ap (λ (z : Settled). onSettled p m z on-one) (settle-plain v c (formPlaces f) xs next (w .fixed))
       ∙ settled-same p m d f next on (workedOut count f d next)
@@ -118,7 +122,8 @@ module _ (v : View) (count : ℕ) where
   item-same p m Unfinished next on o = absurd o
 
   -- an ordinary item opens and closes nothing
-  before-ordinary : (p : ℕ) (x : Item) (ls : List Level) → Ordinary x → innermost (itemBefore p x ls) .rest ≡ acts p x (innermost ls .rest)
+  before-ordinary : (p : ℕ) (x : Item) (ls : List Level) → Ordinary x
+      → innermost (itemBefore p x ls) .rest ≡ acts p x (innermost ls .rest)
   before-ordinary p End ls o = absurd o
   before-ordinary p (Literal b) ls o = refl
   before-ordinary p (Written d) ls w = rw (w .code)

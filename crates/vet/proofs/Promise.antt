@@ -33,7 +33,8 @@ use Rattle.vet.proofs.Witness.{witness, worth, suited}
 use Rattle.vet.proofs.Values.{Allowed, argument-allowed, argument-kind, argument-read}
 
 -- a plain text that is accepted
-module _ (format kinds : List ℕ) (longest : ℕ) (tv : textVerdict format ≡ yes-verdict) (pv : plainVerdict (tokensAt format 0) ≡ yes-verdict) where
+module _ (format kinds : List ℕ) (longest : ℕ)
+    (tv : textVerdict format ≡ yes-verdict) (pv : plainVerdict (tokensAt format 0) ≡ yes-verdict) where
   abbrev items : List Token
   items = tokensAt format 0
 

@@ -29,7 +29,8 @@ use Rattle.vet.proofs.Lengths.{Proper}
 use Rattle.vet.proofs.Ordinary.{Writing}
 
 -- no entry is read
-same-after : (w : Worked) (k l : Setting → ℕ → Settled) → ((s : Setting) (n : ℕ) → k s n ≡ l s n) → afterOne w k ≡ afterOne w l
+same-after : (w : Worked) (k l : Setting → ℕ → Settled) → ((s : Setting) (n : ℕ) → k s n ≡ l s n)
+    → afterOne w k ≡ afterOne w l
 same-after (worked s n) k l h = h s n
 same-after (wrong code) k l h = refl
 
@@ -43,7 +44,8 @@ settle-plain v c (y ∷ ys) (Number n ∷ xs) next h = rw (settle-plain v c ys x
 settle-plain v c (y ∷ ys) (Character b ∷ xs) next h = rw (settle-plain v c ys xs next h)
 settle-plain v c (y ∷ ys) (Next ∷ xs) next h = absurd (not-both-ways h refl)
 settle-plain v c (y ∷ ys) (Remaining ∷ xs) next h =
-    same-after (fromCount y (c .count - next) next) (λ s after. together s (settle v c ys xs after)) (λ s after. together s (settle noEntries c ys xs after))
+    same-after (fromCount y (c .count - next) next) (λ s after. together s (settle v c ys xs after))
+    (λ s after. together s (settle noEntries c ys xs after))
     (λ s after. rw (settle-plain v c ys xs after h))
 
 -- a setting in the range of its place
@@ -62,7 +64,8 @@ abbrev pub Settles : List Place → ℕ → Settled → Type 0
 Settles ys next (settled ss after) = (after ≡ next) × Placed ys ss
 Settles ys next (unsettled code) = (6 ≤ code) × (code ≤ 8)
 
-with-one : (y : Place) (ys : List Place) (next : ℕ) (s : Setting) (z : Settled) → InPlace y s → Settles ys next z → Settles (y ∷ ys) next (together s z)
+with-one : (y : Place) (ys : List Place) (next : ℕ) (s : Setting) (z : Settled) → InPlace y s → Settles ys next z
+    → Settles (y ∷ ys) next (together s z)
 with-one y ys next s (settled ss after) i h = (h .0, (i, h .1))
 with-one y ys next s (unsettled code) i h = h
 
@@ -94,25 +97,31 @@ count-placed (number least most) ys next n on h = pick (both (leb least n) (leb 
     pick false i = (omega arith, omega arith)
 count-placed characterPlace ys next n on h = (omega arith, omega arith)
 
-pub settle-placed : (c : Context) (ys : List Place) (xs : List Parameter) (next : ℕ) → noneNext xs ≡ true → eachSuits ys xs ≡ true
+pub settle-placed : (c : Context) (ys : List Place) (xs : List Parameter) (next : ℕ) → noneNext xs ≡ true
+    → eachSuits ys xs ≡ true
     → Settles ys next (settle noEntries c ys xs next)
 unfolding settle workOut
 settle-placed c [] xs next h e = (refl, tt)
 settle-placed c (y ∷ ys) [] next h e = (refl, tt)
 settle-placed c (y ∷ ys) (Default ∷ xs) next h e =
-    with-one y ys next Absent (settle noEntries c ys xs next) (default-placed y) (settle-placed c ys xs next h (both-true (suits y Default) (eachSuits ys xs) e .1))
+    with-one y ys next Absent (settle noEntries c ys xs next) (default-placed y)
+    (settle-placed c ys xs next h (both-true (suits y Default) (eachSuits ys xs) e .1))
 settle-placed c (y ∷ ys) (Number n ∷ xs) next h e =
     let f = both-true (suits y (Number n)) (eachSuits ys xs) e in
-    with-one y ys next (Is n) (settle noEntries c ys xs next) (number-placed y n (f .0)) (settle-placed c ys xs next h (f .1))
+    with-one y ys next (Is n) (settle noEntries c ys xs next) (number-placed y n (f .0))
+    (settle-placed c ys xs next h (f .1))
 settle-placed c (y ∷ ys) (Character b ∷ xs) next h e =
     let f = both-true (suits y (Character b)) (eachSuits ys xs) e in
-    with-one y ys next (Is b) (settle noEntries c ys xs next) (character-placed y b (f .0)) (settle-placed c ys xs next h (f .1))
+    with-one y ys next (Is b) (settle noEntries c ys xs next) (character-placed y b (f .0))
+    (settle-placed c ys xs next h (f .1))
 settle-placed c (y ∷ ys) (Next ∷ xs) next h e = absurd (not-both-ways h refl)
 settle-placed c (y ∷ ys) (Remaining ∷ xs) next h e =
-    count-placed y ys next (c .count - next) (settle noEntries c ys xs) (settle-placed c ys xs next h (both-true (suits y Remaining) (eachSuits ys xs) e .1))
+    count-placed y ys next (c .count - next) (settle noEntries c ys xs)
+    (settle-placed c ys xs next h (both-true (suits y Remaining) (eachSuits ys xs) e .1))
 
 -- so padinc and commawidth are from 1
-from-one : (least most default : ℕ) (s : Setting) → least ≤ default → InPlace (number least most) s → least ≤ orElse s default
+from-one : (least most default : ℕ) (s : Setting) → least ≤ default → InPlace (number least most) s
+    → least ≤ orElse s default
 from-one least most default Absent h i = h
 from-one least most default (Is n) h i = i .0
 
@@ -165,4 +174,5 @@ unfolding wellWritten
 writing-suits d w =
     let fits = both-true (takes (d .code) (d .colon) (d .at)) (fitInto (placesOf (d .code) (either (d .colon) (d .at))) (d .parameters)) (w .written) .1 in
     let there : fitInto (formPlaces (w .form)) (d .parameters) ≡ true = rw (w .code) at fits in
-    both-true (leb (d .parameters .count) (lib.ListN.length (formPlaces (w .form)))) (eachSuits (formPlaces (w .form)) (inOrder (d .parameters))) there .1
+    both-true (leb (d .parameters .count) (lib.ListN.length (formPlaces (w .form))))
+    (eachSuits (formPlaces (w .form)) (inOrder (d .parameters))) there .1

@@ -53,7 +53,8 @@ module _ (w p m : ℕ) (hw : w ≤ 4096) (hp : 1 ≤ p) (kp : p ≤ 4096) (hm : 
 
   greatest-most : (lo hi : ℕ) → hi ≤ 8194 → greatest w p m lo hi ≤ mostPiece
   unfolding greatest
-  greatest-most lo hi h = larger-most (paddedSize w p m hi) (topOf w p m lo hi) mostPiece (padded-most hi h) (top-most lo hi)
+  greatest-most lo hi h =
+      larger-most (paddedSize w p m hi) (topOf w p m lo hi) mostPiece (padded-most hi h) (top-most lo hi)
 
   over-most : (longest : ℕ) (q : Bool) (k : ℕ) → longest ≤ 4096 → greatestOver w p m (spansOf longest q k) ≤ mostPiece
   unfolding spansOf
@@ -61,9 +62,12 @@ module _ (w p m : ℕ) (hw : w ≤ 4096) (hp : 1 ≤ p) (kp : p ≤ 4096) (hm : 
   over-most longest q (suc zero) h = larger-most _ 0 mostPiece (greatest-most 1 20 (omega arith)) (omega arith)
   over-most longest false (suc (suc zero)) h = larger-most _ 0 mostPiece (greatest-most 1 1 (omega arith)) (omega arith)
   over-most longest true (suc (suc zero)) h =
-      larger-most _ _ mostPiece (greatest-most 3 9 (omega arith)) (larger-most _ 0 mostPiece (greatest-most 11 11 (omega arith)) (omega arith))
-  over-most longest false (suc (suc (suc zero))) h = larger-most _ 0 mostPiece (greatest-most 0 longest (omega arith)) (omega arith)
-  over-most longest true (suc (suc (suc zero))) h = larger-most _ 0 mostPiece (greatest-most 2 (2 * longest + 2) (omega arith)) (omega arith)
+      larger-most _ _ mostPiece (greatest-most 3 9 (omega arith))
+      (larger-most _ 0 mostPiece (greatest-most 11 11 (omega arith)) (omega arith))
+  over-most longest false (suc (suc (suc zero))) h =
+      larger-most _ 0 mostPiece (greatest-most 0 longest (omega arith)) (omega arith)
+  over-most longest true (suc (suc (suc zero))) h =
+      larger-most _ 0 mostPiece (greatest-most 2 (2 * longest + 2) (omega arith)) (omega arith)
   over-most longest q (suc (suc (suc (suc k)))) h = omega arith
 
 -- numerals: 64 digits, 63 separators and a sign
@@ -71,13 +75,21 @@ module _ (base : ℕ) (s : Settings) (hb : 2 ≤ base) (hw : 1 ≤ orElse (s .fo
   digits-most : (colon : Bool) → length (digitsIn colon s (digitsOf base (magnitudeOf leastInteger))) ≤ 127
   digits-most true =
       let ds = digitsOf base (magnitudeOf leastInteger) in
-      omega (arith, grouped-most (orElse (s .fourth) 3) (orElse (s .third) 44) ds hw, count-word base (magnitudeOf leastInteger) hb (omega arith))
+      omega (
+        arith,
+        grouped-most (orElse (s .fourth) 3) (orElse (s .third) 44) ds hw,
+        count-word base (magnitudeOf leastInteger) hb (omega arith),
+      )
   digits-most false = omega (arith, count-word base (magnitudeOf leastInteger) hb (omega arith))
 
   numeral-most : (colon at : Bool) → orElse (s .first) 0 ≤ 4096 → length (numeralOf base colon at s leastInteger) ≤ 4096
   numeral-most colon at h =
       let ds = digitsIn colon s (digitsOf base (magnitudeOf leastInteger)) in
-      omega (arith, left-length (orElse (s .first) 0) (orElse (s .second) 32) (signOf at leastInteger ++ ds), digits-most colon)
+      omega (
+        arith,
+        left-length (orElse (s .first) 0) (orElse (s .second) 32) (signOf at leastInteger ++ ds),
+        digits-most colon,
+      )
 
 glyph-most : (colon at : Bool) → cond at 11 (cond colon 2 1) ≤ mostPiece
 glyph-most colon true = omega arith
@@ -92,7 +104,8 @@ fold-most : (at : Bool) → cond at 1 0 ≤ mostPiece
 fold-most true = omega arith
 fold-most false = omega arith
 
-pub piece-most : (longest : ℕ) (f : Form) (colon at : Bool) (s : Settings) (kind : ℕ) → longest ≤ 4096 → Proper f s → Small f s
+pub piece-most : (longest : ℕ) (f : Form) (colon at : Bool) (s : Settings) (kind : ℕ) → longest ≤ 4096 → Proper f s
+    → Small f s
     → worst longest f colon at s kind ≤ mostPiece
 unfolding worst
 piece-most longest (Object q) colon at s kind h p z =
@@ -109,24 +122,29 @@ Turned count (Goes next size) = (next ≤ count) × (size ≤ mostPiece)
 Turned count (Stops code) = (6 ≤ code) × (code ≤ 8)
 
 module _ (kinds : List ℕ) (longest : ℕ) (hl : longest ≤ 4096) where
-  shown-next : {next i after : ℕ} {f : Form} {s : Settings} → Shown (length kinds) next f s i after → next ≤ length kinds → after ≤ length kinds
+  shown-next : {next i after : ℕ} {f : Form} {s : Settings} → Shown (length kinds) next f s i after → next ≤ length kinds
+      → after ≤ length kinds
   shown-next w h = elim (w .how) [ inl e ↦ omega (arith, w .inside) | inr e ↦ omega arith ]
 
-  use-turned : (u : Use) (next : ℕ) → next ≤ length kinds → Within (length kinds) next u → Turned (length kinds) (turnBy kinds longest u)
+  use-turned : (u : Use) (next : ℕ) → next ≤ length kinds → Within (length kinds) next u
+      → Turned (length kinds) (turnBy kinds longest u)
   use-turned (writes text after) next h w = (omega arith, omega arith)
   use-turned (stops code) next h w = w
   use-turned (shows f d s i after) next h w = pick (accepts f (kindIn kinds i))
     where
-      pick : (b : Bool) → Turned (length kinds) (cond b (Goes after (worst longest f (d .colon) (d .at) s (kindIn kinds i))) (Stops 7))
+      pick : (b : Bool)
+          → Turned (length kinds) (cond b (Goes after (worst longest f (d .colon) (d .at) s (kindIn kinds i))) (Stops 7))
       pick true = (shown-next w h, piece-most longest f (d .colon) (d .at) s (kindIn kinds i) hl (w .proper) (w .small))
       pick false = (omega arith, omega arith)
 
-  pub item-turned : (x : Item) → Ordinary x → (next : ℕ) → next ≤ length kinds → Turned (length kinds) (turnOf kinds longest x next)
+  pub item-turned : (x : Item) → Ordinary x → (next : ℕ) → next ≤ length kinds
+      → Turned (length kinds) (turnOf kinds longest x next)
   unfolding turnOf
   item-turned x o next h = use-turned (useOf (length kinds) x next) next h (use-within (length kinds) x next o)
 
   turn-count : (p : ℕ) (t : Turn) (sum more : ℕ) (rest : ℕ → ℕ → Vetted) → Turned (length kinds) t
-      → ((i n : ℕ) → i ≤ length kinds → rest i n .count ≤ n + more) → onTurn kinds longest p t sum rest .count ≤ sum + (mostPiece + more)
+      → ((i n : ℕ) → i ≤ length kinds → rest i n .count ≤ n + more)
+      → onTurn kinds longest p t sum rest .count ≤ sum + (mostPiece + more)
   turn-count p (Goes next size) sum more rest t h = omega (arith, h next (sum + size) (t .0))
   turn-count p (Stops code) sum more rest t h = omega arith
 
@@ -143,9 +161,11 @@ module _ (kinds : List ℕ) (longest : ℕ) (hl : longest ≤ 4096) where
 -- the count of an answer, whatever was asked
 pub vet-count : (format kinds : List ℕ) (longest : ℕ) → vetOf format kinds longest .count ≤ mostCount
 vet-count format kinds longest =
-    stages format kinds longest (λ r. r .count ≤ mostCount) (λ _. omega arith) (λ _ code p e l h. omega arith) (λ _ t p e. omega arith)
+    stages format kinds longest (λ r. r .count ≤ mostCount) (λ _. omega arith) (λ _ code p e l h. omega arith)
+    (λ _ t p e. omega arith)
     (λ r. omega (
       arith,
-      items-count kinds longest (r .asked .long) (tokensAt format 0) (items-ordinary format (r .text) (r .plain)) 0 0 (omega arith),
+      items-count kinds longest (r .asked .long) (tokensAt format 0) (items-ordinary format (r .text) (r .plain)) 0 0
+          (omega arith),
       items-few format (r .text),
     ))

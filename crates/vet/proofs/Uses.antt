@@ -54,7 +54,9 @@ by-test P false x y f g = g refl
 module _ (count : ℕ) (d : Directive) (s : Settings) (next : ℕ) where
   own-within : (f : Form) → Proper f s → Small f s → Within count next (useFrom count f d s next own)
   own-within f p q =
-      by-test (Within count next) (ltb next count) _ _ (λ h. record { inside = ltb-true next count h; proper = p; small = q; how = inl (refl, omega arith) }) (λ _. (omega arith, omega arith))
+      by-test (Within count next) (ltb next count) _ _
+      (λ h. record { inside = ltb-true next count h; proper = p; small = q; how = inl (refl, omega arith) })
+      (λ _. (omega arith, omega arith))
 
   back-within : Within count next (useFrom count Plural d s next back)
   back-within =
@@ -63,10 +65,12 @@ module _ (count : ℕ) (d : Directive) (s : Settings) (next : ℕ) where
       (λ h. let n : next ≡ 0 → ⊥ = eqb-false next 0 z in record { inside = ltb-true (next - 1) count h; proper = tt; small = tt; how = inr (refl, omega arith, refl) })
       (λ _. (omega arith, omega arith)))
 
-  glyph-within : (x : Setting) → Small Glyph s → s .first ≡ x → Within count next (useFrom count Glyph d s next (glyphSource x))
+  glyph-within : (x : Setting) → Small Glyph s → s .first ≡ x
+      → Within count next (useFrom count Glyph d s next (glyphSource x))
   unfolding textOf
   glyph-within Absent q e = own-within Glyph tt q
-  glyph-within (Is n) q e = (refl, (let b : n ≤ 127 = rw e at q in omega (arith, glyph-length (d .colon) (d .at) n (omega arith), glyph-most (d .colon) (d .at))))
+  glyph-within (Is n) q e =
+      (refl, (let b : n ≤ 127 = rw e at q in omega (arith, glyph-length (d .colon) (d .at) n (omega arith), glyph-most (d .colon) (d .at))))
 
   plural-within : (colon : Bool) → Within count next (useFrom count Plural d s next (cond colon back own))
   plural-within true = back-within
@@ -81,10 +85,12 @@ module _ (count : ℕ) (d : Directive) (s : Settings) (next : ℕ) where
   form-within (Repeat b) p z = (refl, omega (arith, length-replicate {A = ℕ} (orElse (s .first) 1) b))
   form-within Fold p z = (refl, fold-most (d .at))
 
-settled-within : (count : ℕ) (d : Directive) (w : Writing d) (next : ℕ) (z : Settled) → Settles (formPlaces (w .form)) next z
+settled-within : (count : ℕ) (d : Directive) (w : Writing d) (next : ℕ) (z : Settled)
+    → Settles (formPlaces (w .form)) next z
     → Within count next (useSettled count (w .form) d z)
 settled-within count d w next (settled ss after) h =
-    rw (h .0) (form-within count d (settingsOf ss) next (w .form) (placed-proper (w .form) ss (w .based) (h .1)) (placed-small (w .form) ss (h .1)))
+    rw (h .0)
+    (form-within count d (settingsOf ss) next (w .form) (placed-proper (w .form) ss (w .based) (h .1)) (placed-small (w .form) ss (h .1)))
 settled-within count d w next (unsettled code) h = h
 
 pub use-within : (count : ℕ) (x : Item) (next : ℕ) → Ordinary x → Within count next (useOf count x next)

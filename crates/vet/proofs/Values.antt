@@ -32,7 +32,8 @@ signed-range bits h =
       | no k ↦ rw (le-ltb bits 9223372036854775808 (omega arith)) (omega arith)
     ]
 
-value-allowed : (longest : ℕ) (pool : List ℕ) (tag high low : ℕ) → (tag ≡ 2 → (high ≡ 0) × (low ≤ 127)) → high < 4294967296 → low < 4294967296
+value-allowed : (longest : ℕ) (pool : List ℕ) (tag high low : ℕ) → (tag ≡ 2 → (high ≡ 0) × (low ≤ 127)) → high < 4294967296
+    → low < 4294967296
     → length (stringIn (valueBy pool tag high low)) ≤ longest → Allowed longest (valueBy pool tag high low)
 unfolding valueBy
 value-allowed longest pool zero high low c hh hl s = tt
@@ -70,7 +71,8 @@ module _ {kinds : List ℕ} {longest : ℕ} {table : List ℕ} (s : Suits kinds 
   unfolding valueAt
   argument-kind i h =
       let e = entryAt table i in
-      value-kind (poolOf table) (e .tag) (e .high) (e .low) (accepted-entry table (s .valid) i (an-entry i h) .tag) ∙ s .tags i h
+      value-kind (poolOf table) (e .tag) (e .high) (e .low) (accepted-entry table (s .valid) i (an-entry i h) .tag) ∙ s
+      .tags i h
 
   -- what a run reads
   pub argument-read : (i : ℕ) → i < length kinds → entryIn (viewOf table) (0 + i) ≡ valueAt table i

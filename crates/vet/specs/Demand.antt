@@ -83,7 +83,8 @@ pub record Causes (format kinds : List ℕ) (longest : ℕ) (r : Vetted) : Type 
       → (r ≡ declined code position) ↔ ((mayAsk kinds longest ≡ true) × (textVerdict format ≡ refusal code position))
   -- 11: the first tilde that is not plain
   pub plain : (position : ℕ) → (r ≡ declined 11 position)
-      ↔ ((mayAsk kinds longest ≡ true) × (textVerdict format ≡ accepted) × (plainVerdict (tokensAt format 0) ≡ refusal 11 position))
+      ↔
+      ((mayAsk kinds longest ≡ true) × (textVerdict format ≡ accepted) × (plainVerdict (tokensAt format 0) ≡ refusal 11 position))
   -- there are no other codes but 0 and 6 to 8, and "a refusal's count is 0"
   pub others : (r ≡ counted (r .count)) ⊎ (((2 ≤ r .code) × (r .code ≤ 8)) ⊎ ((11 ≤ r .code) × (r .code ≤ 12)))
   pub none : (r .code ≡ 0 → ⊥) → r .count ≡ 0
