@@ -18,6 +18,8 @@ pub mod Promise
 pub mod Settling
 pub mod Sizes
 pub mod Stages
+pub mod TurnLaws
 pub mod Uses
 pub mod Values
 pub mod Witness
+pub mod WorstLaws
