@@ -3,14 +3,14 @@
 use Prim.Native.Nat.{ℕ, zero, suc, _+_, _*_, _/_, _%_, _≤_, _<_}
 use mathlib.Core.Path.{_≡_, refl, sym, ap, ap₂, _∙_}
 use mathlib.Core.Bool.{true}
-use mathlib.Core.List.{List, [], _∷_, _++_, append-assoc}
+use mathlib.Core.List.{List, _++_, append-assoc}
 use native.Mathlib.Nat.{zero-add, add-zero}
 use native.Mathlib.Omega.{arith}
 use lib.ListN.{length, length-append, getD, drop, List·getD-append}
 use lib.Seq.{getD-append-add, drop-at}
 use Rattle.rules.specs.Table.{Entry, entryAt, entryPlace, entryCount, argumentCount, poolLength, poolOf, isRight, valueOf, valueAt, tableVerdict}
 use Rattle.rules.specs.declared.Verdict.the-variants.{Accepted}
-use Rattle.rules.proofs.TableLaws.{Sound, sound-accepted}
+use Rattle.rules.proofs.TableLaws.{sound-accepted}
 use Rattle.vet.specs.Encode.{entryBytes, entriesFrom, headerBytes, tableOf}
 use Rattle.vet.proofs.Bytes.{Bytes, bytes-append, bytes-at}
 

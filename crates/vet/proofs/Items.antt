@@ -1,14 +1,13 @@
 -- What the items of a text are: none is an end, a numeral's base is from 2, and they come in order of their positions, no
 -- more of them than bytes. Assumes nothing.
 use Prim.Native.Nat.{ℕ, zero, suc, _+_, _≤_}
-use mathlib.Core.Path.{_≡_, refl}
 use mathlib.Core.Bool.{Bool, true, false, cond, not}
 use mathlib.Core.List.{List, [], _∷_}
 use native.Mathlib.Omega.{arith}
-use lib.Dec.{ltb, leb, eqb}
-use lib.ListN.{length, drop, length-drop}
+use lib.Dec.{leb, eqb}
+use lib.ListN.{length, drop}
 use Rattle.rules.specs.Choice.{both}
-use Rattle.rules.specs.Directive.{lowerCase, codeNamed, codeOf, Reading, start, signed, digits, quote, whole, modifiers, blank, having, closed, Step, goes, bad, ends, modifierStep, afterStep, isDigit, oneMore, digitStep, startStep, step, skipped, going, cutShort, onStep, scan, itemOf}
+use Rattle.rules.specs.Directive.{lowerCase, codeNamed, Reading, start, signed, digits, quote, whole, modifiers, blank, having, closed, Step, goes, bad, ends, modifierStep, afterStep, isDigit, oneMore, digitStep, startStep, step, skipped, going, cutShort, onStep, scan, itemOf}
 use Rattle.rules.specs.Text.{Token, lengthAfter, tokensFrom, tokensAt}
 use Rattle.rules.specs.declared.Code.{Code}
 use Rattle.rules.specs.declared.Code.the-variants.{Writes, Jump, Escape, Conditional, Separator, EndConditional, Iteration, EndIteration, Unknown}

@@ -1,6 +1,6 @@
 -- No piece is longer than the greatest length that the definition gives. Assumes nothing.
 use Prim.Native.Nat.{ℕ, zero, suc, _+_, _*_, _-_, _^_, _≤_, _<_}
-use mathlib.Core.Path.{_≡_, refl, sym, ap, _∙_}
+use mathlib.Core.Path.{_≡_, _∙_}
 use mathlib.Core.Logic.{_⊎_, inl, inr}
 use mathlib.Core.Bool.{Bool, true, false, cond, not}
 use mathlib.Core.List.{List, [], _∷_, _++_}
@@ -18,11 +18,10 @@ use Rattle.rules.specs.Piece.{orElse, nameOf, escaped, writtenOf, decimalOf, ba
 use Rattle.rules.specs.declared.Form.{Form}
 use Rattle.rules.specs.declared.Form.the-variants.{Object, Numeral, Glyph, Plural, Repeat, Fold}
 use Rattle.rules.specs.declared.Settings.{Settings}
-use Rattle.rules.proofs.Tests.{not-both-ways}
 use Rattle.rules.proofs.Digits.{count-pos, count-mono, count-below}
 use Rattle.rules.proofs.Groups.{grouped-mono}
 use Rattle.rules.proofs.Signs.{sign-most}
-use Rattle.vet.specs.Worst.{larger, paddedSize, greatest, Span, span, spansOf, greatestOver, leastInteger, worst}
+use Rattle.vet.specs.Worst.{paddedSize, greatest, Span, span, spansOf, greatestOver, leastInteger, worst}
 use Rattle.vet.proofs.Padding.{larger-left, larger-right, pad-bound}
 use Rattle.vet.proofs.Below.{below, both-left, both-right}
 use Rattle.vet.proofs.Values.{Allowed}

@@ -1,15 +1,14 @@
 -- A vet of a text position by position, as a loop with a sum goes through it: the end, an item that goes on, an item that
 -- stops; and the same of the test for plain. Assumes nothing.
 use Prim.Native.Nat.{ℕ, _+_, _≤_}
-use mathlib.Core.Path.{_≡_, refl, subst}
+use mathlib.Core.Path.{_≡_}
 use mathlib.Core.Bool.{true, false}
 use mathlib.Core.List.{List, [], _∷_}
-use lib.ListN.{length, drop, drop-of-length-le}
-use Rattle.rules.specs.Text.{Token, tokensFrom, tokensAt}
+use lib.ListN.{length, drop-of-length-le}
+use Rattle.rules.specs.Text.{tokensFrom, tokensAt}
 use Rattle.rules.specs.declared.Item.{Item}
 use Rattle.rules.specs.declared.Verdict.the-variants.{Accepted, Refused}
 use Rattle.vet.specs.declared.Turn.the-variants.{Goes, Stops}
-use Rattle.vet.specs.declared.Vetted.{Vetted}
 use Rattle.vet.specs.Plain.{plainItem, plainVerdict}
 use Rattle.vet.specs.Vet.{counted, declined, turnOf, vetFrom}
 use Rattle.vet.proofs.Ordinary.{Ordinary, AllOrdinary}

@@ -1,7 +1,7 @@
 -- What a plain text that is accepted is made of: literal bytes, and well-written directives that write and have no `v`.
 -- Assumes nothing.
-use Prim.Native.Nat.{ℕ, zero, suc, _≤_}
-use mathlib.Core.Path.{_≡_, refl, sym, ap, _∙_}
+use Prim.Native.Nat.{ℕ, suc, _≤_}
+use mathlib.Core.Path.{_≡_, refl}
 use mathlib.Core.Bool.{Bool, true, false, not}
 use mathlib.Core.List.{List, [], _∷_}
 use native.Mathlib.Omega.{arith}
@@ -19,7 +19,7 @@ use Rattle.rules.specs.declared.Item.{Item}
 use Rattle.rules.specs.declared.Item.the-variants.{End, Literal, Written, BadNumber, Unfinished}
 use Rattle.rules.specs.declared.Verdict.{Verdict}
 use Rattle.rules.specs.declared.Verdict.the-variants.{Accepted, Refused}
-use Rattle.rules.proofs.Tests.{both-true, not-both-ways}
+use Rattle.rules.proofs.Tests.{not-both-ways}
 use Rattle.vet.specs.Plain.{plainCode, noneNext, plainItem, plainVerdict}
 use Rattle.vet.proofs.Items.{BasedForm, Based, Readable, Read, tokens-read, tokens-count}
 

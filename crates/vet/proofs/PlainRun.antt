@@ -9,12 +9,11 @@ use lib.Dec.{ltb, eqb}
 use lib.ListN.{length}
 use Rattle.rules.specs.Table.{Value, View, entryIn}
 use Rattle.rules.specs.Directive.{formPlaces, placesOf, either, inOrder}
-use Rattle.rules.specs.Text.{Token, Sequence, acts, Level, innermost, itemBefore, levelsOf}
+use Rattle.rules.specs.Text.{Token, acts, Level, innermost, itemBefore, levelsOf}
 use Rattle.rules.specs.Piece.{textOf, kindOf, accepts}
-use Rattle.rules.specs.Working.{Settled, settled, unsettled, settle, settingsOf, Source, own, back, given, glyphSource, sourceOf}
+use Rattle.rules.specs.Working.{Settled, settled, unsettled, settle, settingsOf, Source, own, back, glyphSource, sourceOf}
 use Rattle.rules.specs.Run.{Flow, done, refused, put, choose, write, writeFrom, onSettled, directiveActs, itemActs, turn, walk, run}
 use Rattle.rules.specs.declared.Code.{Code}
-use Rattle.rules.specs.declared.Code.the-variants.{Writes}
 use Rattle.rules.specs.declared.Directive.{Directive}
 use Rattle.rules.specs.declared.Form.{Form}
 use Rattle.rules.specs.declared.Form.the-variants.{Object, Numeral, Glyph, Plural, Repeat, Fold}
@@ -23,8 +22,8 @@ use Rattle.rules.specs.declared.Item.the-variants.{End, Literal, Written, BadNu
 use Rattle.rules.specs.declared.Setting.{Setting}
 use Rattle.rules.specs.declared.Setting.the-variants.{Absent, Is}
 use Rattle.rules.specs.declared.Settings.{Settings}
-use Rattle.vet.specs.Use.{Use, writes, shows, stops, inHand, noEntries, workedOut, useFrom, useSettled, useCode, useOf}
-use Rattle.vet.proofs.Ordinary.{Writing, Ordinary, AllOrdinary}
+use Rattle.vet.specs.Use.{Use, writes, shows, stops, inHand, workedOut, useFrom, useSettled, useCode, useOf}
+use Rattle.vet.proofs.Ordinary.{Ordinary, AllOrdinary}
 use Rattle.vet.proofs.Settling.{settle-plain}
 
 module _ (v : View) (count : ℕ) where

@@ -1,40 +1,38 @@
 -- Demand 3: the answer that the definition gives keeps its promise over all tables and buffers. Assumes nothing.
-use Prim.Native.Nat.{ℕ, zero, suc, _+_, _≤_, _<_}
+use Prim.Native.Nat.{ℕ, _≤_, _<_}
 use mathlib.Core.Path.{_≡_, refl, sym, ap, _∙_, subst⁻¹}
 use mathlib.Core.Logic.{_⊎_, inl, inr}
-use mathlib.Core.Bool.{Bool, true, false}
-use mathlib.Core.List.{List, [], _∷_}
+use mathlib.Core.List.{List, []}
 use native.Mathlib.Omega.{arith}
-use lib.ListN.{length, getD, replicate, length-replicate}
-use Rattle.rules.specs.Table.{Value, stringIn, Entry, entryAt, valueAt, valueOf, View, viewOf, isRight, argumentCount, tableVerdict}
-use Rattle.rules.specs.Text.{Token, tokensAt, levelsAt, textVerdict}
+use lib.ListN.{length}
+use Rattle.rules.specs.Table.{View, viewOf}
+use Rattle.rules.specs.Text.{Token, tokensAt, levelsAt, sequenceOf, textVerdict}
 use Rattle.rules.specs.Piece.{kindOf}
 use Rattle.rules.specs.Run.{Flow, run}
-use Rattle.rules.specs.Answer.{Answer, fit, flowOf, limit, answerOf}
-use Rattle.rules.specs.declared.Verdict.{Verdict}
-use Rattle.rules.specs.declared.Verdict.the-variants.{Accepted as yes-verdict, Refused as no-verdict}
+use Rattle.rules.specs.Answer.{fit, limit, answerOf}
+use Rattle.rules.specs.declared.Verdict.the-variants.{Accepted as accepted-verdict}
 use Rattle.rules.proofs.ViewLaws.{view-arguments}
 use Rattle.vet.specs.declared.Vetted.{Vetted}
 use Rattle.vet.specs.Plain.{plainVerdict}
 use Rattle.vet.specs.Use.{inHand}
 use Rattle.vet.specs.Vet.{declined, vetFrom, vetOf}
-use Rattle.vet.specs.Demand.{Suits, givenText, bytesBefore, runOf, Formats, Fills, Accepted, roomNeeded, Refused, Promised}
+use Rattle.vet.specs.Demand.{Suits, givenText, runOf, Formats, Accepted, roomNeeded, Refused, Promised}
 use Rattle.vet.proofs.Before.{plain-before}
 use Rattle.vet.proofs.Bound.{Bounded, plain-bounded}
 use Rattle.vet.proofs.Causes.{exact-causes}
 use Rattle.vet.proofs.Codes.{Asked}
 use Rattle.vet.proofs.Filled.{Meets, Filling, plain-filling}
-use Rattle.vet.proofs.Fits.{endCode, endPosition, Ends, fit-all, fit-not}
+use Rattle.vet.proofs.Fits.{Ends, fit-all, fit-not}
 use Rattle.vet.proofs.Items.{tokens-read}
 use Rattle.vet.proofs.Ordinary.{AllOrdinary, items-few, items-ordinary}
-use Rattle.vet.proofs.PlainRun.{valueIn, flowFrom, plain-run}
+use Rattle.vet.proofs.PlainRun.{flowFrom, plain-run}
 use Rattle.vet.proofs.Stages.{stages}
 use Rattle.vet.proofs.Witness.{witness, worth, suited}
 use Rattle.vet.proofs.Values.{Allowed, argument-allowed, argument-kind, argument-read}
 
 -- a plain text that is accepted
 module _ (format kinds : List ℕ) (longest : ℕ)
-    (tv : textVerdict format ≡ yes-verdict) (pv : plainVerdict (tokensAt format 0) ≡ yes-verdict) where
+    (tv : textVerdict format ≡ accepted-verdict) (pv : plainVerdict (tokensAt format 0) ≡ accepted-verdict) where
   abbrev items : List Token
   items = tokensAt format 0
 
@@ -59,7 +57,7 @@ module _ (format kinds : List ℕ) (longest : ℕ)
     unfolding levelsAt
     flow-is =
         let e : view .arguments ≡ count = view-arguments table ∙ s .count in
-        ap (λ (n : ℕ). run view limit (Rattle.rules.specs.Text.sequenceOf format) [] (inHand n 0)) e
+        ap (λ (n : ℕ). run view limit (sequenceOf format) [] (inHand n 0)) e
         ∙ plain-run view count items limit 0 ordinary (omega (arith, items-few format tv))
 
     answer-is : (room : ℕ) → answerOf format table room ≡ fit room [] flow

@@ -1,18 +1,18 @@
 -- The parameters of a directive without `v`: they read no entry and take no argument, are refused only with 8, and are in
 -- their places' ranges. Assumes nothing.
-use Prim.Native.Nat.{ℕ, zero, suc, _-_, _≤_}
+use Prim.Native.Nat.{ℕ, _-_, _≤_}
 use mathlib.Core.Path.{_≡_, refl}
-use mathlib.Core.Bool.{Bool, true, false, cond, not}
+use mathlib.Core.Bool.{Bool, true, false, cond}
 use mathlib.Core.List.{List, [], _∷_}
 use native.Mathlib.Omega.{arith}
 use lib.Dec.{leb}
+use lib.ListN.{length}
 use borrow.Author.Tests.{leb-true}
 use Rattle.rules.specs.Choice.{both}
 use Rattle.rules.specs.Table.{View}
 use Rattle.rules.specs.Directive.{Place, number, character as characterPlace, formPlaces, placesOf, either, suits, inOrder, eachSuits, takes, fitInto, wellWritten}
 use Rattle.rules.specs.Piece.{orElse}
-use Rattle.rules.specs.Working.{Context, Worked, worked, wrong, inRange, fromCount, workOut, Settled, settled, unsettled, afterOne, together, settle, settingsOf}
-use Rattle.rules.specs.declared.Code.the-variants.{Writes}
+use Rattle.rules.specs.Working.{Context, Worked, worked, wrong, fromCount, workOut, Settled, settled, unsettled, afterOne, together, settle, settingsOf}
 use Rattle.rules.specs.declared.Directive.{Directive}
 use Rattle.rules.specs.declared.Form.{Form}
 use Rattle.rules.specs.declared.Form.the-variants.{Object, Numeral, Glyph, Plural, Repeat, Fold}
@@ -22,7 +22,7 @@ use Rattle.rules.specs.declared.Setting.{Setting}
 use Rattle.rules.specs.declared.Setting.the-variants.{Absent, Is}
 use Rattle.rules.specs.declared.Settings.{Settings}
 use Rattle.rules.proofs.Tests.{both-true, not-both-ways}
-use Rattle.vet.specs.Plain.{isNext, noneNext}
+use Rattle.vet.specs.Plain.{noneNext}
 use Rattle.vet.specs.Use.{noEntries}
 use Rattle.vet.proofs.Items.{BasedForm}
 use Rattle.vet.proofs.Lengths.{Proper}
@@ -174,5 +174,5 @@ unfolding wellWritten
 writing-suits d w =
     let fits = both-true (takes (d .code) (d .colon) (d .at)) (fitInto (placesOf (d .code) (either (d .colon) (d .at))) (d .parameters)) (w .written) .1 in
     let there : fitInto (formPlaces (w .form)) (d .parameters) ≡ true = rw (w .code) at fits in
-    both-true (leb (d .parameters .count) (lib.ListN.length (formPlaces (w .form))))
+    both-true (leb (d .parameters .count) (length (formPlaces (w .form))))
     (eachSuits (formPlaces (w .form)) (inOrder (d .parameters))) there .1

@@ -1,17 +1,17 @@
 -- What an ordinary item does with the arguments: a piece reads the next argument, or is a plural of the one before.
 -- Assumes nothing.
-use Prim.Native.Nat.{ℕ, zero, suc, _+_, _-_, _≤_, _<_}
+use Prim.Native.Nat.{ℕ, suc, _-_, _≤_, _<_}
 use mathlib.Core.Path.{_≡_, refl, subst⁻¹}
 use mathlib.Core.Logic.{_⊎_, inl, inr}
 use mathlib.Core.Bool.{Bool, true, false, cond}
-use mathlib.Core.List.{List, [], _∷_}
+use mathlib.Core.List.{[], _∷_}
 use native.Mathlib.Omega.{arith}
 use lib.Dec.{ltb, eqb}
 use borrow.Author.Tests.{ltb-true, eqb-false}
 use lib.ListN.{length, length-replicate}
 use Rattle.rules.specs.Directive.{formPlaces, inOrder}
 use Rattle.rules.specs.Piece.{orElse, textOf}
-use Rattle.rules.specs.Working.{Settled, settled, unsettled, settingsOf, Source, own, back, given, glyphSource, sourceOf}
+use Rattle.rules.specs.Working.{Settled, settled, unsettled, settingsOf, own, back, glyphSource, sourceOf}
 use Rattle.rules.specs.declared.Code.{Code}
 use Rattle.rules.specs.declared.Directive.{Directive}
 use Rattle.rules.specs.declared.Form.{Form}

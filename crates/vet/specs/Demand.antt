@@ -3,13 +3,13 @@ use Prim.Native.Nat.{ℕ, _+_, _≤_, _<_}
 use mathlib.Core.Path.{_≡_}
 use mathlib.Core.Logic.{_↔_, _⊎_}
 use mathlib.Core.Bool.{true, false, cond}
-use mathlib.Core.List.{List, [], _∷_, _++_}
+use mathlib.Core.List.{List, [], _++_}
 use lib.Dec.{ltb}
 use lib.ListN.{length, getD}
 use Rattle.rules.specs.Table.{argumentCount, entryAt, valueAt, stringIn, tableVerdict, viewOf}
 use Rattle.rules.specs.Text.{tokensAt, textVerdict}
 use Rattle.rules.specs.Run.{Flow, done, refused, put}
-use Rattle.rules.specs.Answer.{Answer, flowOf, answerOf}
+use Rattle.rules.specs.Answer.{flowOf, answerOf}
 use Rattle.rules.specs.declared.Verdict.the-variants.{Accepted as accepted, Refused as refusal}
 use Rattle.vet.specs.Plain.{plainVerdict}
 use Rattle.vet.specs.Vet.{mayAsk, declined, counted, kindIn, vetOf}
