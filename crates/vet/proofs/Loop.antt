@@ -9,7 +9,7 @@ use Rattle.rules.specs.Text.{tokensFrom, tokensAt}
 use Rattle.rules.specs.declared.Item.{Item}
 use Rattle.rules.specs.declared.Verdict.the-variants.{Accepted, Refused}
 use Rattle.vet.specs.declared.Turn.the-variants.{Goes, Stops}
-use Rattle.vet.specs.Plain.{plainItem, plainVerdict}
+use Rattle.vet.specs.Plain.{plainItem, plainFrom}
 use Rattle.vet.specs.Vet.{counted, declined, turnOf, vetFrom}
 use Rattle.vet.proofs.Ordinary.{Ordinary, AllOrdinary}
 
@@ -22,13 +22,13 @@ unfolding tokensAt tokensFrom
 no-items t p h = rw (drop-of-length-le t h)
 
 module _ (t : List ℕ) (p q : ℕ) (x : Item) (s : Stands t p x q) where
-  pub plain-on : plainItem x ≡ true → plainVerdict (tokensAt t p) ≡ plainVerdict (tokensAt t q)
-  unfolding plainVerdict
-  plain-on e = rw (s .is, plainVerdict, e)
+  pub plain-on : plainItem x ≡ true → plainFrom (tokensAt t p) ≡ plainFrom (tokensAt t q)
+  unfolding plainFrom
+  plain-on e = rw (s .is, plainFrom, e)
 
-  pub plain-not : plainItem x ≡ false → plainVerdict (tokensAt t p) ≡ Refused 11 p
-  unfolding plainVerdict
-  plain-not e = rw (s .is, plainVerdict, e)
+  pub plain-not : plainItem x ≡ false → plainFrom (tokensAt t p) ≡ Refused 11 p
+  unfolding plainFrom
+  plain-not e = rw (s .is, plainFrom, e)
 
   pub ordinary-here : AllOrdinary (tokensAt t p) → Ordinary x × AllOrdinary (tokensAt t q)
   ordinary-here o = rw (s .is) at o
@@ -44,8 +44,8 @@ module _ (t : List ℕ) (p q : ℕ) (x : Item) (s : Stands t p x q) where
     unfolding vetFrom
     vet-stops code e = rw (s .is, vetFrom, e)
 
-pub plain-end : (t : List ℕ) (p : ℕ) → length t ≤ p → plainVerdict (tokensAt t p) ≡ Accepted
-unfolding plainVerdict
+pub plain-end : (t : List ℕ) (p : ℕ) → length t ≤ p → plainFrom (tokensAt t p) ≡ Accepted
+unfolding plainFrom
 plain-end t p h = rw (no-items t p h)
 
 pub vet-end : (t kinds : List ℕ) (longest p next sum : ℕ) → length t ≤ p

@@ -20,7 +20,7 @@ use Rattle.rules.specs.declared.Item.the-variants.{End, Literal, Written, BadNu
 use Rattle.rules.specs.declared.Verdict.{Verdict}
 use Rattle.rules.specs.declared.Verdict.the-variants.{Accepted, Refused}
 use Rattle.rules.proofs.Tests.{not-both-ways}
-use Rattle.vet.specs.Plain.{plainCode, noneNext, plainItem, plainVerdict}
+use Rattle.vet.specs.Plain.{plainCode, noneNext, plainItem, plainFrom, plainVerdict}
 use Rattle.vet.proofs.Items.{BasedForm, Based, Readable, Read, tokens-read, tokens-count}
 
 -- a directive that writes
@@ -77,12 +77,12 @@ item-ordinary p (Written d) on r k m = directive-ordinary p d on (d .code) refl 
 item-ordinary p BadNumber on r k m = absurd (refused-accepted m)
 item-ordinary p Unfinished on r k m = absurd (refused-accepted m)
 
-all-ordinary : (p : ℕ) (xs : List Token) → Read p xs → verdictOf [] xs ≡ Accepted → plainVerdict xs ≡ Accepted
+all-ordinary : (p : ℕ) (xs : List Token) → Read p xs → verdictOf [] xs ≡ Accepted → plainFrom xs ≡ Accepted
     → AllOrdinary xs
-unfolding verdictOf plainVerdict
+unfolding verdictOf plainFrom
 all-ordinary p [] r v k = tt
 all-ordinary p (x ∷ xs) r v k =
-    let plain = past-test (plainItem (x .item)) 11 (x .at) (λ _. plainVerdict xs) k in
+    let plain = past-test (plainItem (x .item)) 11 (x .at) (λ _. plainFrom xs) k in
     let here = item-ordinary (x .at) (x .item) (λ os. verdictOf os xs) (r .1) (plain .0) v in
     (here .0, all-ordinary (suc (x .at)) xs (r .2) (here .1) (plain .1))
 
@@ -96,5 +96,5 @@ module _ (t : List ℕ) (v : textVerdict t ≡ Accepted) where
   pub items-few : length (tokensAt t 0) ≤ 4096
   items-few = omega (arith, tokens-count t, ltb-false longest (length t) (not-true (ltb longest (length t)) (parts .0)))
 
-  pub items-ordinary : plainVerdict (tokensAt t 0) ≡ Accepted → AllOrdinary (tokensAt t 0)
+  pub items-ordinary : plainVerdict t ≡ Accepted → AllOrdinary (tokensAt t 0)
   items-ordinary k = all-ordinary 0 (tokensAt t 0) (tokens-read t) (parts .1) k

@@ -10,7 +10,7 @@ use Rattle.rules.specs.Text.{tokensFrom, tokensAt, directiveMet, verdictOf, tex
 use Rattle.rules.specs.Piece.{nameOf, timesPadded, textOf}
 use Rattle.rules.specs.Working.{workOut, settle}
 use Rattle.vet.specs.declared.Vetted.{Vetted}
-use Rattle.vet.specs.Plain.{plainItem, plainVerdict}
+use Rattle.vet.specs.Plain.{plainItem, plainFrom}
 use Rattle.vet.specs.Use.{useOf}
 use Rattle.vet.specs.Worst.{larger, topOf, greatest, spansOf, worst}
 use Rattle.vet.specs.Vet.{askedVerdict, counted, declined, turnOf, vetFrom, vetOf}
@@ -38,7 +38,7 @@ the-lines :
     -- `~d item~:p`, integer: 26
     ∷ case (126 ∷ 100 ∷ 32 ∷ 105 ∷ 116 ∷ 101 ∷ 109 ∷ 126 ∷ 58 ∷ 112 ∷ []) (1 ∷ []) 0 (counted 26)
     ∷ [])
-unfolding digitsWith digitsOf grouped splits padLeft codeNamed step blanks scan itemOf wellWritten tokensFrom tokensAt directiveMet verdictOf textVerdict nameOf timesPadded textOf workOut settle plainItem plainVerdict useOf larger topOf greatest spansOf worst askedVerdict turnOf vetFrom vetOf
+unfolding digitsWith digitsOf grouped splits padLeft codeNamed step blanks scan itemOf wellWritten tokensFrom tokensAt directiveMet verdictOf textVerdict nameOf timesPadded textOf workOut settle plainItem plainFrom useOf larger topOf greatest spansOf worst askedVerdict turnOf vetFrom vetOf
 the-lines = refl
 
 -- a count for each directive, with its modifiers and with parameters
@@ -83,7 +83,7 @@ counts :
     -- `~a~a~#%`, boolean, boolean, list, list: 6
     ∷ case (126 ∷ 97 ∷ 126 ∷ 97 ∷ 126 ∷ 35 ∷ 37 ∷ []) (0 ∷ 0 ∷ 4 ∷ 4 ∷ []) 0 (counted 6)
     ∷ [])
-unfolding digitsWith digitsOf grouped splits padLeft codeNamed step blanks scan itemOf wellWritten tokensFrom tokensAt directiveMet verdictOf textVerdict nameOf timesPadded textOf workOut settle plainItem plainVerdict useOf larger topOf greatest spansOf worst askedVerdict turnOf vetFrom vetOf
+unfolding digitsWith digitsOf grouped splits padLeft codeNamed step blanks scan itemOf wellWritten tokensFrom tokensAt directiveMet verdictOf textVerdict nameOf timesPadded textOf workOut settle plainItem plainFrom useOf larger topOf greatest spansOf worst askedVerdict turnOf vetFrom vetOf
 counts = refl
 
 -- a refusal for each code, and what comes first where there are several
@@ -132,5 +132,5 @@ refusals :
     -- a format of 4,097 bytes: code 2 at 4,096
     ∷ case (replicate 4097 97) [] 0 (declined 2 4096)
     ∷ [])
-unfolding digitsWith digitsOf grouped splits padLeft codeNamed step blanks scan itemOf wellWritten tokensFrom tokensAt directiveMet verdictOf textVerdict nameOf timesPadded textOf workOut settle plainItem plainVerdict useOf larger topOf greatest spansOf worst askedVerdict turnOf vetFrom vetOf
+unfolding digitsWith digitsOf grouped splits padLeft codeNamed step blanks scan itemOf wellWritten tokensFrom tokensAt directiveMet verdictOf textVerdict nameOf timesPadded textOf workOut settle plainItem plainFrom useOf larger topOf greatest spansOf worst askedVerdict turnOf vetFrom vetOf
 refusals = refl
