@@ -14,14 +14,14 @@ use Rattle.vet.specs.Vet.{counted, declined, turnOf, vetFrom}
 use Rattle.vet.proofs.Ordinary.{Ordinary, AllOrdinary}
 
 -- item x stands at p, and the text goes on at q
-pub record Stands (t : List ℕ) (p : ℕ) (x : Item) (q : ℕ) : Type 0 where
+pub record Follows (t : List ℕ) (p : ℕ) (x : Item) (q : ℕ) : Type 0 where
   pub is : tokensAt t p ≡ record { at = p; item = x } ∷ tokensAt t q
 
 no-items : (t : List ℕ) (p : ℕ) → length t ≤ p → tokensAt t p ≡ []
 unfolding tokensAt tokensFrom
 no-items t p h = rw (drop-of-length-le t h)
 
-module _ (t : List ℕ) (p q : ℕ) (x : Item) (s : Stands t p x q) where
+module _ (t : List ℕ) (p q : ℕ) (x : Item) (s : Follows t p x q) where
   pub plain-on : plainItem x ≡ true → plainFrom (tokensAt t p) ≡ plainFrom (tokensAt t q)
   unfolding plainFrom
   plain-on e = rw (s .is, plainFrom, e)

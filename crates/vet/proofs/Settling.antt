@@ -26,7 +26,7 @@ use Rattle.vet.specs.Plain.{noneNext}
 use Rattle.vet.specs.Use.{noEntries}
 use Rattle.vet.proofs.Items.{BasedForm}
 use Rattle.vet.proofs.Lengths.{Proper}
-use Rattle.vet.proofs.Ordinary.{Writing}
+use Rattle.vet.proofs.Ordinary.{PlainDirective}
 
 -- no entry is read
 same-after : (w : Worked) (k l : Setting → ℕ → Settled) → ((s : Setting) (n : ℕ) → k s n ≡ l s n)
@@ -169,9 +169,9 @@ placed-small (Repeat b) (x ∷ ss) p = to-most 0 4096 1 x (omega arith) (p .0)
 placed-small Fold ss p = tt
 
 -- a well-written directive's parameters suit its places
-pub writing-suits : (d : Directive) (w : Writing d) → eachSuits (formPlaces (w .form)) (inOrder (d .parameters)) ≡ true
+pub directive-suits : (d : Directive) (w : PlainDirective d) → eachSuits (formPlaces (w .form)) (inOrder (d .parameters)) ≡ true
 unfolding wellWritten
-writing-suits d w =
+directive-suits d w =
     let fits = both-true (takes (d .code) (d .colon) (d .at)) (fitInto (placesOf (d .code) (either (d .colon) (d .at))) (d .parameters)) (w .written) .1 in
     let there : fitInto (formPlaces (w .form)) (d .parameters) ≡ true = rw (w .code) at fits in
     both-true (leb (d .parameters .count) (length (formPlaces (w .form))))
