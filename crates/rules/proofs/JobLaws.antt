@@ -11,7 +11,7 @@ use lib.Seq.{take-suc}
 use borrow.Author.Tests.{le-ltb}
 use Rattle.rules.specs.Answer.{Answer, answerOf}
 use Rattle.rules.specs.Choice.{both}
-use Rattle.rules.specs.Job.{digitValue, isDigit, inPairs, bytesOf, formatIn, tableIn, isWhole, hexOf, numbersOf, answerBytes, ifFrame, jobRoom, answerFrame, answerLine}
+use Rattle.rules.specs.Job.{digitValue, isHexDigit, inPairs, frameOf, formatIn, tableIn, isWhole, hexOf, numbersOf, answerBytes, ifFrame, jobRoom, answerFrame, answerLine}
 use Rattle.rules.specs.Number.{digitByte}
 use Rattle.rules.proofs.AnswerBounds.{answer-within}
 
@@ -20,12 +20,12 @@ both-false true = refl
 both-false false = refl
 
 -- an odd number of digits
-pub odd-pairs : (l : List ℕ) → (length l ≡ 2 * (length l / 2) → ⊥) → inPairs l ≡ false
+pub odd-pairs : (l : List ℕ) → (length l % 2 ≡ 0 → ⊥) → inPairs l ≡ false
 unfolding inPairs
 odd-pairs [] h = absurd (h refl)
 odd-pairs (x ∷ []) h = refl
 odd-pairs (x ∷ y ∷ more) h =
-    rw (odd-pairs more (λ e. h (omega (arith, e)))) (both-false (both (isDigit x) (isDigit y)))
+    rw (odd-pairs more (λ e. h (omega (arith, e)))) (both-false (both (isHexDigit x) (isHexDigit y)))
 
 -- another digit, as the first or the second of a pair
 module _ (x y : ℕ) (more : List ℕ) where
@@ -35,7 +35,7 @@ module _ (x y : ℕ) (more : List ℕ) where
 
   pub second-other : 16 ≤ digitValue y → inPairs (x ∷ y ∷ more) ≡ false
   unfolding inPairs
-  second-other h = rw (le-ltb (digitValue y) 16 h, both-false (isDigit x))
+  second-other h = rw (le-ltb (digitValue y) 16 h, both-false (isHexDigit x))
 
 -- two digits to a byte
 pub hex-length : (bs : List ℕ) → length (hexOf bs) ≡ 2 * length bs
@@ -53,7 +53,7 @@ pub hex-next : (bs : List ℕ) (k : ℕ) → k < length bs
 unfolding hexOf
 hex-next bs k h = rw (add-one, take-suc bs k 0 h) (hex-append (take k bs) (getD bs k 0 ∷ []))
 
--- the longest answer: 13 bytes of numbers and a text that fills the room, two digits to each
+-- the longest-answer answer: 13 bytes of numbers and a text that fills the room, two digits to each
 if-frame-short : (n : ℕ) (b : Bool) (on : Bool → List ℕ) → 2 ≤ n → length (on true) ≤ n → length (ifFrame b on) ≤ n
 if-frame-short n true on small h = h
 if-frame-short n false on small h = small
@@ -68,10 +68,10 @@ unfolding answerFrame
 frame-short frame =
     let a : Answer = answerOf (formatIn frame) (tableIn frame) jobRoom in
     if-frame-short 32794 (isWhole frame) (λ _. hexOf (answerBytes a)) (omega arith)
-    (answer-short a (answer-within (formatIn frame) (tableIn frame) jobRoom .text-fits))
+    (answer-short a (answer-within (formatIn frame) (tableIn frame) jobRoom .text-in-room))
 
 pub line-short : (line : List ℕ) → length (answerLine line) ≤ 32794
 unfolding answerLine
 line-short line =
-    if-frame-short 32794 (leb (length line) 65535) (λ _. ifFrame (inPairs line) (λ _. answerFrame (bytesOf line))) (omega arith)
-    (if-frame-short 32794 (inPairs line) (λ _. answerFrame (bytesOf line)) (omega arith) (frame-short (bytesOf line)))
+    if-frame-short 32794 (leb (length line) 65535) (λ _. ifFrame (inPairs line) (λ _. answerFrame (frameOf line))) (omega arith)
+    (if-frame-short 32794 (inPairs line) (λ _. answerFrame (frameOf line)) (omega arith) (frame-short (frameOf line)))
