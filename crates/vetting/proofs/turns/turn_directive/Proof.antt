@@ -1,0 +1,25 @@
+use borrow.Author.Needs.{needs}
+use Rattle.vetting.proofs.turns.turn_directive.Statement.{statement}
+use Rattle.vetting.proofs.turns.turn_directive.Tie as tie
+use Rattle.vetting.proofs.turns.turn_directive.Reads as reads
+use Rattle.vetting.proofs.turns.turn_directive.Lts as lts
+use Rattle.vetting.proofs.turns.turn_form.Reads as turn-form-reads
+
+-- src/turns.rt:209:22
+enum-known-code : tie.Need-enum-known-code
+enum-known-code c = search needs
+
+-- src/turns.rt:209:31
+turn-form-requires : tie.Need-turn-form-requires
+turn-form-requires c κs = ?
+
+-- src/turns.rt:201:1
+returns : tie.Need-returns
+returns c = search needs
+
+-- src/turns.rt:201:1
+returns-2 : tie.Need-returns-2
+returns-2 c = ?
+
+pub turn-directive-spec : {M : Type 1} → statement M
+turn-directive-spec = tie.close (tie.spec enum-known-code turn-form-requires returns returns-2)

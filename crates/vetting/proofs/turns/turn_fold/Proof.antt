@@ -1,0 +1,15 @@
+use Rattle.vetting.proofs.turns.turn_fold.Statement.{statement}
+use Rattle.vetting.proofs.turns.turn_fold.Tie as tie
+use Rattle.vetting.proofs.turns.turn_fold.Reads as reads
+use Rattle.vetting.proofs.turns.turn_fold.Lts as lts
+
+-- src/turns.rt:179:9
+returns : tie.Need-returns
+returns c = ?
+
+-- src/turns.rt:174:1
+returns-2 : tie.Need-returns-2
+returns-2 c = ?
+
+pub turn-fold-spec : {M : Type 1} → statement M
+turn-fold-spec = tie.close (tie.spec returns returns-2)

@@ -1,0 +1,106 @@
+use borrow.Author.Needs.{needs}
+use Rattle.vetting.proofs.turns.turn_form.Statement.{statement}
+use Rattle.vetting.proofs.turns.turn_form.Tie as tie
+use Rattle.vetting.proofs.turns.turn_form.Reads as reads
+use Rattle.vetting.proofs.turns.turn_form.Lts as lts
+use Rattle.vetting.proofs.turns.turn_fold.Reads as turn-fold-reads
+use Rattle.vetting.proofs.turns.turn_glyph.Reads as turn-glyph-reads
+use Rattle.vetting.proofs.turns.turn_numeral.Reads as turn-numeral-reads
+use Rattle.vetting.proofs.turns.turn_object.Reads as turn-object-reads
+use Rattle.vetting.proofs.turns.turn_plural.Reads as turn-plural-reads
+use Rattle.vetting.proofs.turns.turn_repeat.Reads as turn-repeat-reads
+
+-- src/turns.rt:191:22
+enum-known-form : tie.Need-enum-known-form
+enum-known-form c = search needs
+
+-- src/turns.rt:191:33
+turn-object-requires : tie.Need-turn-object-requires
+turn-object-requires c κs = ?
+
+-- src/turns.rt:192:23
+enum-known-form-2 : tie.Need-enum-known-form-2
+enum-known-form-2 c = search needs
+
+-- src/turns.rt:192:32
+turn-numeral-requires : tie.Need-turn-numeral-requires
+turn-numeral-requires c κs = ?
+
+-- src/turns.rt:193:24
+enum-told : tie.Need-enum-told
+enum-told c = search needs
+
+-- src/turns.rt:193:24
+turn-glyph-requires : tie.Need-turn-glyph-requires
+turn-glyph-requires c κs = ?
+
+-- src/turns.rt:194:25
+enum-told-2 : tie.Need-enum-told-2
+enum-told-2 c = search needs
+
+-- src/turns.rt:194:25
+turn-plural-requires : tie.Need-turn-plural-requires
+turn-plural-requires c κs = ?
+
+-- src/turns.rt:195:28
+enum-told-3 : tie.Need-enum-told-3
+enum-told-3 c = search needs
+
+-- src/turns.rt:195:28
+turn-repeat-requires : tie.Need-turn-repeat-requires
+turn-repeat-requires c κs = ?
+
+-- src/turns.rt:196:23
+enum-told-4 : tie.Need-enum-told-4
+enum-told-4 c = search needs
+
+-- src/turns.rt:196:23
+turn-fold-requires : tie.Need-turn-fold-requires
+turn-fold-requires c κs = ?
+
+-- src/turns.rt:184:1
+returns : tie.Need-returns
+returns c = search needs
+
+-- src/turns.rt:184:1
+returns-2 : tie.Need-returns-2
+returns-2 c = ?
+
+-- src/turns.rt:184:1
+returns-3 : tie.Need-returns-3
+returns-3 c = ?
+
+-- src/turns.rt:184:1
+returns-4 : tie.Need-returns-4
+returns-4 c = ?
+
+-- src/turns.rt:184:1
+returns-5 : tie.Need-returns-5
+returns-5 c = ?
+
+-- src/turns.rt:184:1
+returns-6 : tie.Need-returns-6
+returns-6 c = ?
+
+pub turn-form-spec : {M : Type 1} → statement M
+turn-form-spec =
+    tie.close
+    (tie.spec
+    enum-known-form
+    turn-object-requires
+    enum-known-form-2
+    turn-numeral-requires
+    enum-told
+    turn-glyph-requires
+    enum-told-2
+    turn-plural-requires
+    enum-told-3
+    turn-repeat-requires
+    enum-told-4
+    turn-fold-requires
+    returns
+    returns-2
+    returns-3
+    returns-4
+    returns-5
+    returns-6)

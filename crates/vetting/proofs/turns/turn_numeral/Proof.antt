@@ -1,0 +1,62 @@
+use borrow.Author.Needs.{needs}
+use Rattle.vetting.proofs.turns.turn_numeral.Statement.{statement}
+use Rattle.vetting.proofs.turns.turn_numeral.Tie as tie
+use Rattle.vetting.proofs.turns.turn_numeral.Reads as reads
+use Rattle.vetting.proofs.turns.turn_numeral.Lts as lts
+use Rattle.vetting.proofs.lengths.worst_numeral.Reads as worst-numeral-reads
+use Rattle.vetting.proofs.settings.number_of.Reads as number-of-reads
+
+-- src/turns.rt:82:21
+sub-remaining : tie.Need-sub-remaining
+sub-remaining c = search needs
+
+-- src/turns.rt:83:9
+number-of-requires : tie.Need-number-of-requires
+number-of-requires c κs = search needs
+
+-- src/turns.rt:84:9
+number-of-requires-2 : tie.Need-number-of-requires-2
+number-of-requires-2 c κs = search needs
+
+-- src/turns.rt:86:9
+returns : tie.Need-returns
+returns c = ?
+
+-- src/turns.rt:89:9
+returns-2 : tie.Need-returns-2
+returns-2 c = ?
+
+-- src/turns.rt:91:16
+shared-slice-read-kind : tie.Need-shared-slice-read-kind
+shared-slice-read-kind c = search needs
+
+-- src/turns.rt:94:19
+add-t16 : tie.Need-add-t16
+add-t16 c = search needs
+
+-- src/turns.rt:95:19
+worst-numeral-requires : tie.Need-worst-numeral-requires
+worst-numeral-requires c κs = search needs
+
+-- src/turns.rt:93:9
+returns-3 : tie.Need-returns-3
+returns-3 c = ?
+
+-- src/turns.rt:73:1
+returns-4 : tie.Need-returns-4
+returns-4 c = ?
+
+pub turn-numeral-spec : {M : Type 1} → statement M
+turn-numeral-spec =
+    tie.close
+    (tie.spec
+    sub-remaining
+    number-of-requires
+    number-of-requires-2
+    returns
+    returns-2
+    shared-slice-read-kind
+    add-t16
+    worst-numeral-requires
+    returns-3
+    returns-4)

@@ -1,0 +1,34 @@
+use borrow.Author.Needs.{needs}
+use Rattle.vetting.proofs.turns.turn_plural.Statement.{statement}
+use Rattle.vetting.proofs.turns.turn_plural.Tie as tie
+use Rattle.vetting.proofs.turns.turn_plural.Reads as reads
+use Rattle.vetting.proofs.turns.turn_plural.Lts as lts
+use Rattle.vetting.proofs.lengths.worst_plural.Reads as worst-plural-reads
+
+-- src/turns.rt:142:9
+worst-plural-requires : tie.Need-worst-plural-requires
+worst-plural-requires c κs = search needs
+
+-- src/turns.rt:145:13
+returns : tie.Need-returns
+returns c = ?
+
+-- src/turns.rt:147:9
+returns-2 : tie.Need-returns-2
+returns-2 c = ?
+
+-- src/turns.rt:150:9
+returns-3 : tie.Need-returns-3
+returns-3 c = ?
+
+-- src/turns.rt:153:15
+add-t7 : tie.Need-add-t7
+add-t7 c = search needs
+
+-- src/turns.rt:137:1
+returns-4 : tie.Need-returns-4
+returns-4 c = ?
+
+pub turn-plural-spec : {M : Type 1} → statement M
+turn-plural-spec =
+    tie.close (tie.spec worst-plural-requires returns returns-2 returns-3 add-t7 returns-4)
