@@ -1,17 +1,19 @@
 -- Where a text goes on after an item, and what an item is to the test for plain. Assumes nothing.
 use Prim.Native.Nat.{ℕ, _+_, _≤_, _<_}
 use mathlib.Core.Path.{_≡_, refl, sym, ap, _∙_}
-use mathlib.Core.Bool.{Bool, true, false}
+use mathlib.Core.Bool.{Bool, true, false, not}
 use mathlib.Core.List.{List}
 use native.Mathlib.Omega.{arith}
 use lib.ListN.{length}
-use Rattle.rules.specs.Directive.{itemAt}
+use Rattle.rules.specs.Choice.{both}
+use Rattle.rules.specs.Directive.{inOrder, itemAt}
 use Rattle.rules.specs.Text.{tokensAt}
+use Rattle.rules.specs.declared.Directive.{Directive}
 use Rattle.rules.specs.declared.Item.{Item}
 use Rattle.rules.specs.declared.Item.the-variants.{End, Literal, Written, BadNumber, Unfinished}
 use Rattle.rules.specs.declared.Verdict.the-variants.{Accepted, Refused}
 use Rattle.rules.proofs.TextLaws.{placeAfter, Stands, stands, tokens-is}
-use Rattle.vet.specs.Plain.{plainItem, plainFrom, plainVerdict}
+use Rattle.vet.specs.Plain.{plainCode, isNext, noneNext, plainItem, plainFrom, plainVerdict}
 use Rattle.vet.proofs.Loop.{Follows, plain-on, plain-not, plain-end}
 
 -- the text goes on after the item's first byte, inside the text
@@ -54,3 +56,16 @@ module _ {t : List ℕ} {p : ℕ} (l : PlainTo t p) where
       inside = goes-later t p q i h is f .inside;
       rest = l .rest ∙ plain-on t p q i (follows t p q i h is f) (sym test ∙ e);
     }
+
+both-end : (b : Bool) → both b true ≡ b
+both-end true = refl
+both-end false = refl
+
+-- a directive, from the tests of its code and of its four parameters
+pub directive-plain : (d : Directive) {k a b c e last more all r : Bool} → k ≡ plainCode (d .code)
+    → a ≡ not (isNext (d .parameters .first)) → b ≡ not (isNext (d .parameters .second))
+    → c ≡ not (isNext (d .parameters .third)) → e ≡ not (isNext (d .parameters .fourth))
+    → last ≡ both c e → more ≡ both b last → all ≡ both a more → r ≡ both k all
+    → r ≡ both (plainCode (d .code)) (noneNext (inOrder (d .parameters)))
+directive-plain d {k} {a} {b} {c} {e} ek ea eb ec ee el em en er =
+    er ∙ rw (en, em, el, ← ek, ← ea, ← eb, ← ec, ← ee) (ap (λ (x : Bool). both k (both a (both b (both c x)))) (sym (both-end e)))

@@ -1,3 +1,4 @@
+use borrow.Author.Tests.{not-true, not-false}
 use Rattle.vetting.proofs.Names.{glyph-written, glyph-byte, glyph-control, glyph-other}
 use native.Mathlib.Omega.{arith}
 use borrow.Author.Needs.{needs}
@@ -21,15 +22,15 @@ returns c = glyph-written (c .before .before .args .colon) (c .before .before .a
 
 -- src/lengths.rt:157:9
 returns-2 : tie.Need-returns-2
-returns-2 c = glyph-byte (c .before .before .args .colon) (c .before .before .args .at) (c .before .before .args .code) (c .before .if1 .left) (c .if2 .taken)
+returns-2 c = glyph-byte (c .before .before .args .colon) (c .before .before .args .at) (c .before .before .args .code) (c .before .if1 .left) (not-true _ (c .if2 .taken))
 
 -- src/lengths.rt:150:1
 returns-3 : tie.Need-returns-3
-returns-3 c = glyph-control (c .before .before .before .args .colon) (c .before .before .before .args .at) (c .before .before .before .args .code) (c .before .before .if1 .left) (c .before .if2 .left) (c .if3 .taken)
+returns-3 c = glyph-control (c .before .before .before .args .colon) (c .before .before .before .args .at) (c .before .before .before .args .code) (c .before .before .if1 .left) (not-false _ (c .before .if2 .left)) (c .if3 .taken)
 
 -- src/lengths.rt:150:1
 returns-4 : tie.Need-returns-4
-returns-4 c = glyph-other (c .before .before .before .args .colon) (c .before .before .before .args .at) (c .before .before .before .args .code) (c .before .before .if1 .left) (c .before .if2 .left) (c .if3 .left)
+returns-4 c = glyph-other (c .before .before .before .args .colon) (c .before .before .before .args .at) (c .before .before .before .args .code) (c .before .before .if1 .left) (not-false _ (c .before .if2 .left)) (c .if3 .left)
 
 pub glyph-size-spec : {M : Type 1} → statement M
 glyph-size-spec =

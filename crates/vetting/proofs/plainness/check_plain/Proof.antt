@@ -1,3 +1,4 @@
+use borrow.Author.Tests.{not-true, not-false}
 use Rattle.vetting.proofs.Places.{PlainTo, plain-start, plain-done, plain-refused, plain-more, goes-later}
 use lib.ListN.{length}
 use Prim.Native.Nat.{_-_}
@@ -34,7 +35,7 @@ is-plain-requires c κs = search needs
 
 -- src/plainness.rt:102:13
 returns : tie.Need-returns Inv-loop μ-loop
-returns c = plain-refused (c .before .before .before .before .loop .inv) (c .before .before .item-at .result) (c .before .before .before .loop-test .taken) (c .before .before .item-at .ensures) (c .before .is-plain .result) (c .before .is-plain .ensures) (c .if1 .taken)
+returns c = plain-refused (c .before .before .before .before .loop .inv) (c .before .before .item-at .result) (c .before .before .before .loop-test .taken) (c .before .before .item-at .ensures) (c .before .is-plain .result) (c .before .is-plain .ensures) (not-true _ (c .if1 .taken))
 
 -- src/plainness.rt:107:9
 place-after-requires : tie.Need-place-after-requires Inv-loop μ-loop
@@ -48,7 +49,7 @@ loop-less c =
 
 -- src/plainness.rt:99:5
 loop-again : tie.Need-loop-again Inv-loop μ-loop
-loop-again c = plain-more (c .before .before .before .before .before .loop .inv) (c .before .before .before .item-at .result) (c .before .before .before .before .loop-test .taken) (c .before .before .before .item-at .ensures) (c .before .before .is-plain .result) (c .before .before .is-plain .ensures) (c .before .if1 .left) (c .place-after .result) (c .place-after .ensures)
+loop-again c = plain-more (c .before .before .before .before .before .loop .inv) (c .before .before .before .item-at .result) (c .before .before .before .before .loop-test .taken) (c .before .before .before .item-at .ensures) (c .before .before .is-plain .result) (c .before .before .is-plain .ensures) (not-false _ (c .before .if1 .left)) (c .place-after .result) (c .place-after .ensures)
 
 -- src/plainness.rt:95:1
 returns-2 : tie.Need-returns-2 Inv-loop μ-loop

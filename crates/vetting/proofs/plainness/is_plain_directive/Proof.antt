@@ -1,3 +1,4 @@
+use Rattle.vetting.proofs.Places.{directive-plain}
 use borrow.Author.Needs.{needs}
 use Rattle.vetting.proofs.plainness.is_plain_directive.Statement.{statement}
 use Rattle.vetting.proofs.plainness.is_plain_directive.Tie as tie
@@ -45,7 +46,7 @@ both-requires-4 c κs = search needs
 
 -- src/plainness.rt:54:1
 returns : tie.Need-returns
-returns c = cc
+returns c = directive-plain (c .before .before .before .before .before .before .before .before .before .before .args .d) (c .before .is-plain-code .ensures) (c .before .before .before .before .before .is-fixed3 .ensures) (c .before .before .before .before .is-fixed4 .ensures) (c .before .before .before .before .before .before .before .before .is-fixed .ensures) (c .before .before .before .before .before .before .before .is-fixed2 .ensures) (c .before .before .before .before .before .before .both .ensures) (c .before .before .before .both2 .ensures) (c .before .before .both3 .ensures) (c .both4 .ensures)
 
 pub is-plain-directive-spec : {M : Type 1} → statement M
 is-plain-directive-spec =

@@ -1,3 +1,5 @@
+use Rattle.vetting.proofs.TurnBy.{writing-of, other-code}
+use mathlib.Core.Path.{refl}
 use borrow.Author.Needs.{needs}
 use Rattle.vetting.proofs.turns.turn_directive.Statement.{statement}
 use Rattle.vetting.proofs.turns.turn_directive.Tie as tie
@@ -11,7 +13,7 @@ enum-known-code c = search needs
 
 -- src/turns.rt:209:31
 turn-form-requires : tie.Need-turn-form-requires
-turn-form-requires c κs = ?
+turn-form-requires c κs = (writing-of (c .before .before .before .before .args .d) ((c .before .before .before .before .pre .0)) _ (c .before .code .given .1), ((c .before .before .before .before .pre .1 .0), (c .before .before .before .before .pre .1 .1)))
 
 -- src/turns.rt:201:1
 returns : tie.Need-returns
@@ -19,7 +21,7 @@ returns c = search needs
 
 -- src/turns.rt:201:1
 returns-2 : tie.Need-returns-2
-returns-2 c = ?
+returns-2 c = other-code (c .before .before .args .kinds .now) (c .before .before .args .longest) (c .before .before .args .next) (c .before .before .args .d) ((c .before .before .pre .0)) _ refl (c .match .keys2)
 
 pub turn-directive-spec : {M : Type 1} → statement M
 turn-directive-spec = tie.close (tie.spec enum-known-code turn-form-requires returns returns-2)

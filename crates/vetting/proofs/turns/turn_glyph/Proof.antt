@@ -1,3 +1,5 @@
+use Rattle.vetting.proofs.TurnBy.{glyph-range, glyph-given, glyph-none, glyph-wrong, glyph-goes}
+use mathlib.Core.Path.{refl}
 use borrow.Author.Needs.{needs}
 use Rattle.vetting.proofs.turns.turn_glyph.Statement.{statement}
 use Rattle.vetting.proofs.turns.turn_glyph.Tie as tie
@@ -21,7 +23,7 @@ enum-known-setting c = search needs
 
 -- src/turns.rt:113:17
 returns : tie.Need-returns
-returns c = ?
+returns c = glyph-range (c .before .before .before .before .before .before .before .args .kinds .now) (c .before .before .before .before .before .before .before .args .d) (c .before .before .before .before .before .before .before .args .next) _ refl ((c .before .before .before .before .before .before .before .pre .0)) (c .before .before .before .before .setting-of .ensures) _ (c .before .before .setting .given .1) (c .if1 .taken)
 
 -- src/turns.rt:117:23
 glyph-size-requires : tie.Need-glyph-size-requires
@@ -33,7 +35,7 @@ enum-told c = search needs
 
 -- src/turns.rt:122:17
 returns-2 : tie.Need-returns-2
-returns-2 c = ?
+returns-2 c = glyph-none (c .before .before .before .before .before .before .args .kinds .now) (c .before .before .before .before .before .before .args .d) (c .before .before .before .before .before .before .args .next) _ refl ((c .before .before .before .before .before .before .pre .0)) (c .before .before .before .setting-of .ensures) (c .before .enum-told .given .1) (c .if2 .taken)
 
 -- src/turns.rt:124:24
 shared-slice-read-kind : tie.Need-shared-slice-read-kind
@@ -49,15 +51,15 @@ worst-glyph-requires c κs = search needs
 
 -- src/turns.rt:126:17
 returns-3 : tie.Need-returns-3
-returns-3 c = ?
+returns-3 c = glyph-goes (c .before .before .before .before .before .before .before .before .before .args .kinds .now) (c .before .before .before .before .before .before .before .before .before .args .d) (c .before .before .before .before .before .before .before .before .before .args .next) _ refl ((c .before .before .before .before .before .before .before .before .before .pre .0)) (c .before .before .before .before .before .before .setting-of .ensures) (c .before .before .before .before .enum-told .given .1) (c .before .before .before .if2 .left) (c .before .if3 .taken) (c .worst-glyph .result) (c .worst-glyph .ensures)
 
 -- src/turns.rt:102:1
 returns-4 : tie.Need-returns-4
-returns-4 c = ?
+returns-4 c = glyph-given (c .before .before .before .before .before .before .before .before .args .kinds .now) (c .before .before .before .before .before .before .before .before .args .d) (c .before .before .before .before .before .before .before .before .args .next) _ refl ((c .before .before .before .before .before .before .before .before .pre .0)) (c .before .before .before .before .before .setting-of .ensures) _ (c .before .before .before .setting .given .1) (c .before .if1 .left) (c .glyph-size .result) (c .glyph-size .ensures)
 
 -- src/turns.rt:102:1
 returns-5 : tie.Need-returns-5
-returns-5 c = ?
+returns-5 c = glyph-wrong (c .before .before .before .before .before .before .before .before .args .kinds .now) (c .before .before .before .before .before .before .before .before .args .d) (c .before .before .before .before .before .before .before .before .args .next) _ refl ((c .before .before .before .before .before .before .before .before .pre .0)) (c .before .before .before .before .before .setting-of .ensures) (c .before .before .before .enum-told .given .1) (c .before .before .if2 .left) (c .if3 .left)
 
 pub turn-glyph-spec : {M : Type 1} → statement M
 turn-glyph-spec =

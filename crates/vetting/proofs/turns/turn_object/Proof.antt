@@ -1,3 +1,6 @@
+use Rattle.vetting.proofs.TurnBy.{object-sizing, object-range, object-none, object-wrong, object-goes}
+use native.Mathlib.Omega.{arith}
+use mathlib.Core.Path.{refl}
 use borrow.Author.Needs.{needs}
 use Rattle.vetting.proofs.turns.turn_object.Statement.{statement}
 use Rattle.vetting.proofs.turns.turn_object.Tie as tie
@@ -24,11 +27,11 @@ number-of-requires-3 c κs = search needs
 
 -- src/turns.rt:57:9
 returns : tie.Need-returns
-returns c = ?
+returns c = object-range (c .before .before .before .before .before .before .args .kinds .now) (c .before .before .before .before .before .before .args .d) (c .before .before .before .before .before .before .args .next) _ refl (c .before .before .before .before .before .before .args .longest) (c .before .before .before .before .before .before .args .quoted) ((c .before .before .before .before .before .before .pre .0)) ((c .before .before .before .before .before .before .pre .1 .0)) (c .before .before .before .number-of .ensures) (c .before .before .number-of2 .ensures) (c .before .number-of3 .ensures) (c .if1 .taken)
 
 -- src/turns.rt:60:9
 returns-2 : tie.Need-returns-2
-returns-2 c = ?
+returns-2 c = object-none (c .before .before .before .before .before .before .before .args .kinds .now) (c .before .before .before .before .before .before .before .args .d) (c .before .before .before .before .before .before .before .args .next) _ refl (c .before .before .before .before .before .before .before .args .longest) (c .before .before .before .before .before .before .before .args .quoted) ((c .before .before .before .before .before .before .before .pre .0)) ((c .before .before .before .before .before .before .before .pre .1 .0)) (c .before .before .before .before .number-of .ensures) (c .before .before .before .number-of2 .ensures) (c .before .before .number-of3 .ensures) (c .before .if1 .left) (c .if2 .taken)
 
 -- src/turns.rt:62:16
 shared-slice-read-kind : tie.Need-shared-slice-read-kind
@@ -36,7 +39,7 @@ shared-slice-read-kind c = search needs
 
 -- src/turns.rt:64:9
 returns-3 : tie.Need-returns-3
-returns-3 c = ?
+returns-3 c = object-wrong (c .before .before .before .before .before .before .before .before .before .args .kinds .now) (c .before .before .before .before .before .before .before .before .before .args .d) (c .before .before .before .before .before .before .before .before .before .args .next) _ refl (c .before .before .before .before .before .before .before .before .before .args .longest) (c .before .before .before .before .before .before .before .before .before .args .quoted) ((c .before .before .before .before .before .before .before .before .before .pre .0)) ((c .before .before .before .before .before .before .before .before .before .pre .1 .0)) (c .before .before .before .before .before .before .number-of .ensures) (c .before .before .before .before .before .number-of2 .ensures) (c .before .before .before .before .number-of3 .ensures) (c .before .before .before .if1 .left) (c .before .before .if2 .left) (c .if3 .taken)
 
 -- src/turns.rt:67:15
 add-t15 : tie.Need-add-t15
@@ -44,11 +47,14 @@ add-t15 c = search needs
 
 -- src/turns.rt:68:15
 worst-object-requires : tie.Need-worst-object-requires
-worst-object-requires c κs = ?
+worst-object-requires c κs = 
+    let tag = (c .before .before .before .before .before .before .before .before .before .pre .1 .0 .tags) (c .before .before .before .before .before .before .before .before .before .args .next) (c .before .before .if2 .left) in
+    let other = (c .if3 .left) in
+    (object-sizing (c .before .before .before .before .before .before .before .before .before .args .kinds .now) (c .before .before .before .before .before .before .before .before .before .args .d) (c .before .before .before .before .before .before .before .before .before .args .next) _ refl (c .before .before .before .before .before .before .before .before .before .args .longest) (c .before .before .before .before .before .before .before .before .before .args .quoted) ((c .before .before .before .before .before .before .before .before .before .pre .0)) ((c .before .before .before .before .before .before .before .before .before .pre .1 .0)) (c .before .before .before .before .before .before .number-of .ensures) (c .before .before .before .before .before .number-of2 .ensures) (c .before .before .before .before .number-of3 .ensures) (c .before .before .before .if1 .left), (omega arith, (c .before .before .before .before .before .before .before .before .before .pre .1 .0 .long)))
 
 -- src/turns.rt:42:1
 returns-4 : tie.Need-returns-4
-returns-4 c = ?
+returns-4 c = object-goes (c .before .before .before .before .before .before .before .before .before .before .args .kinds .now) (c .before .before .before .before .before .before .before .before .before .before .args .d) (c .before .before .before .before .before .before .before .before .before .before .args .next) _ refl (c .before .before .before .before .before .before .before .before .before .before .args .longest) (c .before .before .before .before .before .before .before .before .before .before .args .quoted) ((c .before .before .before .before .before .before .before .before .before .before .pre .0)) ((c .before .before .before .before .before .before .before .before .before .before .pre .1 .0)) (c .before .before .before .before .before .before .before .number-of .ensures) (c .before .before .before .before .before .before .number-of2 .ensures) (c .before .before .before .before .before .number-of3 .ensures) (c .before .before .before .before .if1 .left) (c .before .before .before .if2 .left) (c .before .if3 .left) (c .worst-object .result) (c .worst-object .ensures)
 
 pub turn-object-spec : {M : Type 1} → statement M
 turn-object-spec =

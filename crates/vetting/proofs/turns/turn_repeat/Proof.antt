@@ -1,3 +1,5 @@
+use Rattle.vetting.proofs.TurnBy.{repeat-goes}
+use mathlib.Core.Path.{refl}
 use borrow.Author.Needs.{needs}
 use Rattle.vetting.proofs.turns.turn_repeat.Statement.{statement}
 use Rattle.vetting.proofs.turns.turn_repeat.Tie as tie
@@ -15,7 +17,7 @@ number-of-requires c κs = search needs
 
 -- src/turns.rt:159:1
 returns : tie.Need-returns
-returns c = ?
+returns c = repeat-goes (c .before .before .before .args .kinds .now) (c .before .before .before .args .d) (c .before .before .before .args .next) _ refl ((c .before .before .before .pre .0 .0)) ((c .before .before .before .pre .0 .1)) ((c .before .before .before .pre .1 .1)) (c .number-of .result) (c .number-of .ensures)
 
 pub turn-repeat-spec : {M : Type 1} → statement M
 turn-repeat-spec = tie.close (tie.spec sub-number-of number-of-requires returns)
