@@ -2,7 +2,7 @@
 use Prim.Native.Nat.{ℕ, suc, _+_, _≤_, _<_}
 use mathlib.Core.Path.{_≡_, refl, sym, ap, _∙_}
 use mathlib.Core.Bool.{Bool, true, false}
-use mathlib.Core.List.{List, [], _∷_}
+use mathlib.Core.List.{List}
 use native.Mathlib.Numerals.{add-one}
 use native.Mathlib.Omega.{arith}
 use lib.Dec.{leb}
@@ -17,7 +17,7 @@ use Rattle.vet.specs.Plain.{plainVerdict}
 use Rattle.vet.specs.Vet.{knownTags, mayAsk, askedVerdict, declined, unlessDeclined, vetFrom, vetOf}
 use Rattle.vet.specs.declared.Vetted.{Vetted}
 use Rattle.vet.specs.Demand.{Promised}
-use Rattle.vet.proofs.Codes.{Asked, asked-of}
+use Rattle.vet.proofs.Codes.{asked-of}
 use Rattle.vet.proofs.Stages.{Running}
 use Rattle.vet.proofs.Promise.{promised}
 

@@ -1,13 +1,12 @@
 -- How long a character's name is, and the text of a character. Assumes nothing.
-use Prim.Native.Nat.{ℕ, suc, _+_, _/_, _≤_, _<_}
-use mathlib.Core.Path.{_≡_, refl, sym}
+use Prim.Native.Nat.{ℕ, _+_, _/_, _≤_, _<_}
+use mathlib.Core.Path.{_≡_}
 use mathlib.Core.Bool.{Bool, true, false}
 use native.Mathlib.Omega.{arith}
 use lib.ListN.{length}
 use borrow.Author.Tests.{lt-ltb, le-ltb, ne-eqb}
-use Rattle.rules.specs.Number.{digitsOf}
 use Rattle.rules.specs.Piece.{nameOf, glyphOf}
-use Rattle.rules.proofs.Digits.{count-one, count-more, count-below}
+use Rattle.rules.proofs.Digits.{count-one, count-more}
 
 -- codes with no name of their own: `x` and one or two hex digits, or the byte
 module _ (c : ℕ)

@@ -12,7 +12,7 @@ use Rattle.rules.specs.Piece.{orElse, textOf, glyphOf}
 use Rattle.rules.specs.Table.{boolean, character}
 use Rattle.rules.specs.Working.{settled, settingsOf, own, back, glyphSource}
 use Rattle.rules.specs.declared.Code.{Code}
-use Rattle.rules.specs.declared.Code.the-variants.{Writes, Jump, Escape, Conditional, Separator, EndConditional, Iteration, EndIteration, Unknown}
+use Rattle.rules.specs.declared.Code.the-variants.{Writes}
 use Rattle.rules.specs.declared.Directive.{Directive}
 use Rattle.rules.specs.declared.Form.{Form}
 use Rattle.rules.specs.declared.Form.the-variants.{Object, Numeral, Glyph, Plural, Repeat, Fold}
@@ -27,7 +27,7 @@ use Rattle.vet.specs.Vet.{kindIn, turnOf}
 use Rattle.vet.specs.Worst.{worst}
 use Rattle.vet.specs.declared.Turn.the-variants.{Goes, Stops}
 use Rattle.vet.proofs.Codes.{Asked}
-use Rattle.vet.proofs.Ordinary.{PlainDirective, Ordinary}
+use Rattle.vet.proofs.Ordinary.{PlainDirective}
 use Rattle.vet.proofs.Settling.{directive-suits}
 use Rattle.vet.proofs.TurnLaws.{turn-literal, turn-unsettled, turn-given, turn-none, turn-wrong, turn-own, turn-first, turn-back}
 use Rattle.vet.proofs.WorstLaws.{repeat-length, fold-length}

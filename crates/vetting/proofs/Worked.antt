@@ -2,12 +2,11 @@
 -- Only a `#` can lie outside its place's range. Assumes nothing.
 use Prim.Native.Nat.{ℕ, _-_, _≤_, _<_}
 use mathlib.Core.Path.{_≡_, refl}
-use mathlib.Core.Bool.{Bool, true, false, not}
+use mathlib.Core.Bool.{Bool, true, not}
 use mathlib.Core.List.{List, [], _∷_}
 use native.Mathlib.Omega.{arith}
 use lib.Dec.{leb}
-use borrow.Author.Tests.{le-leb, lt-leb, leb-true, not-true}
-use Rattle.rules.specs.Choice.{both}
+use borrow.Author.Tests.{le-leb, lt-leb, leb-true}
 use Rattle.rules.specs.Directive.{Place, number, character as characterPlace, anyNumber, countingNumber, suits, inOrder, eachSuits}
 use Rattle.rules.specs.Piece.{orElse}
 use Rattle.rules.specs.Working.{Worked, worked, wrong, workOut, Settled, settled, unsettled, settle}
@@ -17,7 +16,6 @@ use Rattle.rules.specs.declared.Parameter.{Parameter}
 use Rattle.rules.specs.declared.Parameter.the-variants.{Default, Number, Character, Next, Remaining}
 use Rattle.rules.specs.declared.Parameters.{Parameters}
 use Rattle.rules.specs.declared.Setting.{Setting}
-use Rattle.rules.specs.declared.Setting.the-variants.{Absent, Is}
 use Rattle.rules.proofs.Tests.{both-true, not-both-ways}
 use Rattle.vet.specs.Plain.{isNext, noneNext}
 use Rattle.vet.specs.Use.{inHand, noEntries, workedOut}

@@ -1,9 +1,8 @@
 -- The greatest length of a piece, by the kind of the argument, from the greatest padded lengths. Assumes nothing.
-use Prim.Native.Nat.{ℕ, suc, _+_, _*_, _-_, _/_, _≤_, _<_}
-use mathlib.Core.Path.{_≡_, refl, sym, ap, _∙_}
+use Prim.Native.Nat.{ℕ, _+_, _*_, _-_, _/_, _≤_}
+use mathlib.Core.Path.{_≡_, refl, sym, _∙_}
 use mathlib.Core.Bool.{Bool, true, false}
 use native.Mathlib.Numerals.{add-one}
-use native.Mathlib.Omega.{arith}
 use Rattle.rules.specs.Piece.{orElse}
 use Rattle.rules.specs.declared.Form.the-variants.{Object, Numeral}
 use Rattle.rules.specs.declared.Settings.{Settings}

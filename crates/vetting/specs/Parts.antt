@@ -1,5 +1,5 @@
 -- What the parts of a vet's code promise. Assumes nothing: these are definitions.
-use Prim.Native.Nat.{ℕ, suc, _+_, _-_, _/_, _≤_}
+use Prim.Native.Nat.{ℕ, _+_, _-_, _/_, _≤_}
 use mathlib.Core.Path.{_≡_}
 use mathlib.Core.Bool.{Bool, true, cond}
 use Rattle.rules.specs.Directive.{formPlaces, inOrder, eachSuits}

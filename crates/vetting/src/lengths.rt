@@ -2,7 +2,7 @@
 use numbers::digit_count;
 ghost use mathlib.Core.Path.{_≡_};
 ghost use mathlib.Core.Bool.{false, cond};
-ghost use Prim.Native.Nat.{ℕ, _+_, _-_, _≤_, _<_};
+ghost use Prim.Native.Nat.{_-_, _≤_, _<_};
 ghost use lib.ListN.{length};
 ghost use Rattle.rules.specs.Piece.{nameOf, glyphOf};
 ghost use Rattle.rules.specs.declared.Form.the-variants.{Object};
@@ -55,10 +55,7 @@ fn greatest(minwidth: usize, padinc: usize, minpad: usize, least: usize, most: u
     ensures { λ r. ⌜ r ≡ greatestOf minwidth padinc minpad least most ⌝ }
 {
     let longest = most + (minpad + round_up(padinc, less(minwidth, most + minpad)));
-    larger(
-        longest,
-        padded_top(minwidth, padinc, minpad, least, most),
-    )
+    larger(longest, padded_top(minwidth, padinc, minpad, least, most))
 }
 
 // ~a, and ~s with true, of a value of a kind.

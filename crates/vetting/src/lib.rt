@@ -16,7 +16,6 @@ ghost use mathlib.Core.Path.{_≡_};
 ghost use mathlib.Core.Bool.{true};
 ghost use Rattle.rules.specs.Text.{textVerdict};
 ghost use Rattle.rules.specs.declared.Verdict.the-variants.{Accepted};
-ghost use Rattle.vet.specs.Plain.{plainVerdict};
 ghost use Rattle.vet.specs.Vet.{declined, mayAsk, vetOf};
 ghost use Rattle.vet.specs.Demand.{Promised};
 

@@ -2,7 +2,6 @@
 use rules::Parameter;
 use rules::Setting;
 ghost use mathlib.Core.Path.{_≡_};
-ghost use Prim.Native.Nat.{_<_};
 ghost use Rattle.rules.specs.Piece.{orElse};
 ghost use Rattle.vetting.specs.Parts.{settingBy};
 

@@ -1,31 +1,25 @@
+-- `vet_format` meets its contract: 12 or on to the text, and the answer of the definition keeps every promise. Assumes
+-- nothing.
+use mathlib.Core.Path.{sym, _∙_}
 use borrow.Author.Needs.{needs}
+use Rattle.vetting.proofs.Asks.{not-asked, keeps}
 use Rattle.vetting.proofs.vet_format.Statement.{statement}
 use Rattle.vetting.proofs.vet_format.Tie as tie
-use Rattle.vetting.proofs.vet_format.Reads as reads
-use Rattle.vetting.proofs.vet_format.Lts as lts
-use Rattle.vetting.proofs.asking.may_ask.Reads as may-ask-reads
-use Rattle.vetting.proofs.decline.Reads as decline-reads
-use Rattle.vetting.proofs.vet_asked.Reads as vet-asked-reads
 
--- src/lib.rt:62:8
 may-ask-requires : tie.Need-may-ask-requires
 may-ask-requires c κs = search needs
 
--- src/lib.rt:63:9
 vet-asked-requires : tie.Need-vet-asked-requires
-vet-asked-requires c κs = ?
+vet-asked-requires c κs = sym (c .before .may-ask .ensures) ∙ (c .if1 .taken)
 
--- src/lib.rt:63:9
 returns : tie.Need-returns
-returns c = ?
+returns c = keeps (c .before .before .before .before .before .args .format .now) (c .before .before .before .before .before .args .kinds .now) (c .before .before .before .before .before .args .longest) (c .vet-asked .ensures)
 
--- src/lib.rt:65:5
 decline-requires : tie.Need-decline-requires
 decline-requires c κs = search needs
 
--- src/lib.rt:59:1
 returns-2 : tie.Need-returns-2
-returns-2 c = ?
+returns-2 c = keeps (c .before .before .before .before .before .args .format .now) (c .before .before .before .before .before .args .kinds .now) (c .before .before .before .before .before .args .longest) ((c .decline .ensures) ∙ not-asked (c .before .before .before .before .before .args .format .now) (c .before .before .before .before .before .args .kinds .now) (c .before .before .before .before .before .args .longest) (sym (c .before .before .may-ask .ensures) ∙ (c .before .if1 .left)))
 
 pub vet-format-spec : {M : Type 1} → statement M
 vet-format-spec =

@@ -1,39 +1,30 @@
+-- `vet_read` meets its contract: 11, or the count. Assumes nothing.
+use mathlib.Core.Path.{sym, _∙_}
 use borrow.Author.Needs.{needs}
+use Rattle.vetting.proofs.Asks.{not-plain, running, ran}
 use Rattle.vetting.proofs.vet_read.Statement.{statement}
 use Rattle.vetting.proofs.vet_read.Tie as tie
-use Rattle.vetting.proofs.vet_read.Reads as reads
-use Rattle.vetting.proofs.vet_read.Lts as lts
-use Rattle.vetting.proofs.counting.count_items.Reads as count-items-reads
-use Rattle.vetting.proofs.decline.Reads as decline-reads
-use Rattle.vetting.proofs.plainness.check_plain.Reads as check-plain-reads
 
--- src/lib.rt:39:9
 check-plain-requires : tie.Need-check-plain-requires
 check-plain-requires c κs = search needs
 
--- src/lib.rt:41:30
 enum-told : tie.Need-enum-told
 enum-told c = search needs
 
--- src/lib.rt:41:30
 count-items-requires : tie.Need-count-items-requires
-count-items-requires c κs = ?
+count-items-requires c κs = running (c .before .before .before .before .before .args .format .now) (c .before .before .before .before .before .args .kinds .now) (c .before .before .before .before .before .args .longest) ((c .before .before .before .before .before .pre .0)) ((c .before .before .before .before .before .pre .1)) (sym (c .before .before .check-plain .ensures) ∙ (c .enum-told .given .1))
 
--- src/lib.rt:42:28
 enum-known-plain : tie.Need-enum-known-plain
 enum-known-plain c = search needs
 
--- src/lib.rt:42:48
 decline-requires : tie.Need-decline-requires
 decline-requires c κs = search needs
 
--- src/lib.rt:34:1
 returns : tie.Need-returns
-returns c = ?
+returns c = (c .count-items .ensures) ∙ ran (c .before .before .before .before .before .before .args .format .now) (c .before .before .before .before .before .before .args .kinds .now) (c .before .before .before .before .before .before .args .longest) ((c .before .before .before .before .before .before .pre .0)) ((c .before .before .before .before .before .before .pre .1)) (sym (c .before .before .before .check-plain .ensures) ∙ (c .before .enum-told .given .1))
 
--- src/lib.rt:34:1
 returns-2 : tie.Need-returns-2
-returns-2 c = ?
+returns-2 c = (c .decline .ensures) ∙ not-plain (c .before .before .before .before .before .before .before .args .format .now) (c .before .before .before .before .before .before .before .args .kinds .now) (c .before .before .before .before .before .before .before .args .longest) ((c .before .before .before .before .before .before .before .pre .0)) ((c .before .before .before .before .before .before .before .pre .1)) (sym (c .before .before .before .before .check-plain .ensures) ∙ (c .before .before .plain .given .1))
 
 pub vet-read-spec : {M : Type 1} → statement M
 vet-read-spec =

@@ -1,34 +1,26 @@
-use borrow.Author.Tests.{not-true, not-false}
-use Rattle.vetting.proofs.Names.{glyph-written, glyph-byte, glyph-control, glyph-other}
+-- `glyph_size` meets its contract: a name, `^` and a byte, or the byte. Assumes nothing.
 use native.Mathlib.Omega.{arith}
+use borrow.Author.Tests.{not-true, not-false}
 use borrow.Author.Needs.{needs}
+use Rattle.vetting.proofs.Names.{glyph-written, glyph-byte, glyph-control, glyph-other}
 use Rattle.vetting.proofs.lengths.glyph_size.Statement.{statement}
 use Rattle.vetting.proofs.lengths.glyph_size.Tie as tie
-use Rattle.vetting.proofs.lengths.glyph_size.Reads as reads
-use Rattle.vetting.proofs.lengths.glyph_size.Lts as lts
-use Rattle.vetting.proofs.lengths.name_size.Reads as name-size-reads
 
--- src/lengths.rt:154:16
 name-size-requires : tie.Need-name-size-requires
 name-size-requires c κs = search needs
 
--- src/lengths.rt:154:16
 add-result : tie.Need-add-result
 add-result c = omega (arith, (c .name-size .ensures .1))
 
--- src/lengths.rt:154:9
 returns : tie.Need-returns
 returns c = glyph-written (c .before .before .args .colon) (c .before .before .args .at) (c .before .before .args .code) (c .before .if1 .taken) (c .name-size .result) (c .name-size .ensures .0)
 
--- src/lengths.rt:157:9
 returns-2 : tie.Need-returns-2
 returns-2 c = glyph-byte (c .before .before .args .colon) (c .before .before .args .at) (c .before .before .args .code) (c .before .if1 .left) (not-true _ (c .if2 .taken))
 
--- src/lengths.rt:150:1
 returns-3 : tie.Need-returns-3
 returns-3 c = glyph-control (c .before .before .before .args .colon) (c .before .before .before .args .at) (c .before .before .before .args .code) (c .before .before .if1 .left) (not-false _ (c .before .if2 .left)) (c .if3 .taken)
 
--- src/lengths.rt:150:1
 returns-4 : tie.Need-returns-4
 returns-4 c = glyph-other (c .before .before .before .args .colon) (c .before .before .before .args .at) (c .before .before .before .args .code) (c .before .before .if1 .left) (not-false _ (c .before .if2 .left)) (c .if3 .left)
 

@@ -1,52 +1,39 @@
-use Rattle.vetting.proofs.WorstBy.{most-plain, most-grouped}
-use native.Mathlib.Nat.{div-le-self}
+-- `worst_numeral` meets its contract: the sign and the digits, with the separators of their groups. Assumes nothing.
 use Prim.Native.Nat.{_-_}
+use native.Mathlib.Nat.{div-le-self}
 use native.Mathlib.Omega.{arith}
 use borrow.Author.Needs.{needs}
+use Rattle.vetting.proofs.WorstBy.{most-plain, most-grouped}
 use Rattle.vetting.proofs.lengths.worst_numeral.Statement.{statement}
 use Rattle.vetting.proofs.lengths.worst_numeral.Tie as tie
-use Rattle.vetting.proofs.lengths.worst_numeral.Reads as reads
-use Rattle.vetting.proofs.lengths.worst_numeral.Lts as lts
-use Rattle.numbers.proofs.digit_count.Reads as digit-count-reads
-use Rattle.vetting.proofs.lengths.larger.Reads as larger-reads
 
--- src/lengths.rt:102:9
 digit-count-requires : tie.Need-digit-count-requires
 digit-count-requires c κs = search needs
 
--- src/lengths.rt:104:40
 sub-larger : tie.Need-sub-larger
 sub-larger c = search needs
 
--- src/lengths.rt:104:39
 div-larger : tie.Need-div-larger
 div-larger c = search needs
 
--- src/lengths.rt:104:30
 add-larger : tie.Need-add-larger
 add-larger c = omega (arith, div-le-self ((c .before .digit-count .result) - 1) (c .before .before .args .group))
 
--- src/lengths.rt:104:30
 add-larger-2 : tie.Need-add-larger-2
 add-larger-2 c = omega (arith, div-le-self ((c .before .digit-count .result) - 1) (c .before .before .args .group))
 
--- src/lengths.rt:104:9
 larger-requires : tie.Need-larger-requires
 larger-requires c κs = search needs
 
--- src/lengths.rt:104:9
 returns : tie.Need-returns
 returns c = most-grouped (c .before .before .before .args .base) (c .before .before .before .args .width) (c .before .before .before .args .group) (c .before .before .digit-count .ensures .0) (c .before .before .before .args .colon) (c .before .if1 .taken) (c .larger .ensures)
 
--- src/lengths.rt:106:19
 add-larger-3 : tie.Need-add-larger-3
 add-larger-3 c = search needs
 
--- src/lengths.rt:106:5
 larger-requires-2 : tie.Need-larger-requires-2
 larger-requires-2 c κs = search needs
 
--- src/lengths.rt:97:1
 returns-2 : tie.Need-returns-2
 returns-2 c = most-plain (c .before .before .before .args .base) (c .before .before .before .args .width) (c .before .before .before .args .group) (c .before .before .digit-count .ensures .0) (c .before .before .before .args .colon) (c .before .if1 .left) (c .larger2 .ensures)
 

@@ -1,74 +1,55 @@
-use Rattle.vetting.proofs.WorstBy.{of-boolean, of-integer, of-character, of-name, of-string, of-quoted}
+-- `worst_object` meets its contract, kind by kind. Assumes nothing.
 use native.Mathlib.Omega.{arith}
 use borrow.Author.Needs.{needs}
+use Rattle.vetting.proofs.WorstBy.{of-boolean, of-integer, of-character, of-name, of-string, of-quoted}
 use Rattle.vetting.proofs.lengths.worst_object.Statement.{statement}
 use Rattle.vetting.proofs.lengths.worst_object.Tie as tie
-use Rattle.vetting.proofs.lengths.worst_object.Reads as reads
-use Rattle.vetting.proofs.lengths.worst_object.Lts as lts
-use Rattle.vetting.proofs.lengths.greatest.Reads as greatest-reads
-use Rattle.vetting.proofs.lengths.larger.Reads as larger-reads
 
--- src/lengths.rt:78:14
 greatest-requires : tie.Need-greatest-requires
 greatest-requires c κs = search needs
 
--- src/lengths.rt:79:14
 greatest-requires-2 : tie.Need-greatest-requires-2
 greatest-requires-2 c κs = search needs
 
--- src/lengths.rt:82:21
 greatest-requires-3 : tie.Need-greatest-requires-3
 greatest-requires-3 c κs = search needs
 
--- src/lengths.rt:83:38
 greatest-requires-4 : tie.Need-greatest-requires-4
 greatest-requires-4 c κs = search needs
 
--- src/lengths.rt:83:17
 larger-requires : tie.Need-larger-requires
 larger-requires c κs = search needs
 
--- src/lengths.rt:83:17
 returns : tie.Need-returns
 returns c = of-name (c .before .before .before .before .before .args .longest) (c .before .before .before .before .before .args .quoted) (c .before .before .before .before .before .args .minwidth) (c .before .before .before .before .before .args .padinc) (c .before .before .before .before .before .args .minpad) (c .before .before .before .before .before .args .kind) (c .before .before .before .before .match .keys3) (c .before .before .before .if1 .taken) (c .before .before .greatest3 .ensures) (c .before .greatest4 .ensures) (c .larger .ensures)
 
--- src/lengths.rt:85:13
 greatest-requires-5 : tie.Need-greatest-requires-5
 greatest-requires-5 c κs = search needs
 
--- src/lengths.rt:89:62
 mul-greatest : tie.Need-mul-greatest
 mul-greatest c = search needs
 
--- src/lengths.rt:89:62
 add-greatest : tie.Need-add-greatest
 add-greatest c = search needs
 
--- src/lengths.rt:89:17
 greatest-requires-6 : tie.Need-greatest-requires-6
 greatest-requires-6 c κs = search needs
 
--- src/lengths.rt:89:17
 returns-2 : tie.Need-returns-2
 returns-2 c = of-quoted (c .before .before .before .args .longest) (c .before .before .before .args .quoted) (c .before .before .before .args .minwidth) (c .before .before .before .args .padinc) (c .before .before .before .args .minpad) (c .before .before .before .args .kind) (let none = (c .before .before .match .rest) in omega arith) (c .before .if2 .taken) (c .greatest6 .ensures)
 
--- src/lengths.rt:91:13
 greatest-requires-7 : tie.Need-greatest-requires-7
 greatest-requires-7 c κs = search needs
 
--- src/lengths.rt:65:1
 returns-3 : tie.Need-returns-3
 returns-3 c = of-boolean (c .before .before .args .longest) (c .before .before .args .quoted) (c .before .before .args .minwidth) (c .before .before .args .padinc) (c .before .before .args .minpad) (c .before .before .args .kind) (c .before .match .keys1) (c .greatest .ensures)
 
--- src/lengths.rt:65:1
 returns-4 : tie.Need-returns-4
 returns-4 c = of-integer (c .before .before .args .longest) (c .before .before .args .quoted) (c .before .before .args .minwidth) (c .before .before .args .padinc) (c .before .before .args .minpad) (c .before .before .args .kind) (c .before .match .keys2) (c .greatest2 .ensures)
 
--- src/lengths.rt:65:1
 returns-5 : tie.Need-returns-5
 returns-5 c = of-character (c .before .before .before .args .longest) (c .before .before .before .args .quoted) (c .before .before .before .args .minwidth) (c .before .before .before .args .padinc) (c .before .before .before .args .minpad) (c .before .before .before .args .kind) (c .before .before .match .keys3) (c .before .if1 .left) (c .greatest5 .ensures)
 
--- src/lengths.rt:65:1
 returns-6 : tie.Need-returns-6
 returns-6 c = of-string (c .before .before .before .args .longest) (c .before .before .before .args .quoted) (c .before .before .before .args .minwidth) (c .before .before .before .args .padinc) (c .before .before .before .args .minpad) (c .before .before .before .args .kind) (let none = (c .before .before .match .rest) in omega arith) (c .before .if2 .left) (c .greatest7 .ensures)
 

@@ -1,17 +1,12 @@
-use borrow.Author.Tests.{not-true, not-false}
-use Rattle.vetting.proofs.Places.{PlainTo, plain-start, plain-done, plain-refused, plain-more, goes-later}
-use lib.ListN.{length}
+-- `check_plain` meets its contract: the items passed are plain, so those that remain decide. Assumes nothing.
 use Prim.Native.Nat.{_-_}
-use mathlib.Core.Path.{refl}
-use borrow.Author.Needs.{needs}
 use native.Mathlib.Omega.{arith}
+use lib.ListN.{length}
+use borrow.Author.Tests.{not-true, not-false}
+use borrow.Author.Needs.{needs}
+use Rattle.vetting.proofs.Places.{PlainTo, plain-start, plain-done, plain-refused, plain-more, goes-later}
 use Rattle.vetting.proofs.plainness.check_plain.Statement.{statement}
 use Rattle.vetting.proofs.plainness.check_plain.Tie as tie
-use Rattle.vetting.proofs.plainness.check_plain.Reads as reads
-use Rattle.vetting.proofs.plainness.check_plain.Lts as lts
-use Rattle.reader.proofs.directive.item_at.Reads as item-at-reads
-use Rattle.vetting.proofs.plainness.is_plain.Reads as is-plain-reads
-use Rattle.vetting.proofs.plainness.place_after.Reads as place-after-reads
 
 abbrev Inv-loop : tie.InvT-loop
 Inv-loop format p₀ p =
@@ -21,37 +16,29 @@ abbrev μ-loop : tie.MeasureT-loop
 μ-loop format p₀ p =
     length format - p
 
--- src/plainness.rt:99:5
 loop-holds : tie.Need-loop-holds Inv-loop μ-loop
 loop-holds c = plain-start (c .before .args .format .now)
 
--- src/plainness.rt:100:13
 item-at-requires : tie.Need-item-at-requires Inv-loop μ-loop
 item-at-requires c κs = search needs
 
--- src/plainness.rt:101:13
 is-plain-requires : tie.Need-is-plain-requires Inv-loop μ-loop
 is-plain-requires c κs = search needs
 
--- src/plainness.rt:102:13
 returns : tie.Need-returns Inv-loop μ-loop
 returns c = plain-refused (c .before .before .before .before .loop .inv) (c .before .before .item-at .result) (c .before .before .before .loop-test .taken) (c .before .before .item-at .ensures) (c .before .is-plain .result) (c .before .is-plain .ensures) (not-true _ (c .if1 .taken))
 
--- src/plainness.rt:107:9
 place-after-requires : tie.Need-place-after-requires Inv-loop μ-loop
 place-after-requires c κs = omega arith
 
--- src/plainness.rt:99:5
 loop-less : tie.Need-loop-less Inv-loop μ-loop
-loop-less c = 
+loop-less c =
     let later = goes-later (c .before .before .before .before .before .before .before .args .format .now) (c .before .before .before .before .before .loop .p) (c .place-after .result) (c .before .before .before .item-at .result) (c .before .before .before .before .loop-test .taken) (c .before .before .before .item-at .ensures) (c .place-after .ensures) in
     omega arith
 
--- src/plainness.rt:99:5
 loop-again : tie.Need-loop-again Inv-loop μ-loop
 loop-again c = plain-more (c .before .before .before .before .before .loop .inv) (c .before .before .before .item-at .result) (c .before .before .before .before .loop-test .taken) (c .before .before .before .item-at .ensures) (c .before .before .is-plain .result) (c .before .before .is-plain .ensures) (not-false _ (c .before .if1 .left)) (c .place-after .result) (c .place-after .ensures)
 
--- src/plainness.rt:95:1
 returns-2 : tie.Need-returns-2 Inv-loop μ-loop
 returns-2 c = plain-done (c .before .loop .inv) (c .loop-test .left)
 

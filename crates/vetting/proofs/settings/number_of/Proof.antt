@@ -1,30 +1,23 @@
-use Rattle.rules.specs.Piece.{orElse}
-use Rattle.rules.specs.declared.Setting.{Setting}
+-- `number_of` meets its contract: the setting, or the default. Assumes nothing.
 use mathlib.Core.Path.{sym, ap, _∙_}
 use borrow.Author.Needs.{needs}
+use Rattle.rules.specs.Piece.{orElse}
+use Rattle.rules.specs.declared.Setting.{Setting}
 use Rattle.vetting.proofs.settings.number_of.Statement.{statement}
 use Rattle.vetting.proofs.settings.number_of.Tie as tie
-use Rattle.vetting.proofs.settings.number_of.Reads as reads
-use Rattle.vetting.proofs.settings.number_of.Lts as lts
-use Rattle.vetting.proofs.settings.setting_of.Reads as setting-of-reads
 
--- src/settings.rt:32:9
 setting-of-requires : tie.Need-setting-of-requires
 setting-of-requires c κs = search needs
 
--- src/settings.rt:34:28
 enum-told : tie.Need-enum-told
 enum-told c = search needs
 
--- src/settings.rt:35:21
 enum-known-setting : tie.Need-enum-known-setting
 enum-known-setting c = search needs
 
--- src/settings.rt:29:1
 returns : tie.Need-returns
 returns c = sym (ap (λ (s : Setting). orElse s (c .before .before .before .args .default)) (sym (c .before .before .setting-of .ensures) ∙ (c .enum-told .given .1)))
 
--- src/settings.rt:29:1
 returns-2 : tie.Need-returns-2
 returns-2 c = sym (ap (λ (s : Setting). orElse s (c .before .before .before .before .args .default)) (sym (c .before .before .before .setting-of .ensures) ∙ (c .before .setting .given .1)))
 

@@ -1,53 +1,40 @@
-use Rattle.vetting.specs.Parts.{settingBy}
-use mathlib.Core.Path.{sym, ap, _∙_}
+-- `setting_of` meets its contract, parameter by parameter. Assumes nothing.
+use mathlib.Core.Path.{sym, ap}
 use borrow.Author.Needs.{needs}
+use Rattle.vetting.specs.Parts.{settingBy}
 use Rattle.vetting.proofs.settings.setting_of.Statement.{statement}
 use Rattle.vetting.proofs.settings.setting_of.Tie as tie
-use Rattle.vetting.proofs.settings.setting_of.Reads as reads
-use Rattle.vetting.proofs.settings.setting_of.Lts as lts
-use Rattle.vetting.proofs.settings.wide.Reads as wide-reads
 
--- src/settings.rt:20:31
 enum-told : tie.Need-enum-told
 enum-told c = search needs
 
--- src/settings.rt:21:27
 enum-known-x : tie.Need-enum-known-x
 enum-known-x c = search needs
 
--- src/settings.rt:22:30
 enum-known-x-2 : tie.Need-enum-known-x-2
 enum-known-x-2 c = search needs
 
--- src/settings.rt:22:48
 wide-requires : tie.Need-wide-requires
 wide-requires c κs = search needs
 
--- src/settings.rt:23:28
 enum-told-2 : tie.Need-enum-told-2
 enum-told-2 c = search needs
 
--- src/settings.rt:24:33
 enum-told-3 : tie.Need-enum-told-3
 enum-told-3 c = search needs
 
--- src/settings.rt:16:1
 returns : tie.Need-returns
 returns c = search needs
 
--- src/settings.rt:16:1
 returns-2 : tie.Need-returns-2
 returns-2 c = sym (ap (settingBy (c .before .before .before .args .remaining)) (c .before .x .given .1))
 
--- src/settings.rt:16:1
 returns-3 : tie.Need-returns-3
 returns-3 c = rw ((c .wide .ensures)) (sym (ap (settingBy (c .before .before .before .before .args .remaining)) (c .before .before .x2 .given .1)))
 
--- src/settings.rt:16:1
 returns-4 : tie.Need-returns-4
 returns-4 c = search needs
 
--- src/settings.rt:16:1
 returns-5 : tie.Need-returns-5
 returns-5 c = sym (ap (settingBy (c .before .before .args .remaining)) (c .enum-told3 .given .1))
 

@@ -1,17 +1,11 @@
+-- `turn_fold` meets its contract. Assumes nothing.
 use Rattle.vetting.proofs.TurnBy.{fold-goes}
-use Prim.Native.Nat.{ℕ}
-use mathlib.Core.Bool.{Bool, cond}
-use mathlib.Core.Path.{sym, ap}
 use Rattle.vetting.proofs.turns.turn_fold.Statement.{statement}
 use Rattle.vetting.proofs.turns.turn_fold.Tie as tie
-use Rattle.vetting.proofs.turns.turn_fold.Reads as reads
-use Rattle.vetting.proofs.turns.turn_fold.Lts as lts
 
--- src/turns.rt:179:9
 returns : tie.Need-returns
 returns c = fold-goes (c .before .args .d) (c .before .args .next) (c .before .pre) 1 (rw ((c .if1 .taken)))
 
--- src/turns.rt:174:1
 returns-2 : tie.Need-returns-2
 returns-2 c = fold-goes (c .before .args .d) (c .before .args .next) (c .before .pre) 0 (rw ((c .if1 .left)))
 

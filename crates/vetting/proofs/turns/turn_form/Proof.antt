@@ -1,85 +1,60 @@
-use Rattle.vetting.proofs.TurnBy.{of-form}
+-- `turn_form` meets its contract, form by form. Assumes nothing.
 use borrow.Author.Needs.{needs}
+use Rattle.vetting.proofs.TurnBy.{of-form}
 use Rattle.vetting.proofs.turns.turn_form.Statement.{statement}
 use Rattle.vetting.proofs.turns.turn_form.Tie as tie
-use Rattle.vetting.proofs.turns.turn_form.Reads as reads
-use Rattle.vetting.proofs.turns.turn_form.Lts as lts
-use Rattle.vetting.proofs.turns.turn_fold.Reads as turn-fold-reads
-use Rattle.vetting.proofs.turns.turn_glyph.Reads as turn-glyph-reads
-use Rattle.vetting.proofs.turns.turn_numeral.Reads as turn-numeral-reads
-use Rattle.vetting.proofs.turns.turn_object.Reads as turn-object-reads
-use Rattle.vetting.proofs.turns.turn_plural.Reads as turn-plural-reads
-use Rattle.vetting.proofs.turns.turn_repeat.Reads as turn-repeat-reads
 
--- src/turns.rt:191:22
 enum-known-form : tie.Need-enum-known-form
 enum-known-form c = search needs
 
--- src/turns.rt:191:33
 turn-object-requires : tie.Need-turn-object-requires
 turn-object-requires c κs = (of-form (c .before .form .given .1) ((c .before .before .before .before .pre .0)), ((c .before .before .before .before .pre .1 .0), (c .before .before .before .before .pre .1 .1)))
 
--- src/turns.rt:192:23
 enum-known-form-2 : tie.Need-enum-known-form-2
 enum-known-form-2 c = search needs
 
--- src/turns.rt:192:32
 turn-numeral-requires : tie.Need-turn-numeral-requires
 turn-numeral-requires c κs = (of-form (c .before .form2 .given .1) ((c .before .before .before .before .pre .0)), ((c .before .before .before .before .pre .1 .1), (c .before .before .before .before .pre .1 .0 .many)))
 
--- src/turns.rt:193:24
 enum-told : tie.Need-enum-told
 enum-told c = search needs
 
--- src/turns.rt:193:24
 turn-glyph-requires : tie.Need-turn-glyph-requires
 turn-glyph-requires c κs = (of-form (c .enum-told .given .1) ((c .before .before .before .pre .0)), (c .before .before .before .pre .1 .1))
 
--- src/turns.rt:194:25
 enum-told-2 : tie.Need-enum-told-2
 enum-told-2 c = search needs
 
--- src/turns.rt:194:25
 turn-plural-requires : tie.Need-turn-plural-requires
 turn-plural-requires c κs = (of-form (c .enum-told2 .given .1) ((c .before .before .before .pre .0)), (c .before .before .before .pre .1 .1))
 
--- src/turns.rt:195:28
 enum-told-3 : tie.Need-enum-told-3
 enum-told-3 c = search needs
 
--- src/turns.rt:195:28
 turn-repeat-requires : tie.Need-turn-repeat-requires
 turn-repeat-requires c κs = ((_, of-form (c .enum-told3 .given .1) ((c .before .before .before .pre .0))), ((c .before .before .before .pre .1 .1), (c .before .before .before .pre .1 .0 .many)))
 
--- src/turns.rt:196:23
 enum-told-4 : tie.Need-enum-told-4
 enum-told-4 c = search needs
 
--- src/turns.rt:196:23
 turn-fold-requires : tie.Need-turn-fold-requires
 turn-fold-requires c κs = of-form (c .enum-told4 .given .1) ((c .before .before .before .pre .0))
 
--- src/turns.rt:184:1
 returns : tie.Need-returns
 returns c = search needs
 
--- src/turns.rt:184:1
 returns-2 : tie.Need-returns-2
 returns-2 c = (c .turn-numeral .ensures) (c .before .before .before .before .before .args .longest)
 
--- src/turns.rt:184:1
 returns-3 : tie.Need-returns-3
 returns-3 c = (c .turn-glyph .ensures) (c .before .before .before .before .args .longest)
 
--- src/turns.rt:184:1
 returns-4 : tie.Need-returns-4
 returns-4 c = (c .turn-plural .ensures) (c .before .before .before .before .args .longest)
 
--- src/turns.rt:184:1
 returns-5 : tie.Need-returns-5
 returns-5 c = (c .turn-repeat .ensures) (c .before .before .before .before .args .longest)
 
--- src/turns.rt:184:1
 returns-6 : tie.Need-returns-6
 returns-6 c = (c .turn-fold .ensures) (c .before .before .before .before .args .kinds .now) (c .before .before .before .before .args .longest)
 

@@ -1,50 +1,37 @@
-use Rattle.vetting.proofs.TurnBy.{numeral-range, numeral-none, numeral-wrong, numeral-goes}
+-- `turn_numeral` meets its contract: commawidth in range, an argument, an integer. Assumes nothing.
 use mathlib.Core.Path.{refl}
 use borrow.Author.Needs.{needs}
+use Rattle.vetting.proofs.TurnBy.{numeral-range, numeral-none, numeral-wrong, numeral-goes}
 use Rattle.vetting.proofs.turns.turn_numeral.Statement.{statement}
 use Rattle.vetting.proofs.turns.turn_numeral.Tie as tie
-use Rattle.vetting.proofs.turns.turn_numeral.Reads as reads
-use Rattle.vetting.proofs.turns.turn_numeral.Lts as lts
-use Rattle.vetting.proofs.lengths.worst_numeral.Reads as worst-numeral-reads
-use Rattle.vetting.proofs.settings.number_of.Reads as number-of-reads
 
--- src/turns.rt:82:21
 sub-remaining : tie.Need-sub-remaining
 sub-remaining c = search needs
 
--- src/turns.rt:83:9
 number-of-requires : tie.Need-number-of-requires
 number-of-requires c κs = search needs
 
--- src/turns.rt:84:9
 number-of-requires-2 : tie.Need-number-of-requires-2
 number-of-requires-2 c κs = search needs
 
--- src/turns.rt:86:9
 returns : tie.Need-returns
 returns c = numeral-range (c .before .before .before .before .before .args .kinds .now) (c .before .before .before .before .before .args .d) (c .before .before .before .before .before .args .next) _ refl (c .before .before .before .before .before .args .base) ((c .before .before .before .before .before .pre .0)) ((c .before .before .before .before .before .pre .1 .1)) (c .before .before .number-of .ensures) (c .before .number-of2 .ensures) (c .if1 .taken)
 
--- src/turns.rt:89:9
 returns-2 : tie.Need-returns-2
 returns-2 c = numeral-none (c .before .before .before .before .before .before .args .kinds .now) (c .before .before .before .before .before .before .args .d) (c .before .before .before .before .before .before .args .next) _ refl (c .before .before .before .before .before .before .args .base) ((c .before .before .before .before .before .before .pre .0)) ((c .before .before .before .before .before .before .pre .1 .1)) (c .before .before .before .number-of .ensures) (c .before .before .number-of2 .ensures) (c .before .if1 .left) (c .if2 .taken)
 
--- src/turns.rt:91:16
 shared-slice-read-kind : tie.Need-shared-slice-read-kind
 shared-slice-read-kind c = search needs
 
--- src/turns.rt:94:19
 add-t16 : tie.Need-add-t16
 add-t16 c = search needs
 
--- src/turns.rt:95:19
 worst-numeral-requires : tie.Need-worst-numeral-requires
 worst-numeral-requires c κs = search needs
 
--- src/turns.rt:93:9
 returns-3 : tie.Need-returns-3
 returns-3 c = numeral-goes (c .before .before .before .before .before .before .before .before .before .args .kinds .now) (c .before .before .before .before .before .before .before .before .before .args .d) (c .before .before .before .before .before .before .before .before .before .args .next) _ refl (c .before .before .before .before .before .before .before .before .before .args .base) ((c .before .before .before .before .before .before .before .before .before .pre .0)) ((c .before .before .before .before .before .before .before .before .before .pre .1 .1)) (c .before .before .before .before .before .before .number-of .ensures) (c .before .before .before .before .before .number-of2 .ensures) (c .before .before .before .before .if1 .left) (c .before .before .before .if2 .left) (c .before .if3 .taken) (c .worst-numeral .result) (c .worst-numeral .ensures)
 
--- src/turns.rt:73:1
 returns-4 : tie.Need-returns-4
 returns-4 c = numeral-wrong (c .before .before .before .before .before .before .before .before .args .kinds .now) (c .before .before .before .before .before .before .before .before .args .d) (c .before .before .before .before .before .before .before .before .args .next) _ refl (c .before .before .before .before .before .before .before .before .args .base) ((c .before .before .before .before .before .before .before .before .pre .0)) ((c .before .before .before .before .before .before .before .before .pre .1 .1)) (c .before .before .before .before .before .number-of .ensures) (c .before .before .before .before .number-of2 .ensures) (c .before .before .before .if1 .left) (c .before .before .if2 .left) (c .if3 .left)
 

@@ -1,32 +1,24 @@
-use Rattle.vetting.proofs.TurnBy.{plural-first, plural-back, plural-none, plural-goes}
+-- `turn_plural` meets its contract: the argument before with `:`, else the next one. Assumes nothing.
 use borrow.Author.Needs.{needs}
+use Rattle.vetting.proofs.TurnBy.{plural-first, plural-back, plural-none, plural-goes}
 use Rattle.vetting.proofs.turns.turn_plural.Statement.{statement}
 use Rattle.vetting.proofs.turns.turn_plural.Tie as tie
-use Rattle.vetting.proofs.turns.turn_plural.Reads as reads
-use Rattle.vetting.proofs.turns.turn_plural.Lts as lts
-use Rattle.vetting.proofs.lengths.worst_plural.Reads as worst-plural-reads
 
--- src/turns.rt:142:9
 worst-plural-requires : tie.Need-worst-plural-requires
 worst-plural-requires c κs = search needs
 
--- src/turns.rt:145:13
 returns : tie.Need-returns
 returns c = plural-first (c .before .before .before .before .args .kinds .now) (c .before .before .before .before .args .d) (c .before .before .before .before .args .next) ((c .before .before .before .before .pre .0)) (c .before .if1 .taken) (c .if2 .taken)
 
--- src/turns.rt:147:9
 returns-2 : tie.Need-returns-2
 returns-2 c = plural-back (c .before .before .before .before .args .kinds .now) (c .before .before .before .before .args .d) (c .before .before .before .before .args .next) ((c .before .before .before .before .pre .0)) (c .before .if1 .taken) (c .if2 .left) ((c .before .before .before .before .pre .1)) (c .before .before .worst-plural .result) (c .before .before .worst-plural .ensures)
 
--- src/turns.rt:150:9
 returns-3 : tie.Need-returns-3
 returns-3 c = plural-none (c .before .before .before .before .args .kinds .now) (c .before .before .before .before .args .d) (c .before .before .before .before .args .next) ((c .before .before .before .before .pre .0)) (c .before .if1 .left) (c .if3 .taken)
 
--- src/turns.rt:153:15
 add-t7 : tie.Need-add-t7
 add-t7 c = search needs
 
--- src/turns.rt:137:1
 returns-4 : tie.Need-returns-4
 returns-4 c = plural-goes (c .before .before .before .before .args .kinds .now) (c .before .before .before .before .args .d) (c .before .before .before .before .args .next) ((c .before .before .before .before .pre .0)) (c .before .if1 .left) (c .if3 .left) (c .before .before .worst-plural .result) (c .before .before .worst-plural .ensures)
 
