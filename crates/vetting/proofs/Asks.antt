@@ -89,7 +89,8 @@ module _ (format kinds : List ℕ) (longest : ℕ) where
       pub running : plainVerdict format ≡ Accepted → Running format kinds longest
       running e = record { may = may; asked = asked-of kinds longest may; text = text; plain = e }
 
-      pub ran : plainVerdict format ≡ Accepted → vetFrom kinds longest (tokensAt format 0) 0 0 ≡ vetOf format kinds longest
+      pub ran : plainVerdict format ≡ Accepted
+          → vetFrom kinds longest (tokensAt format 0) 0 0 ≡ vetOf format kinds longest
       ran e = sym (read ∙ ap (λ (x : Verdict). unlessDeclined x counting) e)
 
 -- the definition's answer keeps every promise

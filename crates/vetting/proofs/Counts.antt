@@ -51,7 +51,8 @@ module _ {t kinds : List ℕ} {longest p next sum : ℕ} (l : Counted t kinds lo
     module _ (turn : Turn) (by : turn ≡ turnOf kinds longest i next) where
       pub count-stops : (code : ℕ) → turn ≡ Stops code → declined code p ≡ vetFrom kinds longest (tokensAt t 0) 0 0
       count-stops code e =
-          sym (l .rest ∙ vet-stops t p (placeAfter p i) i (follows t p (placeAfter p i) i h is refl) kinds longest next sum code (sym by ∙ e))
+          sym (l .rest ∙ vet-stops t p (placeAfter p i) i (follows t p (placeAfter p i) i h is refl) kinds longest
+          next sum code (sym by ∙ e))
 
       module _ (long : longest ≤ 4096) (after size : ℕ) (e : turn ≡ Goes after size) where
         pub count-turned : Turned (length kinds) (Goes after size)

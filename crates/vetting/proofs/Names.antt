@@ -15,19 +15,55 @@ module _ (c : ℕ)
   pub name-one : c < 16 → 2 ≡ length (nameOf c)
   unfolding nameOf
   name-one h =
-      rw (ne-eqb c 0 n0, ne-eqb c 7 n7, ne-eqb c 8 n8, ne-eqb c 9 n9, ne-eqb c 10 n10, ne-eqb c 13 n13, ne-eqb c 27 n27, ne-eqb c 32 n32, ne-eqb c 127 n127, lt-ltb c 32 (omega arith))
+      rw (
+        ne-eqb c 0 n0,
+        ne-eqb c 7 n7,
+        ne-eqb c 8 n8,
+        ne-eqb c 9 n9,
+        ne-eqb c 10 n10,
+        ne-eqb c 13 n13,
+        ne-eqb c 27
+            n27,
+        ne-eqb c 32 n32,
+        ne-eqb c 127 n127,
+        lt-ltb c 32 (omega arith),
+      )
       (omega (arith, count-one 16 c h))
 
   pub name-two : 16 ≤ c → c < 32 → 3 ≡ length (nameOf c)
   unfolding nameOf
   name-two h k =
-      rw (ne-eqb c 0 n0, ne-eqb c 7 n7, ne-eqb c 8 n8, ne-eqb c 9 n9, ne-eqb c 10 n10, ne-eqb c 13 n13, ne-eqb c 27 n27, ne-eqb c 32 n32, ne-eqb c 127 n127, lt-ltb c 32 k)
+      rw (
+        ne-eqb c 0 n0,
+        ne-eqb c 7 n7,
+        ne-eqb c 8 n8,
+        ne-eqb c 9 n9,
+        ne-eqb c 10 n10,
+        ne-eqb c 13 n13,
+        ne-eqb c 27
+            n27,
+        ne-eqb c 32 n32,
+        ne-eqb c 127 n127,
+        lt-ltb c 32 k,
+      )
       (omega (arith, count-more 16 c (omega arith) h, count-one 16 (c / 16) (omega arith)))
 
   pub name-byte : 32 ≤ c → 1 ≡ length (nameOf c)
   unfolding nameOf
   name-byte h =
-      rw (ne-eqb c 0 n0, ne-eqb c 7 n7, ne-eqb c 8 n8, ne-eqb c 9 n9, ne-eqb c 10 n10, ne-eqb c 13 n13, ne-eqb c 27 n27, ne-eqb c 32 n32, ne-eqb c 127 n127, le-ltb c 32 h)
+      rw (
+        ne-eqb c 0 n0,
+        ne-eqb c 7 n7,
+        ne-eqb c 8 n8,
+        ne-eqb c 9 n9,
+        ne-eqb c 10 n10,
+        ne-eqb c 13 n13,
+        ne-eqb c 27
+            n27,
+        ne-eqb c 32 n32,
+        ne-eqb c 127 n127,
+        le-ltb c 32 h,
+      )
 
 module _ (colon at : Bool) (c : ℕ) where
   pub glyph-written : at ≡ true → (n : ℕ) → n ≡ length (nameOf c) → n + 2 ≡ length (glyphOf colon at c)

@@ -49,7 +49,8 @@ module _ {t : List ℕ} {p : ℕ} (l : PlainTo t p) where
 
   module _ (i : Item) (h : p < length t) (is : i ≡ itemAt t p) (plain : Bool) (test : plain ≡ plainItem i) where
     pub plain-refused : plain ≡ false → Refused 11 p ≡ plainVerdict t
-    plain-refused e = sym (l .rest ∙ plain-not t p (placeAfter p i) i (follows t p (placeAfter p i) i h is refl) (sym test ∙ e))
+    plain-refused e =
+        sym (l .rest ∙ plain-not t p (placeAfter p i) i (follows t p (placeAfter p i) i h is refl) (sym test ∙ e))
 
     pub plain-more : plain ≡ true → (q : ℕ) → q ≡ placeAfter p i → PlainTo t q
     plain-more e q f = record {
@@ -68,4 +69,5 @@ pub directive-plain : (d : Directive) {k a b c e last more all r : Bool} → k �
     → last ≡ both c e → more ≡ both b last → all ≡ both a more → r ≡ both k all
     → r ≡ both (plainCode (d .code)) (noneNext (inOrder (d .parameters)))
 directive-plain d {k} {a} {b} {c} {e} ek ea eb ec ee el em en er =
-    er ∙ rw (en, em, el, ← ek, ← ea, ← eb, ← ec, ← ee) (ap (λ (x : Bool). both k (both a (both b (both c x)))) (sym (both-end e)))
+    er ∙ rw (en, em, el, ← ek, ← ea, ← eb, ← ec, ← ee)
+    (ap (λ (x : Bool). both k (both a (both b (both c x)))) (sym (both-end e)))

@@ -67,7 +67,8 @@ module _ (kinds : List ℕ) (d : Directive) (next left : ℕ) (is : left ≡ len
 
     pub object-range : b ≡ 0 → Stops 8 ≡ turnOf kinds longest (Written d) next
     object-range z =
-        sym (turn-unsettled kinds longest d (Object q) (w .code) next 8 (object-refused (length kinds) next left is few d q w (omega arith)))
+        sym (turn-unsettled kinds longest d (Object q) (w .code) next 8
+        (object-refused (length kinds) next left is few d q w (omega arith)))
 
     module _ (n : b ≡ 0 → ⊥) where
       object-all : workedOut (length kinds) (Object q) d next ≡ settled (settingsAt left d) next
@@ -78,14 +79,17 @@ module _ (kinds : List ℕ) (d : Directive) (next left : ℕ) (is : left ≡ len
 
       pub object-wrong : next < length kinds → kindIn kinds next ≡ 4 → Stops 7 ≡ turnOf kinds longest (Written d) next
       object-wrong g k =
-          sym (turn-wrong kinds longest d (Object q) (w .code) next (settingsAt left d) next object-all refl g (rw (eq-eqb (kindIn kinds next) 4 k)))
+          sym (turn-wrong kinds longest d (Object q) (w .code) next (settingsAt left d) next object-all refl g
+          (rw (eq-eqb (kindIn kinds next) 4 k)))
 
       pub object-goes : next < length kinds → (kindIn kinds next ≡ 4 → ⊥) → (size : ℕ)
           → size ≡ worst longest (Object q) false false (padding a b m) (kindIn kinds next)
           → Goes (next + 1) size ≡ turnOf kinds longest (Written d) next
       object-goes g k size e =
-          goes-with (next + 1) (e ∙ rw (ea, eb, em) (object-worst longest q (d .colon) (d .at) (settingsOf (settingsAt left d)) (kindIn kinds next)))
-          ∙ sym (turn-own kinds longest d (Object q) (w .code) next (settingsAt left d) next object-all refl g (rw (ne-eqb (kindIn kinds next) 4 k)))
+          goes-with (next + 1) (e ∙ rw (ea, eb, em)
+          (object-worst longest q (d .colon) (d .at) (settingsOf (settingsAt left d)) (kindIn kinds next)))
+          ∙ sym (turn-own kinds longest d (Object q) (w .code) next (settingsAt left d) next object-all refl g
+          (rw (ne-eqb (kindIn kinds next) 4 k)))
 
   -- `~d ~x ~o ~b`
   module _ (base : ℕ) (w : Writing (Numeral base) d) (many : length kinds ≤ 1024) {a b : ℕ}
@@ -96,7 +100,8 @@ module _ (kinds : List ℕ) (d : Directive) (next left : ℕ) (is : left ≡ len
 
     pub numeral-range : b ≡ 0 → (longest : ℕ) → Stops 8 ≡ turnOf kinds longest (Written d) next
     numeral-range z longest =
-        sym (turn-unsettled kinds longest d (Numeral base) (w .code) next 8 (numeral-refused (length kinds) next left is little d base w (omega arith)))
+        sym (turn-unsettled kinds longest d (Numeral base) (w .code) next 8
+        (numeral-refused (length kinds) next left is little d base w (omega arith)))
 
     module _ (n : b ≡ 0 → ⊥) where
       numeral-all : workedOut (length kinds) (Numeral base) d next ≡ settled (settingsAt left d) next
@@ -109,14 +114,18 @@ module _ (kinds : List ℕ) (d : Directive) (next left : ℕ) (is : left ≡ len
       pub numeral-wrong : next < length kinds → (kindIn kinds next ≡ 1 → ⊥) → (longest : ℕ)
           → Stops 7 ≡ turnOf kinds longest (Written d) next
       numeral-wrong g k longest =
-          sym (turn-wrong kinds longest d (Numeral base) (w .code) next (settingsAt left d) next numeral-all refl g (ne-eqb (kindIn kinds next) 1 k))
+          sym (turn-wrong kinds longest d (Numeral base) (w .code) next (settingsAt left d) next numeral-all refl g
+          (ne-eqb (kindIn kinds next) 1 k))
 
       pub numeral-goes : next < length kinds → kindIn kinds next ≡ 1 → (size : ℕ)
           → size ≡ numeralMost base (d .colon) a b → (longest : ℕ)
           → Goes (next + 1) size ≡ turnOf kinds longest (Written d) next
       numeral-goes g k size e longest =
-          goes-with (next + 1) (e ∙ rw (ea, eb) (numeral-worst longest base (d .colon) (d .at) (settingsOf (settingsAt left d)) (kindIn kinds next) (omega arith)))
-          ∙ sym (turn-own kinds longest d (Numeral base) (w .code) next (settingsAt left d) next numeral-all refl g (eq-eqb (kindIn kinds next) 1 k))
+          goes-with (next + 1) (e ∙ rw (ea, eb)
+          (numeral-worst longest base (d .colon) (d .at) (settingsOf (settingsAt left d)) (kindIn kinds next)
+          (omega arith)))
+          ∙ sym (turn-own kinds longest d (Numeral base) (w .code) next (settingsAt left d) next numeral-all refl g
+          (eq-eqb (kindIn kinds next) 1 k))
 
   -- `~c`
   module _ (w : Writing Glyph d) {s : Setting} (es : s ≡ settingBy left (d .parameters .first)) where
@@ -126,14 +135,16 @@ module _ (kinds : List ℕ) (d : Directive) (next left : ℕ) (is : left ≡ len
 
       pub glyph-range : 127 < code → (longest : ℕ) → Stops 8 ≡ turnOf kinds longest (Written d) next
       glyph-range h longest =
-          sym (turn-unsettled kinds longest d Glyph (w .code) next 8 (glyph-refused (length kinds) next left is d w (rw this h)))
+          sym (turn-unsettled kinds longest d Glyph (w .code) next 8
+          (glyph-refused (length kinds) next left is d w (rw this h)))
 
       pub glyph-given : code ≤ 127 → (size : ℕ) → size ≡ length (glyphOf (d .colon) (d .at) code) → (longest : ℕ)
           → Goes next size ≡ turnOf kinds longest (Written d) next
       unfolding textOf
       glyph-given h size f longest =
           goes-with next f
-          ∙ sym (turn-given kinds longest d Glyph (w .code) next (settingBy left (d .parameters .first) ∷ []) next (glyph-settled (length kinds) next left is d w (rw this h)) (character code) (ap glyphSource this))
+          ∙ sym (turn-given kinds longest d Glyph (w .code) next (settingBy left (d .parameters .first) ∷ []) next
+          (glyph-settled (length kinds) next left is d w (rw this h)) (character code) (ap glyphSource this))
 
     module _ (e : s ≡ Absent) where
       unset : settingBy left (d .parameters .first) ≡ Absent
@@ -144,12 +155,14 @@ module _ (kinds : List ℕ) (d : Directive) (next left : ℕ) (is : left ≡ len
 
       pub glyph-none : length kinds ≤ next → (longest : ℕ) → Stops 6 ≡ turnOf kinds longest (Written d) next
       glyph-none g longest =
-          sym (turn-none kinds longest d Glyph (w .code) next (settingBy left (d .parameters .first) ∷ []) next glyph-all (ap glyphSource unset) g)
+          sym (turn-none kinds longest d Glyph (w .code) next (settingBy left (d .parameters .first) ∷ []) next
+          glyph-all (ap glyphSource unset) g)
 
       pub glyph-wrong : next < length kinds → (kindIn kinds next ≡ 2 → ⊥) → (longest : ℕ)
           → Stops 7 ≡ turnOf kinds longest (Written d) next
       glyph-wrong g k longest =
-          sym (turn-wrong kinds longest d Glyph (w .code) next (settingBy left (d .parameters .first) ∷ []) next glyph-all (ap glyphSource unset) g (ne-eqb (kindIn kinds next) 2 k))
+          sym (turn-wrong kinds longest d Glyph (w .code) next (settingBy left (d .parameters .first) ∷ []) next
+          glyph-all (ap glyphSource unset) g (ne-eqb (kindIn kinds next) 2 k))
 
       pub glyph-goes : next < length kinds → kindIn kinds next ≡ 2 → (size : ℕ)
           → size ≡ cond (d .at) 11 (cond (d .colon) 2 1) → (longest : ℕ)
@@ -157,15 +170,18 @@ module _ (kinds : List ℕ) (d : Directive) (next left : ℕ) (is : left ≡ len
       unfolding worst
       glyph-goes g k size f longest =
           goes-with (next + 1) f
-          ∙ sym (turn-own kinds longest d Glyph (w .code) next (settingBy left (d .parameters .first) ∷ []) next glyph-all (ap glyphSource unset) g (eq-eqb (kindIn kinds next) 2 k))
+          ∙ sym (turn-own kinds longest d Glyph (w .code) next (settingBy left (d .parameters .first) ∷ []) next
+          glyph-all (ap glyphSource unset) g (eq-eqb (kindIn kinds next) 2 k))
 
   -- `~~ ~% ~_ ~| ~/`
   pub repeat-goes : (b : ℕ) → Writing (Repeat b) d → length kinds ≤ 1024 → (size : ℕ)
       → size ≡ orElse (settingBy left (d .parameters .first)) 1 → (longest : ℕ)
       → Goes next size ≡ turnOf kinds longest (Written d) next
   repeat-goes b w many size e longest =
-      goes-with next (e ∙ sym (repeat-length b (d .colon) (d .at) (settingsOf (settingBy left (d .parameters .first) ∷ [])) (boolean false)))
-      ∙ sym (turn-given kinds longest d (Repeat b) (w .code) next (settingBy left (d .parameters .first) ∷ []) next (repeat-settled (length kinds) next left is (omega arith) d b w) (boolean false) refl)
+      goes-with next (e ∙ sym (repeat-length b (d .colon) (d .at)
+      (settingsOf (settingBy left (d .parameters .first) ∷ [])) (boolean false)))
+      ∙ sym (turn-given kinds longest d (Repeat b) (w .code) next (settingBy left (d .parameters .first) ∷ []) next
+      (repeat-settled (length kinds) next left is (omega arith) d b w) (boolean false) refl)
 
 -- `~p`
 module _ (kinds : List ℕ) (d : Directive) (next : ℕ) (w : Writing Plural d) where
@@ -174,32 +190,38 @@ module _ (kinds : List ℕ) (d : Directive) (next : ℕ) (w : Writing Plural d) 
 
   pub plural-first : d .colon ≡ true → next ≡ 0 → (longest : ℕ) → Stops 6 ≡ turnOf kinds longest (Written d) next
   plural-first e z longest =
-      sym (turn-first kinds longest d Plural (w .code) next [] next (plural-settled (length kinds) next d) (plural-source true e) z)
+      sym (turn-first kinds longest d Plural (w .code) next [] next (plural-settled (length kinds) next d)
+      (plural-source true e) z)
 
   pub plural-back : d .colon ≡ true → (next ≡ 0 → ⊥) → next ≤ length kinds → (size : ℕ) → size ≡ cond (d .at) 3 1
       → (longest : ℕ) → Goes next size ≡ turnOf kinds longest (Written d) next
   unfolding worst
   plural-back e z h size f longest =
       goes-with next f
-      ∙ sym (turn-back kinds longest d Plural (w .code) next [] next (plural-settled (length kinds) next d) (plural-source true e) z (omega arith) refl)
+      ∙ sym (turn-back kinds longest d Plural (w .code) next [] next (plural-settled (length kinds) next d)
+      (plural-source true e) z (omega arith) refl)
 
-  pub plural-none : d .colon ≡ false → length kinds ≤ next → (longest : ℕ) → Stops 6 ≡ turnOf kinds longest (Written d) next
+  pub plural-none : d .colon ≡ false → length kinds ≤ next → (longest : ℕ)
+      → Stops 6 ≡ turnOf kinds longest (Written d) next
   plural-none e h longest =
-      sym (turn-none kinds longest d Plural (w .code) next [] next (plural-settled (length kinds) next d) (plural-source false e) h)
+      sym (turn-none kinds longest d Plural (w .code) next [] next (plural-settled (length kinds) next d)
+      (plural-source false e) h)
 
   pub plural-goes : d .colon ≡ false → next < length kinds → (size : ℕ) → size ≡ cond (d .at) 3 1
       → (longest : ℕ) → Goes (next + 1) size ≡ turnOf kinds longest (Written d) next
   unfolding worst
   plural-goes e h size f longest =
       goes-with (next + 1) f
-      ∙ sym (turn-own kinds longest d Plural (w .code) next [] next (plural-settled (length kinds) next d) (plural-source false e) h refl)
+      ∙ sym (turn-own kinds longest d Plural (w .code) next [] next (plural-settled (length kinds) next d)
+      (plural-source false e) h refl)
 
 -- tilde-newline
 pub fold-goes : (d : Directive) (next : ℕ) → Writing Fold d → (size : ℕ) → size ≡ cond (d .at) 1 0
     → (kinds : List ℕ) (longest : ℕ) → Goes next size ≡ turnOf kinds longest (Written d) next
 fold-goes d next w size e kinds longest =
     goes-with next (e ∙ sym (fold-length (d .colon) (d .at) (settingsOf []) (boolean false)))
-    ∙ sym (turn-given kinds longest d Fold (w .code) next [] next (fold-settled (length kinds) next d) (boolean false) refl)
+    ∙ sym (turn-given kinds longest d Fold (w .code) next [] next (fold-settled (length kinds) next d) (boolean false)
+    refl)
 
 -- a plain directive is of the form of its code
 pub writing-of : (d : Directive) → PlainDirective d → (f : Form) → d .code ≡ Writes f → Writing f d
@@ -223,13 +245,15 @@ abbrev other-items : List ℕ
 other-items = 0 ∷ 3 ∷ 4 ∷ []
 
 module _ (kinds : List ℕ) (longest next : ℕ) where
-  pub other-code : (d : Directive) → PlainDirective d → (c : Code) → c ≡ d .code → OneOf other-codes (tagOf code-declared.the-type c)
+  pub other-code : (d : Directive) → PlainDirective d → (c : Code) → c ≡ d .code
+      → OneOf other-codes (tagOf code-declared.the-type c)
       → Goes next 0 ≡ turnOf kinds longest (Written d) next
   other-code d w c e o =
       let same : c ≡ Writes (w .form) = e ∙ w .code in
       absurd (miss other-codes 0 tt (rw same at o))
 
-  pub other-item : (i : Item) → OneOf other-items (tagOf item-declared.the-type i) → Goes next 0 ≡ turnOf kinds longest i next
+  pub other-item : (i : Item) → OneOf other-items (tagOf item-declared.the-type i)
+      → Goes next 0 ≡ turnOf kinds longest i next
   unfolding turnOf useOf
   other-item End o = refl
   other-item (Literal b) o = absurd (miss other-items 1 tt o)

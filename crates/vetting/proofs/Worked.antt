@@ -172,22 +172,27 @@ module _ (count next left : ℕ) (is : left ≡ count - next) (few : left ≤ 10
     object-least = number-most left 0 0 4096 (d .parameters .third) (object-suits .third) (omega arith) (omega arith)
 
     object-first : Done anyNumber (d .parameters .first)
-    object-first = number-in left 0 0 4096 count next is (d .parameters .first) (object-fixed .first) (omega arith) object-width
+    object-first =
+        number-in left 0 0 4096 count next is (d .parameters .first) (object-fixed .first) (omega arith) object-width
 
     pub object-settled : 1 ≤ orElse second 1
         → workedOut count (Object q) d next ≡ settled (first ∷ second ∷ third ∷ fourth ∷ []) next
     object-settled h =
         one-in count next anyNumber _ (d .parameters .first) _ object-first
-        (one-in count next countingNumber _ (d .parameters .second) _ (number-in left 1 1 4096 count next is (d .parameters .second) (object-fixed .second) h object-step)
-        (one-in count next anyNumber _ (d .parameters .third) _ (number-in left 0 0 4096 count next is (d .parameters .third) (object-fixed .third) (omega arith) object-least)
-        (one-in count next characterPlace _ (d .parameters .fourth) _ (character-in left 0 0 0 count next is (d .parameters .fourth) (object-fixed .fourth) (object-suits .fourth))
+        (one-in count next countingNumber _ (d .parameters .second) _
+        (number-in left 1 1 4096 count next is (d .parameters .second) (object-fixed .second) h object-step)
+        (one-in count next anyNumber _ (d .parameters .third) _
+        (number-in left 0 0 4096 count next is (d .parameters .third) (object-fixed .third) (omega arith) object-least)
+        (one-in count next characterPlace _ (d .parameters .fourth) _
+        (character-in left 0 0 0 count next is (d .parameters .fourth) (object-fixed .fourth) (object-suits .fourth))
         (none-in count next []))))
 
     pub object-refused : orElse second 1 < 1 → workedOut count (Object q) d next ≡ unsettled 8
     object-refused h =
         one-past count next anyNumber _ (d .parameters .first) _ object-first
         (one-out count next countingNumber _ (d .parameters .second) _
-        (number-low left 1 1 4096 count next is (d .parameters .second) (object-fixed .second) (object-suits .second) (omega arith) h))
+        (number-low left 1 1 4096 count next is (d .parameters .second) (object-fixed .second) (object-suits .second)
+        (omega arith) h))
 
   -- minwidth, padchar, commachar, commawidth
   module _ (base : ℕ) (w : Writing (Numeral base) d) where
@@ -203,10 +208,12 @@ module _ (count next left : ℕ) (is : left ≡ count - next) (few : left ≤ 10
         (number-most left 0 0 4096 (d .parameters .first) (numeral-suits .first) (omega arith) (omega arith))
 
     numeral-second : Done characterPlace (d .parameters .second)
-    numeral-second = character-in left 0 0 0 count next is (d .parameters .second) (numeral-fixed .second) (numeral-suits .second)
+    numeral-second =
+        character-in left 0 0 0 count next is (d .parameters .second) (numeral-fixed .second) (numeral-suits .second)
 
     numeral-third : Done characterPlace (d .parameters .third)
-    numeral-third = character-in left 0 0 0 count next is (d .parameters .third) (numeral-fixed .third) (numeral-suits .third)
+    numeral-third =
+        character-in left 0 0 0 count next is (d .parameters .third) (numeral-fixed .third) (numeral-suits .third)
 
     pub numeral-settled : 1 ≤ orElse fourth 3
         → workedOut count (Numeral base) d next ≡ settled (first ∷ second ∷ third ∷ fourth ∷ []) next
@@ -225,15 +232,18 @@ module _ (count next left : ℕ) (is : left ≡ count - next) (few : left ≤ 10
         (one-past count next characterPlace _ (d .parameters .second) _ numeral-second
         (one-past count next characterPlace _ (d .parameters .third) _ numeral-third
         (one-out count next countingNumber _ (d .parameters .fourth) _
-        (number-low left 3 1 4096 count next is (d .parameters .fourth) (numeral-fixed .fourth) (numeral-suits .fourth) (omega arith) h))))
+        (number-low left 3 1 4096 count next is (d .parameters .fourth) (numeral-fixed .fourth)
+        (numeral-suits .fourth) (omega arith) h))))
 
   -- n
   module _ (b : ℕ) (w : Writing (Repeat b) d) where
     pub repeat-settled : workedOut count (Repeat b) d next ≡ settled (first ∷ []) next
     repeat-settled =
         one-in count next anyNumber _ (d .parameters .first) _
-        (number-in left 1 0 4096 count next is (d .parameters .first) (fixed-each (d .parameters) (w .fixed) .first) (omega arith)
-        (number-most left 1 0 4096 (d .parameters .first) (single anyNumber (d .parameters) (w .suits)) (omega arith) (omega arith)))
+        (number-in left 1 0 4096 count next is (d .parameters .first) (fixed-each (d .parameters) (w .fixed) .first)
+        (omega arith)
+        (number-most left 1 0 4096 (d .parameters .first) (single anyNumber (d .parameters) (w .suits)) (omega arith)
+        (omega arith)))
         (none-in count next _)
 
 -- charnum
@@ -242,13 +252,15 @@ module _ (count next left : ℕ) (is : left ≡ count - next) (d : Directive) (w
       → workedOut count Glyph d next ≡ settled (settingBy left (d .parameters .first) ∷ []) next
   glyph-settled h =
       one-in count next (number 0 127) _ (d .parameters .first) _
-      (number-in left 0 0 127 count next is (d .parameters .first) (fixed-each (d .parameters) (w .fixed) .first) (omega arith) h)
+      (number-in left 0 0 127 count next is (d .parameters .first) (fixed-each (d .parameters) (w .fixed) .first)
+      (omega arith) h)
       (none-in count next _)
 
   pub glyph-refused : 127 < orElse (settingBy left (d .parameters .first)) 0 → workedOut count Glyph d next ≡ unsettled 8
   glyph-refused h =
       one-out count next (number 0 127) _ (d .parameters .first) _
-      (number-high left 0 0 127 count next is (d .parameters .first) (fixed-each (d .parameters) (w .fixed) .first) (single (number 0 127) (d .parameters) (w .suits)) (omega arith) (omega arith) h)
+      (number-high left 0 0 127 count next is (d .parameters .first) (fixed-each (d .parameters) (w .fixed) .first)
+      (single (number 0 127) (d .parameters) (w .suits)) (omega arith) (omega arith) h)
 
 -- no parameter
 pub plural-settled : (count next : ℕ) (d : Directive) → workedOut count Plural d next ≡ settled [] next

@@ -1,8 +1,9 @@
 -- The greatest length of a piece, by the kind of the argument, from the greatest padded lengths. Assumes nothing.
-use Prim.Native.Nat.{ℕ, _+_, _*_, _-_, _/_, _≤_}
+use Prim.Native.Nat.{ℕ, _+_, _*_, _-_, _/_, _≤_, _<_}
 use mathlib.Core.Path.{_≡_, refl, sym, _∙_}
 use mathlib.Core.Bool.{Bool, true, false}
 use native.Mathlib.Numerals.{add-one}
+use native.Mathlib.Omega.{arith}
 use Rattle.rules.specs.Piece.{orElse}
 use Rattle.rules.specs.declared.Form.the-variants.{Object, Numeral}
 use Rattle.rules.specs.declared.Settings.{Settings}
@@ -37,9 +38,14 @@ module _ (longest : ℕ) (q : Bool) (w p m kind : ℕ) {r : ℕ} where
   pub of-quoted : kind ≡ 3 → q ≡ true → r ≡ greatest w p m 2 (2 * longest + 2) → r ≡ objectMost longest q w p m kind
   of-quoted e g f = by-kind 3 e (f ∙ sym (worst-quoted longest q false false (padding w p m) g))
 
+-- a kind that is none of the others is a string
+pub is-string : (k : ℕ) → k < 4 → (k ≡ 0 → ⊥) → (k ≡ 1 → ⊥) → (k ≡ 2 → ⊥) → k ≡ 3
+is-string k h a b c = omega arith
+
 -- only the three numbers count
 pub object-worst : (longest : ℕ) (q colon at : Bool) (s : Settings) (kind : ℕ)
-    → worst longest (Object q) false false (padding (orElse (s .first) 0) (orElse (s .second) 1) (orElse (s .third) 0)) kind
+    → worst longest (Object q) false false
+    (padding (orElse (s .first) 0) (orElse (s .second) 1) (orElse (s .third) 0)) kind
     ≡ worst longest (Object q) colon at s kind
 unfolding worst
 object-worst longest q colon at s kind = refl

@@ -12,7 +12,10 @@ enum-told : tie.Need-enum-told
 enum-told c = search needs
 
 vet-read-requires : tie.Need-vet-read-requires
-vet-read-requires c κs = ((c .before .before .before .before .before .pre), sym (c .before .before .check-text .ensures) ∙ (c .enum-told .given .1))
+vet-read-requires c κs =
+    let pre = c .before .before .before .before .before .pre in
+    let check-text = c .before .before .check-text in
+    (pre, sym (check-text .ensures) ∙ (c .enum-told .given .1))
 
 enum-known-text : tie.Need-enum-known-text
 enum-known-text c = search needs
@@ -24,7 +27,13 @@ returns : tie.Need-returns
 returns c = search needs
 
 returns-2 : tie.Need-returns-2
-returns-2 c = (c .decline .ensures) ∙ not-read (c .before .before .before .before .before .before .before .args .format .now) (c .before .before .before .before .before .before .before .args .kinds .now) (c .before .before .before .before .before .before .before .args .longest) (c .before .before .before .before .before .before .before .pre) (sym (c .before .before .before .before .check-text .ensures) ∙ (c .before .before .text .given .1))
+returns-2 c =
+    let args = c .before .before .before .before .before .before .before .args in
+    let pre = c .before .before .before .before .before .before .before .pre in
+    let check-text = c .before .before .before .before .check-text in
+    let text = c .before .before .text in
+    (c .decline .ensures) ∙ not-read (args .format .now) (args .kinds .now) (args .longest) pre
+    (sym (check-text .ensures) ∙ (text .given .1))
 
 pub vet-asked-spec : {M : Type 1} → statement M
 vet-asked-spec =

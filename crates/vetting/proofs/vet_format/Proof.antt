@@ -13,13 +13,20 @@ vet-asked-requires : tie.Need-vet-asked-requires
 vet-asked-requires c κs = sym (c .before .may-ask .ensures) ∙ (c .if1 .taken)
 
 returns : tie.Need-returns
-returns c = keeps (c .before .before .before .before .before .args .format .now) (c .before .before .before .before .before .args .kinds .now) (c .before .before .before .before .before .args .longest) (c .vet-asked .ensures)
+returns c =
+    let args = c .before .before .before .before .before .args in
+    keeps (args .format .now) (args .kinds .now) (args .longest) (c .vet-asked .ensures)
 
 decline-requires : tie.Need-decline-requires
 decline-requires c κs = search needs
 
 returns-2 : tie.Need-returns-2
-returns-2 c = keeps (c .before .before .before .before .before .args .format .now) (c .before .before .before .before .before .args .kinds .now) (c .before .before .before .before .before .args .longest) ((c .decline .ensures) ∙ not-asked (c .before .before .before .before .before .args .format .now) (c .before .before .before .before .before .args .kinds .now) (c .before .before .before .before .before .args .longest) (sym (c .before .before .may-ask .ensures) ∙ (c .before .if1 .left)))
+returns-2 c =
+    let args = c .before .before .before .before .before .args in
+    let may-ask = c .before .before .may-ask in
+    keeps (args .format .now) (args .kinds .now) (args .longest)
+    ((c .decline .ensures) ∙ not-asked (args .format .now) (args .kinds .now) (args .longest)
+    (sym (may-ask .ensures) ∙ (c .before .if1 .left)))
 
 pub vet-format-spec : {M : Type 1} → statement M
 vet-format-spec =

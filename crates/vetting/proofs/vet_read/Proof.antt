@@ -12,7 +12,12 @@ enum-told : tie.Need-enum-told
 enum-told c = search needs
 
 count-items-requires : tie.Need-count-items-requires
-count-items-requires c κs = running (c .before .before .before .before .before .args .format .now) (c .before .before .before .before .before .args .kinds .now) (c .before .before .before .before .before .args .longest) ((c .before .before .before .before .before .pre .0)) ((c .before .before .before .before .before .pre .1)) (sym (c .before .before .check-plain .ensures) ∙ (c .enum-told .given .1))
+count-items-requires c κs =
+    let args = c .before .before .before .before .before .args in
+    let pre = c .before .before .before .before .before .pre in
+    let check-plain = c .before .before .check-plain in
+    running (args .format .now) (args .kinds .now) (args .longest) (pre .0) (pre .1)
+    (sym (check-plain .ensures) ∙ (c .enum-told .given .1))
 
 enum-known-plain : tie.Need-enum-known-plain
 enum-known-plain c = search needs
@@ -21,10 +26,21 @@ decline-requires : tie.Need-decline-requires
 decline-requires c κs = search needs
 
 returns : tie.Need-returns
-returns c = (c .count-items .ensures) ∙ ran (c .before .before .before .before .before .before .args .format .now) (c .before .before .before .before .before .before .args .kinds .now) (c .before .before .before .before .before .before .args .longest) ((c .before .before .before .before .before .before .pre .0)) ((c .before .before .before .before .before .before .pre .1)) (sym (c .before .before .before .check-plain .ensures) ∙ (c .before .enum-told .given .1))
+returns c =
+    let args = c .before .before .before .before .before .before .args in
+    let pre = c .before .before .before .before .before .before .pre in
+    let check-plain = c .before .before .before .check-plain in
+    (c .count-items .ensures) ∙ ran (args .format .now) (args .kinds .now) (args .longest) (pre .0) (pre .1)
+    (sym (check-plain .ensures) ∙ (c .before .enum-told .given .1))
 
 returns-2 : tie.Need-returns-2
-returns-2 c = (c .decline .ensures) ∙ not-plain (c .before .before .before .before .before .before .before .args .format .now) (c .before .before .before .before .before .before .before .args .kinds .now) (c .before .before .before .before .before .before .before .args .longest) ((c .before .before .before .before .before .before .before .pre .0)) ((c .before .before .before .before .before .before .before .pre .1)) (sym (c .before .before .before .before .check-plain .ensures) ∙ (c .before .before .plain .given .1))
+returns-2 c =
+    let args = c .before .before .before .before .before .before .before .args in
+    let pre = c .before .before .before .before .before .before .before .pre in
+    let check-plain = c .before .before .before .before .check-plain in
+    let plain = c .before .before .plain in
+    (c .decline .ensures) ∙ not-plain (args .format .now) (args .kinds .now) (args .longest) (pre .0) (pre .1)
+    (sym (check-plain .ensures) ∙ (plain .given .1))
 
 pub vet-read-spec : {M : Type 1} → statement M
 vet-read-spec =

@@ -13,16 +13,28 @@ add-result : tie.Need-add-result
 add-result c = omega (arith, (c .name-size .ensures .1))
 
 returns : tie.Need-returns
-returns c = glyph-written (c .before .before .args .colon) (c .before .before .args .at) (c .before .before .args .code) (c .before .if1 .taken) (c .name-size .result) (c .name-size .ensures .0)
+returns c =
+    let args = c .before .before .args in
+    glyph-written (args .colon) (args .at) (args .code) (c .before .if1 .taken) (c .name-size .result)
+    (c .name-size .ensures .0)
 
 returns-2 : tie.Need-returns-2
-returns-2 c = glyph-byte (c .before .before .args .colon) (c .before .before .args .at) (c .before .before .args .code) (c .before .if1 .left) (not-true _ (c .if2 .taken))
+returns-2 c =
+    let args = c .before .before .args in
+    glyph-byte (args .colon) (args .at) (args .code) (c .before .if1 .left) (not-true _ (c .if2 .taken))
 
 returns-3 : tie.Need-returns-3
-returns-3 c = glyph-control (c .before .before .before .args .colon) (c .before .before .before .args .at) (c .before .before .before .args .code) (c .before .before .if1 .left) (not-false _ (c .before .if2 .left)) (c .if3 .taken)
+returns-3 c =
+    let args = c .before .before .before .args in
+    let if1 = c .before .before .if1 in
+    glyph-control (args .colon) (args .at) (args .code) (if1 .left) (not-false _ (c .before .if2 .left))
+    (c .if3 .taken)
 
 returns-4 : tie.Need-returns-4
-returns-4 c = glyph-other (c .before .before .before .args .colon) (c .before .before .before .args .at) (c .before .before .before .args .code) (c .before .before .if1 .left) (not-false _ (c .before .if2 .left)) (c .if3 .left)
+returns-4 c =
+    let args = c .before .before .before .args in
+    let if1 = c .before .before .if1 in
+    glyph-other (args .colon) (args .at) (args .code) (if1 .left) (not-false _ (c .before .if2 .left)) (c .if3 .left)
 
 pub glyph-size-spec : {M : Type 1} → statement M
 glyph-size-spec =

@@ -27,7 +27,12 @@ larger-requires : tie.Need-larger-requires
 larger-requires c κs = search needs
 
 returns : tie.Need-returns
-returns c = (c .larger .ensures) ∙ greatest-is (c .before .before .before .before .args .minwidth) (c .before .before .before .before .args .padinc) (c .before .before .before .before .args .minpad) (c .before .before .before .before .args .least) (c .before .before .before .before .args .most) (c .before .before .before .less .ensures) (c .before .before .round-up .ensures .0) (c .before .padded-top .ensures)
+returns c =
+    let args = c .before .before .before .before .args in
+    let less = c .before .before .before .less in
+    let round-up = c .before .before .round-up in
+    (c .larger .ensures) ∙ greatest-is (args .minwidth) (args .padinc) (args .minpad) (args .least) (args .most)
+    (less .ensures) (round-up .ensures .0) (c .before .padded-top .ensures)
 
 pub greatest-spec : {M : Type 1} → statement M
 greatest-spec =

@@ -11,7 +11,9 @@ returns c = rw (le-leb _ _ (c .if1 .taken))
 
 returns-2 : tie.Need-returns-2
 unfolding largerOf
-returns-2 c = rw (lt-leb (c .before .args .a) (c .before .args .b) (omega arith))
+returns-2 c =
+    let args = c .before .args in
+    rw (lt-leb (args .a) (args .b) (omega arith))
 
 pub larger-spec : {M : Type 1} → statement M
 larger-spec = tie.close (tie.spec returns returns-2)

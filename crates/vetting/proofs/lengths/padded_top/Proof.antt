@@ -32,13 +32,25 @@ sub-result c = search needs
 
 returns : tie.Need-returns
 returns c =
-    let shortfall = (c .before .before .before .less2 .ensures) ∙ ap (λ (x : ℕ). x - ((c .before .before .before .before .before .args .most) + (c .before .before .before .before .before .args .minpad))) (c .before .before .before .before .less .ensures) in
-    sym (top-yes (c .before .before .before .before .before .args .minwidth) (c .before .before .before .before .before .args .padinc) (c .before .before .before .before .before .args .minpad) (c .before .before .before .before .before .args .least) (c .before .before .before .before .before .args .most) shortfall (c .before .before .round-up .ensures .0) (c .before .less3 .ensures) (c .if1 .taken))
+    let args = c .before .before .before .before .before .args in
+    let less = c .before .before .before .before .less in
+    let less2 = c .before .before .before .less2 in
+    let round-up = c .before .before .round-up in
+    let shortfall = (less2 .ensures) ∙ ap (λ (x : ℕ). x - ((args .most) + (args .minpad))) (less .ensures) in
+    sym
+    (top-yes (args .minwidth) (args .padinc) (args .minpad) (args .least) (args .most) shortfall
+    (round-up .ensures .0) (c .before .less3 .ensures) (c .if1 .taken))
 
 returns-2 : tie.Need-returns-2
 returns-2 c =
-    let shortfall = (c .before .before .before .less2 .ensures) ∙ ap (λ (x : ℕ). x - ((c .before .before .before .before .before .args .most) + (c .before .before .before .before .before .args .minpad))) (c .before .before .before .before .less .ensures) in
-    sym (top-no (c .before .before .before .before .before .args .minwidth) (c .before .before .before .before .before .args .padinc) (c .before .before .before .before .before .args .minpad) (c .before .before .before .before .before .args .least) (c .before .before .before .before .before .args .most) shortfall (c .before .before .round-up .ensures .0) (c .before .less3 .ensures) (c .if1 .left))
+    let args = c .before .before .before .before .before .args in
+    let less = c .before .before .before .before .less in
+    let less2 = c .before .before .before .less2 in
+    let round-up = c .before .before .round-up in
+    let shortfall = (less2 .ensures) ∙ ap (λ (x : ℕ). x - ((args .most) + (args .minpad))) (less .ensures) in
+    sym
+    (top-no (args .minwidth) (args .padinc) (args .minpad) (args .least) (args .most) shortfall (round-up .ensures .0)
+    (c .before .less3 .ensures) (c .if1 .left))
 
 pub padded-top-spec : {M : Type 1} → statement M
 padded-top-spec =

@@ -26,7 +26,11 @@ larger-requires : tie.Need-larger-requires
 larger-requires c κs = search needs
 
 returns : tie.Need-returns
-returns c = most-grouped (c .before .before .before .args .base) (c .before .before .before .args .width) (c .before .before .before .args .group) (c .before .before .digit-count .ensures .0) (c .before .before .before .args .colon) (c .before .if1 .taken) (c .larger .ensures)
+returns c =
+    let args = c .before .before .before .args in
+    let digit-count = c .before .before .digit-count in
+    most-grouped (args .base) (args .width) (args .group) (digit-count .ensures .0) (args .colon)
+    (c .before .if1 .taken) (c .larger .ensures)
 
 add-larger-3 : tie.Need-add-larger-3
 add-larger-3 c = search needs
@@ -35,7 +39,11 @@ larger-requires-2 : tie.Need-larger-requires-2
 larger-requires-2 c κs = search needs
 
 returns-2 : tie.Need-returns-2
-returns-2 c = most-plain (c .before .before .before .args .base) (c .before .before .before .args .width) (c .before .before .before .args .group) (c .before .before .digit-count .ensures .0) (c .before .before .before .args .colon) (c .before .if1 .left) (c .larger2 .ensures)
+returns-2 c =
+    let args = c .before .before .before .args in
+    let digit-count = c .before .before .digit-count in
+    most-plain (args .base) (args .width) (args .group) (digit-count .ensures .0) (args .colon) (c .before .if1 .left)
+    (c .larger2 .ensures)
 
 pub worst-numeral-spec : {M : Type 1} → statement M
 worst-numeral-spec =

@@ -26,18 +26,35 @@ is-plain-requires : tie.Need-is-plain-requires Inv-loop μ-loop
 is-plain-requires c κs = search needs
 
 returns : tie.Need-returns Inv-loop μ-loop
-returns c = plain-refused (c .before .before .before .before .loop .inv) (c .before .before .item-at .result) (c .before .before .before .loop-test .taken) (c .before .before .item-at .ensures) (c .before .is-plain .result) (c .before .is-plain .ensures) (not-true _ (c .if1 .taken))
+returns c =
+    let head = c .before .before .before .before .loop in
+    let loop-test = c .before .before .before .loop-test in
+    let item-at = c .before .before .item-at in
+    let is-plain = c .before .is-plain in
+    plain-refused (head .inv) (item-at .result) (loop-test .taken) (item-at .ensures) (is-plain .result)
+    (is-plain .ensures) (not-true _ (c .if1 .taken))
 
 place-after-requires : tie.Need-place-after-requires Inv-loop μ-loop
 place-after-requires c κs = omega arith
 
 loop-less : tie.Need-loop-less Inv-loop μ-loop
 loop-less c =
-    let later = goes-later (c .before .before .before .before .before .before .before .args .format .now) (c .before .before .before .before .before .loop .p) (c .place-after .result) (c .before .before .before .item-at .result) (c .before .before .before .before .loop-test .taken) (c .before .before .before .item-at .ensures) (c .place-after .ensures) in
+    let args = c .before .before .before .before .before .before .before .args in
+    let head = c .before .before .before .before .before .loop in
+    let loop-test = c .before .before .before .before .loop-test in
+    let item-at = c .before .before .before .item-at in
+    let later = goes-later (args .format .now) (head .p) (c .place-after .result) (item-at .result) (loop-test .taken)
+    (item-at .ensures) (c .place-after .ensures) in
     omega arith
 
 loop-again : tie.Need-loop-again Inv-loop μ-loop
-loop-again c = plain-more (c .before .before .before .before .before .loop .inv) (c .before .before .before .item-at .result) (c .before .before .before .before .loop-test .taken) (c .before .before .before .item-at .ensures) (c .before .before .is-plain .result) (c .before .before .is-plain .ensures) (not-false _ (c .before .if1 .left)) (c .place-after .result) (c .place-after .ensures)
+loop-again c =
+    let head = c .before .before .before .before .before .loop in
+    let loop-test = c .before .before .before .before .loop-test in
+    let item-at = c .before .before .before .item-at in
+    let is-plain = c .before .before .is-plain in
+    plain-more (head .inv) (item-at .result) (loop-test .taken) (item-at .ensures) (is-plain .result)
+    (is-plain .ensures) (not-false _ (c .before .if1 .left)) (c .place-after .result) (c .place-after .ensures)
 
 returns-2 : tie.Need-returns-2 Inv-loop μ-loop
 returns-2 c = plain-done (c .before .loop .inv) (c .loop-test .left)

@@ -25,23 +25,23 @@ enum-told-4 c = search needs
 
 returns : tie.Need-returns
 unfolding plainItem
-returns c = sym (ap plainItem ((c .enum-told .given .1)))
+returns c = sym (ap plainItem (c .enum-told .given .1))
 
 returns-2 : tie.Need-returns-2
 unfolding plainItem
-returns-2 c = sym (ap plainItem ((c .enum-told2 .given .1)))
+returns-2 c = sym (ap plainItem (c .enum-told2 .given .1))
 
 returns-3 : tie.Need-returns-3
 unfolding plainItem
-returns-3 c = (c .is-plain-directive .ensures) ∙ sym (ap plainItem ((c .before .before .item .given .1)))
+returns-3 c = (c .is-plain-directive .ensures) ∙ sym (ap plainItem (c .before .before .item .given .1))
 
 returns-4 : tie.Need-returns-4
 unfolding plainItem
-returns-4 c = sym (ap plainItem ((c .enum-told3 .given .1)))
+returns-4 c = sym (ap plainItem (c .enum-told3 .given .1))
 
 returns-5 : tie.Need-returns-5
 unfolding plainItem
-returns-5 c = sym (ap plainItem ((c .enum-told4 .given .1)))
+returns-5 c = sym (ap plainItem (c .enum-told4 .given .1))
 
 pub is-plain-spec : {M : Type 1} → statement M
 is-plain-spec =

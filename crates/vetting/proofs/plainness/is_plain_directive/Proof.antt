@@ -32,7 +32,17 @@ both-requires-4 : tie.Need-both-requires-4
 both-requires-4 c κs = search needs
 
 returns : tie.Need-returns
-returns c = directive-plain (c .before .before .before .before .before .before .before .before .before .before .args .d) (c .before .is-plain-code .ensures) (c .before .before .before .before .before .is-fixed3 .ensures) (c .before .before .before .before .is-fixed4 .ensures) (c .before .before .before .before .before .before .before .before .is-fixed .ensures) (c .before .before .before .before .before .before .before .is-fixed2 .ensures) (c .before .before .before .before .before .before .both .ensures) (c .before .before .before .both2 .ensures) (c .before .before .both3 .ensures) (c .both4 .ensures)
+returns c =
+    let args = c .before .before .before .before .before .before .before .before .before .before .args in
+    let is-fixed = c .before .before .before .before .before .before .before .before .is-fixed in
+    let is-fixed2 = c .before .before .before .before .before .before .before .is-fixed2 in
+    let both = c .before .before .before .before .before .before .both in
+    let is-fixed3 = c .before .before .before .before .before .is-fixed3 in
+    let is-fixed4 = c .before .before .before .before .is-fixed4 in
+    let both2 = c .before .before .before .both2 in
+    let both3 = c .before .before .both3 in
+    directive-plain (args .d) (c .before .is-plain-code .ensures) (is-fixed3 .ensures) (is-fixed4 .ensures)
+    (is-fixed .ensures) (is-fixed2 .ensures) (both .ensures) (both2 .ensures) (both3 .ensures) (c .both4 .ensures)
 
 pub is-plain-directive-spec : {M : Type 1} → statement M
 is-plain-directive-spec =

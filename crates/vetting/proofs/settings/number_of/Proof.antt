@@ -16,10 +16,16 @@ enum-known-setting : tie.Need-enum-known-setting
 enum-known-setting c = search needs
 
 returns : tie.Need-returns
-returns c = sym (ap (λ (s : Setting). orElse s (c .before .before .before .args .default)) (sym (c .before .before .setting-of .ensures) ∙ (c .enum-told .given .1)))
+returns c =
+    let args = c .before .before .before .args in
+    let setting-of = c .before .before .setting-of in
+    sym (ap (λ (s : Setting). orElse s (args .default)) (sym (setting-of .ensures) ∙ (c .enum-told .given .1)))
 
 returns-2 : tie.Need-returns-2
-returns-2 c = sym (ap (λ (s : Setting). orElse s (c .before .before .before .before .args .default)) (sym (c .before .before .before .setting-of .ensures) ∙ (c .before .setting .given .1)))
+returns-2 c =
+    let args = c .before .before .before .before .args in
+    let setting-of = c .before .before .before .setting-of in
+    sym (ap (λ (s : Setting). orElse s (args .default)) (sym (setting-of .ensures) ∙ (c .before .setting .given .1)))
 
 pub number-of-spec : {M : Type 1} → statement M
 number-of-spec =

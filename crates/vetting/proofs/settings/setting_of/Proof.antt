@@ -30,7 +30,10 @@ returns-2 : tie.Need-returns-2
 returns-2 c = sym (ap (settingBy (c .before .before .before .args .remaining)) (c .before .x .given .1))
 
 returns-3 : tie.Need-returns-3
-returns-3 c = rw ((c .wide .ensures)) (sym (ap (settingBy (c .before .before .before .before .args .remaining)) (c .before .before .x2 .given .1)))
+returns-3 c =
+    let args = c .before .before .before .before .args in
+    let x2 = c .before .before .x2 in
+    rw (c .wide .ensures) (sym (ap (settingBy (args .remaining)) (x2 .given .1)))
 
 returns-4 : tie.Need-returns-4
 returns-4 c = search needs

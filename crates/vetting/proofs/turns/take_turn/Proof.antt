@@ -15,16 +15,26 @@ enum-known-item : tie.Need-enum-known-item
 enum-known-item c = search needs
 
 turn-directive-requires : tie.Need-turn-directive-requires
-turn-directive-requires c κs = (subst Ordinary (c .before .item .given .1) ((c .before .before .before .before .pre .0)), ((c .before .before .before .before .pre .1 .0), (c .before .before .before .before .pre .1 .1)))
+turn-directive-requires c κs =
+    let pre = c .before .before .before .before .pre in
+    (subst Ordinary (c .before .item .given .1) (pre .0), ((pre .1 .0), (pre .1 .1)))
 
 returns : tie.Need-returns
-returns c = literal-item (c .before .before .before .args .kinds .now) (c .before .before .before .args .longest) (c .before .before .before .args .next) (c .before .before .before .args .item) _ (c .enum-told .given .1)
+returns c =
+    let args = c .before .before .before .args in
+    literal-item (args .kinds .now) (args .longest) (args .next) (args .item) _ (c .enum-told .given .1)
 
 returns-2 : tie.Need-returns-2
-returns-2 c = (c .turn-directive .ensures) ∙ sym (ap (λ (i : Item). turnOf (c .before .before .before .before .before .args .kinds .now) (c .before .before .before .before .before .args .longest) i (c .before .before .before .before .before .args .next)) (c .before .before .item .given .1))
+returns-2 c =
+    let args = c .before .before .before .before .before .args in
+    let item = c .before .before .item in
+    (c .turn-directive .ensures) ∙ sym
+    (ap (λ (i : Item). turnOf (args .kinds .now) (args .longest) i (args .next)) (item .given .1))
 
 returns-3 : tie.Need-returns-3
-returns-3 c = other-item (c .before .before .args .kinds .now) (c .before .before .args .longest) (c .before .before .args .next) (c .before .before .args .item) (c .match .keys3)
+returns-3 c =
+    let args = c .before .before .args in
+    other-item (args .kinds .now) (args .longest) (args .next) (args .item) (c .match .keys3)
 
 pub take-turn-spec : {M : Type 1} → statement M
 take-turn-spec =

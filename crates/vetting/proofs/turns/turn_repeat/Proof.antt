@@ -12,7 +12,11 @@ number-of-requires : tie.Need-number-of-requires
 number-of-requires c κs = search needs
 
 returns : tie.Need-returns
-returns c = repeat-goes (c .before .before .before .args .kinds .now) (c .before .before .before .args .d) (c .before .before .before .args .next) _ refl ((c .before .before .before .pre .0 .0)) ((c .before .before .before .pre .0 .1)) ((c .before .before .before .pre .1 .1)) (c .number-of .result) (c .number-of .ensures)
+returns c =
+    let args = c .before .before .before .args in
+    let pre = c .before .before .before .pre in
+    repeat-goes (args .kinds .now) (args .d) (args .next) _ refl (pre .0 .0) (pre .0 .1) (pre .1 .1)
+    (c .number-of .result) (c .number-of .ensures)
 
 pub turn-repeat-spec : {M : Type 1} → statement M
 turn-repeat-spec = tie.close (tie.spec sub-number-of number-of-requires returns)
