@@ -1,5 +1,6 @@
 // Which formats are plain.
 use reader::directive::item_at;
+use reader::places::both;
 use rules::Code;
 use rules::Directive;
 use rules::Item;
@@ -13,7 +14,7 @@ ghost use Rattle.rules.specs.Directive.{inOrder};
 ghost use Rattle.rules.proofs.TextLaws.{placeAfter};
 ghost use Rattle.vet.specs.Plain.{plainCode, isNext, noneNext, plainItem, plainVerdict};
 
-// The first tilde is not plain.
+// Vet: not plain.
 const NOT_PLAIN: u32 = 11;
 
 fn is_plain_code(code: Code) -> bool
@@ -43,12 +44,6 @@ fn is_fixed(x: Parameter) -> bool
         Parameter::Next => false,
         Parameter::Remaining => true,
     }
-}
-
-fn both(a: bool, b: bool) -> bool
-    ensures { λ r. ⌜ r ≡ both a b ⌝ }
-{
-    if a { b } else { false }
 }
 
 fn is_plain_directive(d: Directive) -> bool
