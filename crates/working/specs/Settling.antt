@@ -38,7 +38,7 @@ InPlace y Absent = Unit {0}
 InPlace (number least most) (Is n) = (least ≤ n) × (n ≤ most)
 InPlace character (Is n) = n < 256
 
--- the settings of a directive lie in the ranges of its places. (Past the last place every setting is absent.)
+-- the settings of a directive lie in the ranges of its places; past the last place the range is that of any number
 pub record InRange (ys : List Place) (s : Settings) : Type 0 where
   pub first : InPlace (getD ys 0 anyNumber) (s .first)
   pub second : InPlace (getD ys 1 anyNumber) (s .second)

@@ -1,0 +1,62 @@
+-- A piece that is put into the buffer, and one that does not fit, to the flow that the buffer cuts. Assumes nothing.
+use Prim.Native.Nat.{ℕ, suc, _+_, _-_, _<_, _≤_}
+use mathlib.Core.Path.{_≡_, refl, sym, ap, _∙_}
+use mathlib.Core.List.{List, [], _∷_, _++_, append-assoc}
+use native.Mathlib.Numerals.{add-one}
+use native.Mathlib.Omega.{arith}
+use borrow.Author.Tests.{le-leb, lt-leb}
+use lib.ListN.{length, take, drop, set, length-append, length-take, length-drop, length-set}
+use lib.Seq.{drop-drop, length-take-le, take-suc-set, drop-set-lt, take-at, drop-at, take-append-le}
+use borrow.Rule.Slice.PartMut.{putMid}
+use Rattle.rules.specs.Run.{Flow, put, refused}
+use Rattle.rules.specs.Answer.{fit}
+
+-- e is the buffer b with w put at the place `at`
+pub record Put (b : List ℕ) (at : ℕ) (w e : List ℕ) : Type 0 where
+  pub size : length e ≡ length b
+  pub front : take (at + length w) e ≡ take at b ++ w
+  pub rest : drop (at + length w) e ≡ drop (at + length w) b
+  pub room : at + length w ≤ length b
+
+-- one byte
+pub put-byte : (b : List ℕ) (at byte : ℕ) → at < length b → Put b at (byte ∷ []) (set b at byte)
+put-byte b at byte h =
+    record {
+      size = length-set b at byte;
+      front = rw add-one (take-suc-set b at byte h);
+      rest = rw add-one (drop-set-lt (suc at) b at byte (omega arith));
+      room = omega arith;
+    }
+
+-- a part of the buffer that was lent and came back as w
+pub put-part : (b : List ℕ) (at : ℕ) (w : List ℕ) → at + length w ≤ length b → Put b at w (take at b ++ (w ++ drop (at + length w) b))
+put-part b at w h =
+    let a : length (take at b) ≡ at = length-take-le at b (omega arith) in
+    let k : length (take at b ++ w) ≡ at + length w = length-append (take at b) w ∙ ap (λ (i : ℕ). i + length w) a in
+    record {
+      size = rw (length-append, length-append, a, length-drop) (omega arith);
+      front = rw (← append-assoc (take at b) w (drop (at + length w) b)) (take-at (take at b ++ w) (drop (at + length w) b) (at + length w) k);
+      rest = rw (← append-assoc (take at b) w (drop (at + length w) b)) (drop-at (take at b ++ w) (drop (at + length w) b) (at + length w) k);
+      room = h;
+    }
+
+module _ (b w : List ℕ) (x m at : ℕ) (f : Flow) where
+  pub put-fits : {e : List ℕ} → Put b at w e → fit (length b) (take at b) (put x m w f) ≡ fit (length b) (take (at + length w) e) f
+  unfolding fit
+  put-fits u = rw (length-take-le at b (omega (arith, u .room)), le-leb (at + length w) (length b) (u .room), u .front)
+
+  pub put-full : at ≤ length b → length b < at + length w → fit (length b) (take at b) (put x m w f) ≡ fit (length b) (take at b) (refused 10 x m)
+  unfolding fit
+  put-full h k = rw (length-take-le at b h, lt-leb (at + length w) (length b) k)
+
+-- the part of k places that was lent at a place is as long as it says
+pub lent-length : (b : List ℕ) (at k : ℕ) (w : List ℕ) → k ≡ length w → k ≤ length b - at → at ≤ length b → length (take (at + k - at) (drop at b)) ≡ length w
+lent-length b at k w q h l =
+    let m : at + k - at ≡ k = omega arith in
+    rw m (length-take-le k (drop at b) (rw (length-drop at b) h) ∙ q)
+
+-- and comes back as w
+pub put-lent : (b : List ℕ) (at k : ℕ) (y w : List ℕ) → k ≡ length w → k ≤ length b - at → at ≤ length b → y ≡ w → Put b at w (putMid at (at + k - at) b y)
+put-lent b at k y w q h l e =
+    let m : at + k - at ≡ k = omega arith in
+    rw (m, e, q, drop-drop (length w) at b) (put-part b at w (omega arith))

@@ -1,0 +1,104 @@
+-- One item of a sequence that opens no block, from the answer that its code gives. Assumes nothing.
+use Prim.Native.Nat.{ℕ, _+_, _-_, _<_, _≤_}
+use mathlib.Core.Path.{_≡_, refl, sym, ap, subst, _∙_}
+use mathlib.Core.Bool.{Bool, true, false, cond}
+use mathlib.Core.List.{List, [], _∷_}
+use native.Mathlib.Omega.{arith}
+use native.Mathlib.Decide.{decLe}
+use borrow.Author.Tests.{le-leb, lt-leb}
+use denote.Enum.Declared.{tagOf}
+use types.Run.{OneOf, miss}
+use lib.ListN.{length, set}
+use Rattle.rules.specs.Directive.{itemAt}
+use Rattle.rules.specs.Table.{View}
+use Rattle.rules.specs.Text.{levelsAt}
+use Rattle.rules.specs.declared.Code.{Code}
+use Rattle.rules.specs.declared.Code.the-variants.{Writes, Jump, Escape, Conditional, Separator, EndConditional, Iteration, EndIteration, Unknown}
+use Rattle.rules.specs.declared.Directive.{Directive}
+use Rattle.rules.specs.declared.Form.{Form}
+use Rattle.rules.specs.declared.Item.{Item}
+use Rattle.rules.specs.declared.Item.the-variants.{Literal, Written}
+use Rattle.rules.specs.Run.{itemActs}
+use Rattle.rules.proofs.Code as code-declared
+use Rattle.rules.proofs.TextLaws.{next-inside, stands}
+use Rattle.engine.specs.declared.state.Ran.{Ran}
+use Rattle.engine.specs.declared.state.Spot.{Spot}
+use Rattle.engine.specs.Acting.{Performed}
+use Rattle.engine.specs.Ran.{refusedRan, endedRan, hand, Acts, ActsAt, Steps}
+use Rattle.engine.specs.Running.{ActsAlone, leftRan, escaped}
+use Rattle.engine.proofs.Arms.{literal-acts, literal-full, steps-acts-none, steps-acts, steps-escape-none, steps-escape-left, steps-escape-on}
+use Rattle.engine.proofs.Places.{literal-at, writes-at, jump-at, escape-at}
+
+-- a literal byte
+module _ (t : List ℕ) (v : View) (first count level p byte i left at : ℕ) (b : List ℕ) (r : Ran) (e : itemAt t p ≡ Literal byte) where
+  pub literal-none : left ≡ 0 → r ≡ refusedRan 9 p i left at (p + 1) → at ≤ length b → i ≤ count → Steps (levelsAt t) (length t) v (hand first count) level p i left at b b r
+  literal-none z q l k =
+      subst (Steps (levelsAt t) (length t) v (hand first count) level p i left at b b) (sym q)
+      (steps-acts-none (levelsAt t) (length t) v first count level p i left at b (literal-at t p byte e) z (p + 1) l k)
+
+  pub literal-no-room : (left ≡ 0 → ⊥) → length b ≤ at → r ≡ refusedRan 10 p i (left - 1) at (p + 1) → at ≤ length b → i ≤ count
+      → Steps (levelsAt t) (length t) v (hand first count) level p i left at b b r
+  literal-no-room z h q l k =
+      subst (Steps (levelsAt t) (length t) v (hand first count) level p i left at b b) (sym q)
+      (steps-acts (levelsAt t) (length t) v first count level p i left at b (literal-at t p byte e) z (literal-full v first count p byte i (left - 1) at (p + 1) b k l h) (omega arith) (omega (arith, stands t p (Literal byte) e)))
+
+  pub literal-put : (left ≡ 0 → ⊥) → at < length b → r ≡ endedRan i (left - 1) (at + 1) (p + 1) → i ≤ count
+      → Steps (levelsAt t) (length t) v (hand first count) level p i left at b (set b at byte) r
+  literal-put z h q k =
+      subst (Steps (levelsAt t) (length t) v (hand first count) level p i left at b (set b at byte)) (sym q)
+      (steps-acts (levelsAt t) (length t) v first count level p i left at b (literal-at t p byte e) z (literal-acts v first count p byte i (left - 1) at (p + 1) b k h) (omega arith) (omega (arith, stands t p (Literal byte) e)))
+
+-- a directive that acts alone is one of three
+pub only-escape : (keys : List ℕ) (c : Code) → keys ≡ 2 ∷ 3 ∷ 4 ∷ 5 ∷ 6 ∷ 7 ∷ 8 ∷ [] → ActsAlone c → OneOf keys (tagOf code-declared.the-type c) → c ≡ Escape
+only-escape keys (Writes f) q a o = absurd (miss (2 ∷ 3 ∷ 4 ∷ 5 ∷ 6 ∷ 7 ∷ 8 ∷ []) 0 tt (subst (λ (k : List ℕ). OneOf k 0) q o))
+only-escape keys Jump q a o = absurd (miss (2 ∷ 3 ∷ 4 ∷ 5 ∷ 6 ∷ 7 ∷ 8 ∷ []) 1 tt (subst (λ (k : List ℕ). OneOf k 1) q o))
+only-escape keys Escape q a o = refl
+only-escape keys Conditional q a o = absurd a
+only-escape keys Separator q a o = absurd a
+only-escape keys EndConditional q a o = absurd a
+only-escape keys Iteration q a o = absurd a
+only-escape keys EndIteration q a o = absurd a
+only-escape keys Unknown q a o = absurd a
+
+module _ (t : List ℕ) (v : View) (first count level p i left at : ℕ) (b : List ℕ) (r : Ran) (d : Directive) (e : itemAt t p ≡ Written d) where
+  place-after : p < d .next
+  place-after = omega (arith, next-inside t p d e .above)
+
+  -- no step is left for it
+  pub alone-none : ActsAlone (d .code) → left ≡ 0 → r ≡ refusedRan 9 p i left at (d .next) → at ≤ length b → i ≤ count
+      → Steps (levelsAt t) (length t) v (hand first count) level p i left at b b r
+  alone-none a z q l k = subst (Steps (levelsAt t) (length t) v (hand first count) level p i left at b b) (sym q) (by (d .code) refl a)
+    where
+      by : (c : Code) → d .code ≡ c → ActsAlone c → Steps (levelsAt t) (length t) v (hand first count) level p i left at b b (refusedRan 9 p i left at (d .next))
+      by (Writes f) w a = steps-acts-none (levelsAt t) (length t) v first count level p i left at b (writes-at t p d e f w) z (d .next) l k
+      by Jump w a = steps-acts-none (levelsAt t) (length t) v first count level p i left at b (jump-at t p d e w) z (d .next) l k
+      by Escape w a = steps-escape-none (levelsAt t) (length t) v first count level p i left at b (escape-at t p d e w) z (d .next) l k
+      by Conditional w a = absurd a
+      by Separator w a = absurd a
+      by EndConditional w a = absurd a
+      by Iteration w a = absurd a
+      by EndIteration w a = absurd a
+      by Unknown w a = absurd a
+
+  module _ (z : left ≡ 0 → ⊥) where
+    -- a directive that writes, or a jump
+    pub alone-acts : {b₂ : List ℕ} (spot : Spot) → ActsAt (levelsAt t) p p (Written d) (d .next) → spot ≡ record { position = p; place = d .next; left = left - 1; at = at }
+        → Performed (λ on. itemActs v (spot .position) (spot .left) (Written d) (hand first count i) on) count spot b b₂ r → Steps (levelsAt t) (length t) v (hand first count) level p i left at b b₂ r
+    alone-acts {b₂} spot a q u =
+        let w : Performed (λ on. itemActs v p (left - 1) (Written d) (hand first count i) on) count (record { position = p; place = d .next; left = left - 1; at = at }) b b₂ r =
+        subst (λ (s : Spot). Performed (λ on. itemActs v (s .position) (s .left) (Written d) (hand first count i) on) count s b b₂ r) q u in
+        let a₂ : ActsAt (levelsAt t) p p (Written d) (r .place) = subst (λ (y : ℕ). ActsAt (levelsAt t) p p (Written d) y) (sym (w .place)) a in
+        steps-acts (levelsAt t) (length t) v first count level p i left at b a₂ z (w .does) (omega (arith, w .place, place-after)) (omega (arith, w .place, next-inside t p d e .most))
+
+    pub alone-escape : d .code ≡ Escape → r ≡ escaped (record { position = p; place = d .next; left = left - 1; at = at }) count i → at ≤ length b → i ≤ count
+        → Steps (levelsAt t) (length t) v (hand first count) level p i left at b b r
+    alone-escape w q l k = by (decLe count i)
+      where
+        by : Dec (count ≤ i) → Steps (levelsAt t) (length t) v (hand first count) level p i left at b b r
+        by (yes h) =
+            subst (Steps (levelsAt t) (length t) v (hand first count) level p i left at b b) (sym (q ∙ ap (λ (y : Bool). cond y (leftRan i (left - 1) at (d .next)) (endedRan i (left - 1) at (d .next))) (le-leb count i h)))
+            (steps-escape-left (levelsAt t) (length t) v first count level p i left at b (escape-at t p d e w) z h (d .next) l k)
+        by (no n) =
+            let h : i < count = omega arith in
+            subst (Steps (levelsAt t) (length t) v (hand first count) level p i left at b b) (sym (q ∙ ap (λ (y : Bool). cond y (leftRan i (left - 1) at (d .next)) (endedRan i (left - 1) at (d .next))) (lt-leb count i h)))
+            (steps-escape-on (levelsAt t) (length t) v first count level p i left at b (escape-at t p d e w) z h place-after (next-inside t p d e .most) l k)

@@ -1,0 +1,12 @@
+pub mod ActLaws
+pub mod Arms
+pub mod Bases
+pub mod BlockArms
+pub mod Buffer
+pub mod ClauseLaws
+pub mod Joining
+pub mod Places
+pub mod Sources
+pub mod ItemLaws
+pub mod RunnerLaws
+pub mod WholeLaws

@@ -1,0 +1,212 @@
+-- What the runners make of the answers that their parts give. Assumes nothing.
+use Prim.Native.Nat.{ℕ, _+_, _-_, _<_, _≤_}
+use mathlib.Core.Path.{_≡_, refl, sym, ap, subst, _∙_}
+use mathlib.Core.Bool.{Bool, true, false}
+use mathlib.Core.List.{List, [], _∷_}
+use native.Mathlib.Omega.{arith}
+use denote.Enum.Declared.{tagOf}
+use types.Run.{OneOf, miss}
+use lib.ListN.{length}
+use borrow.Author.Tests.{lt-ltb, le-ltb}
+use Rattle.rules.specs.Directive.{itemAt, either}
+use Rattle.rules.specs.Table.{View, Value, boolean, integer, character, string, list}
+use Rattle.rules.specs.Text.{Level, innermost, outer, end, levelsAt}
+use Rattle.rules.specs.Working.{Context, noneRemain, argumentIn}
+use Rattle.rules.specs.Run.{Flow, refused, Frame, iteration, conditional, other, usedUp, oneLess, overList, run}
+use Rattle.rules.specs.declared.Code.{Code}
+use Rattle.rules.specs.declared.Code.the-variants.{Writes, Jump, Escape, Conditional, Separator, EndConditional, Iteration, EndIteration, Unknown}
+use Rattle.rules.specs.declared.Directive.{Directive}
+use Rattle.rules.specs.declared.Form.{Form}
+use Rattle.rules.specs.declared.Item.{Item}
+use Rattle.rules.specs.declared.Item.the-variants.{End, Literal, Written, BadNumber, Unfinished}
+use Rattle.rules.specs.declared.Setting.{Setting}
+use Rattle.rules.proofs.Item as item-declared
+use Rattle.rules.proofs.RunLaws.{choose-yes, choose-no}
+use Rattle.rules.proofs.TextLaws.{next-inside, stands}
+use Rattle.reader.specs.Ends.{AfterBlock}
+use Rattle.engine.specs.declared.state.Ran.{Ran}
+use Rattle.engine.specs.declared.state.Stop.the-variants.{Ended, Left, Refused}
+use Rattle.engine.specs.Acting.{CodeRight}
+use Rattle.engine.specs.Ran.{refusedRan, endedRan, hand, EndsAt, After, restAt, Runs, Steps, Blocks, Passes, choosing, iterating, overListed}
+use Rattle.engine.specs.Running.{endsSequence, endsAt, opensBlock, iterates, ActsAlone, isListValue}
+use Rattle.engine.proofs.Arms.{runs-end, steps-deep, steps-block-none, steps-block}
+use Rattle.engine.proofs.BlockArms.{chooses-run, iterates-run, blocks-refused, passes-none, passes-on}
+use Rattle.engine.proofs.Places.{end-at, bad-at, unfinished-at, separator-at, end-iteration-at, end-conditional-at, unknown-at, iteration-at, conditional-at}
+
+not-both : {b : Bool} → b ≡ true → b ≡ false → ⊥
+not-both p q = let z : _≡_ {A = ℕ} 0 1 = cc in omega arith
+
+-- what a loop of a runner knows at its head: whatever ends from here is the whole
+pub record Onto (Run : ℕ → ℕ → ℕ → List ℕ → List ℕ → Ran → Type 0) (Whole : List ℕ → Ran → Type 0) (most count : ℕ) (b₀ : List ℕ) (i left at : ℕ) (b : List ℕ) : Type 0 where
+  pub ends : (e : List ℕ) (r : Ran) → Run i left at b e r → Whole e r
+  pub size : length b ≡ length b₀
+  pub fits : at ≤ length b
+  pub falls : left ≤ most
+  pub inside : i ≤ count
+
+-- an item that ends its sequence
+module _ (t : List ℕ) (p : ℕ) where
+  ends-code : (d : Directive) → itemAt t p ≡ Written d → (c : Code) → d .code ≡ c → endsSequence c ≡ true → restAt (levelsAt t) p ≡ end
+  ends-code d e (Writes f) w h = absurd (not-both h refl)
+  ends-code d e Jump w h = absurd (not-both h refl)
+  ends-code d e Escape w h = absurd (not-both h refl)
+  ends-code d e Conditional w h = absurd (not-both h refl)
+  ends-code d e Separator w h = separator-at t p d e w
+  ends-code d e EndConditional w h = end-conditional-at t p d e w
+  ends-code d e Iteration w h = absurd (not-both h refl)
+  ends-code d e EndIteration w h = end-iteration-at t p d e w
+  ends-code d e Unknown w h = unknown-at t p d e w
+
+  ends-item : (x : Item) → itemAt t p ≡ x → endsAt x ≡ true → restAt (levelsAt t) p ≡ end
+  ends-item End e h = end-at t p e
+  ends-item (Literal b) e h = absurd (not-both h refl)
+  ends-item (Written d) e h = ends-code d e (d .code) refl h
+  ends-item BadNumber e h = bad-at t p e
+  ends-item Unfinished e h = unfinished-at t p e
+
+  pub sequence-ends : (v : View) (first count level i left at : ℕ) (b : List ℕ) (r : Ran) (x : Item) → itemAt t p ≡ x → endsAt x ≡ true → r ≡ endedRan i left at p → p ≤ length t → at ≤ length b → i ≤ count
+      → Runs (levelsAt t) (length t) v (hand first count) level p i left at b b r
+  sequence-ends v first count level i left at b r x e h q m l k =
+      subst (Runs (levelsAt t) (length t) v (hand first count) level p i left at b b) (sym q)
+      (runs-end (levelsAt t) (length t) v first count level p i left at b (ends-item x e h) m l k)
+
+  pub literal-inside : {x : Item} {b : ℕ} → itemAt t p ≡ x → x ≡ Literal b → p < length t
+  literal-inside {x} {b} e q = stands t p (Literal b) (e ∙ q)
+
+-- the items of the arm for all others end their sequences
+pub no-other : (keys : List ℕ) (x : Item) → keys ≡ 0 ∷ 3 ∷ 4 ∷ [] → endsAt x ≡ false → OneOf keys (tagOf item-declared.the-type x) → ⊥
+no-other keys End q h o = not-both refl h
+no-other keys (Literal b) q h o = miss (0 ∷ 3 ∷ 4 ∷ []) 1 tt (subst (λ (k : List ℕ). OneOf k 1) q o)
+no-other keys (Written d) q h o = miss (0 ∷ 3 ∷ 4 ∷ []) 2 tt (subst (λ (k : List ℕ). OneOf k 2) q o)
+no-other keys BadNumber q h o = not-both refl h
+no-other keys Unfinished q h o = not-both refl h
+
+pub acts-alone : (c : Code) → CodeRight c → opensBlock c ≡ false → endsSequence c ≡ false → ActsAlone c
+acts-alone (Writes f) r o e = r
+acts-alone Jump r o e = tt
+acts-alone Escape r o e = tt
+acts-alone Conditional r o e = absurd (not-both refl o)
+acts-alone Separator r o e = absurd (not-both refl e)
+acts-alone EndConditional r o e = absurd (not-both refl e)
+acts-alone Iteration r o e = absurd (not-both refl o)
+acts-alone EndIteration r o e = absurd (not-both refl e)
+acts-alone Unknown r o e = absurd (not-both refl e)
+
+-- a code that opens a block is one of two
+pub is-iteration : (c : Code) → iterates c ≡ true → c ≡ Iteration
+is-iteration (Writes f) h = absurd (not-both h refl)
+is-iteration Jump h = absurd (not-both h refl)
+is-iteration Escape h = absurd (not-both h refl)
+is-iteration Conditional h = absurd (not-both h refl)
+is-iteration Separator h = absurd (not-both h refl)
+is-iteration EndConditional h = absurd (not-both h refl)
+is-iteration Iteration h = refl
+is-iteration EndIteration h = absurd (not-both h refl)
+is-iteration Unknown h = absurd (not-both h refl)
+
+pub is-conditional : (c : Code) → opensBlock c ≡ true → iterates c ≡ false → c ≡ Conditional
+is-conditional (Writes f) o h = absurd (not-both o refl)
+is-conditional Jump o h = absurd (not-both o refl)
+is-conditional Escape o h = absurd (not-both o refl)
+is-conditional Conditional o h = refl
+is-conditional Separator o h = absurd (not-both o refl)
+is-conditional EndConditional o h = absurd (not-both o refl)
+is-conditional Iteration o h = absurd (not-both refl h)
+is-conditional EndIteration o h = absurd (not-both o refl)
+is-conditional Unknown o h = absurd (not-both o refl)
+
+module _ (t : List ℕ) (v : View) (first count level p i left at : ℕ) (b : List ℕ) (d : Directive) (e : itemAt t p ≡ Written d) where
+  abbrev StepsHere : List ℕ → Ran → Type 0
+  StepsHere b₂ r = Steps (levelsAt t) (length t) v (hand first count) level p i left at b b₂ r
+
+  pub block-deep : (r : Ran) → opensBlock (d .code) ≡ true → level ≡ 0 → r ≡ refusedRan 4 p i left at (d .next) → at ≤ length b → i ≤ count → StepsHere b r
+  block-deep r o z q l k = subst (StepsHere b) (sym q) (by (d .code) refl o)
+    where
+      by : (c : Code) → d .code ≡ c → opensBlock c ≡ true → StepsHere b (refusedRan 4 p i left at (d .next))
+      by (Writes f) w o = absurd (not-both o refl)
+      by Jump w o = absurd (not-both o refl)
+      by Escape w o = absurd (not-both o refl)
+      by Conditional w o = steps-deep (levelsAt t) (length t) v first count level p i left at b p _ z (chooses-run (levelsAt t) v first count p p i left d (d .next) (conditional-at t p d e w)) (d .next) l k
+      by Separator w o = absurd (not-both o refl)
+      by EndConditional w o = absurd (not-both o refl)
+      by Iteration w o = steps-deep (levelsAt t) (length t) v first count level p i left at b p _ z (iterates-run (levelsAt t) v first count p p i left d (d .next) (iteration-at t p d e w)) (d .next) l k
+      by EndIteration w o = absurd (not-both o refl)
+      by Unknown w o = absurd (not-both o refl)
+
+  pub block-none : (r : Ran) → opensBlock (d .code) ≡ true → (level ≡ 0 → ⊥) → left ≡ 0 → r ≡ refusedRan 9 p i left at (d .next) → at ≤ length b → i ≤ count → StepsHere b r
+  block-none r o lv z q l k = subst (StepsHere b) (sym q) (by (d .code) refl o)
+    where
+      by : (c : Code) → d .code ≡ c → opensBlock c ≡ true → StepsHere b (refusedRan 9 p i left at (d .next))
+      by (Writes f) w o = absurd (not-both o refl)
+      by Jump w o = absurd (not-both o refl)
+      by Escape w o = absurd (not-both o refl)
+      by Conditional w o = steps-block-none (levelsAt t) (length t) v first count level p i left at b p _ lv z (chooses-run (levelsAt t) v first count p p i left d (d .next) (conditional-at t p d e w)) (d .next) l k
+      by Separator w o = absurd (not-both o refl)
+      by EndConditional w o = absurd (not-both o refl)
+      by Iteration w o = steps-block-none (levelsAt t) (length t) v first count level p i left at b p _ lv z (iterates-run (levelsAt t) v first count p p i left d (d .next) (iteration-at t p d e w)) (d .next) l k
+      by EndIteration w o = absurd (not-both o refl)
+      by Unknown w o = absurd (not-both o refl)
+
+  module _ (lv : level ≡ 0 → ⊥) (z : left ≡ 0 → ⊥) {b₂ : List ℕ} {r : Ran} where
+    pub block-iterates : d .code ≡ Iteration
+        → Blocks (levelsAt t) (length t) v (hand first count) (level - 1) (d .next) (iterating (levelsAt t) v (hand first count) p d (d .next) i (left - 1)) (left - 1) at b b₂ r → StepsHere b₂ r
+    block-iterates w u =
+        steps-block (levelsAt t) (length t) v first count level p i left at b p (d .next) (λ m ks. iterating (levelsAt t) v (hand first count) p d (d .next) i m ks) lv z
+        (iterates-run (levelsAt t) v first count p p i left d (d .next) (iteration-at t p d e w)) (ap outer (iteration-at t p d e w .is)) (omega (arith, next-inside t p d e .above)) u
+
+    pub block-chooses : d .code ≡ Conditional
+        → Blocks (levelsAt t) (length t) v (hand first count) (level - 1) (d .next) (choosing (levelsAt t) v (hand first count) p d (d .next) i (left - 1)) (left - 1) at b b₂ r → StepsHere b₂ r
+    block-chooses w u =
+        steps-block (levelsAt t) (length t) v first count level p i left at b p (d .next) (λ m ks. choosing (levelsAt t) v (hand first count) p d (d .next) i m ks) lv z
+        (chooses-run (levelsAt t) v first count p p i left d (d .next) (conditional-at t p d e w)) (ap outer (conditional-at t p d e w .is)) (omega (arith, next-inside t p d e .above)) u
+
+-- a block that is refused, as it is told
+pub blocks-told : (s : ℕ → List Level) (n : ℕ) (v : View) (first count level q : ℕ) (f : List Frame → Flow) (left at : ℕ) (b : List ℕ) (r : Ran) (code x i place : ℕ)
+    → r ≡ refusedRan code x i left at place → ((ks : List Frame) → f ks ≡ refused code x left) → at ≤ length b → i ≤ count → Blocks s n v (hand first count) level q f left at b b r
+blocks-told s n v first count level q f left at b r code x i place e h l k =
+    subst (Blocks s n v (hand first count) level q f left at b b) (sym e) (blocks-refused s n v first count level q f left at b code x i place h l k)
+
+-- the place after a block, from a place where one of its sequences stands
+pub closes-after : (t : List ℕ) (q known place : ℕ) → outer (levelsAt t known) ≡ outer (levelsAt t q) → q ≤ known → AfterBlock t known place → After (levelsAt t) (length t) q place
+closes-after t q known place o l a = record { is = a .is ∙ o; least = omega (arith, a .least); most = a .most }
+
+-- a value that is no list, and one that is
+pub over-other : (v : View) (p m : ℕ) (on : Context → Flow) (x : Value) → isListValue x ≡ false → overList v p m on x ≡ refused 7 p m
+over-other v p m on (boolean b) h = refl
+over-other v p m on (integer z) h = refl
+over-other v p m on (character c) h = refl
+over-other v p m on (string s) h = refl
+over-other v p m on (list f n) h = absurd (not-both refl h)
+
+module _ (s : ℕ → List Level) (v : View) (first count p q : ℕ) (limit : Setting) (i left : ℕ) (ks : List Frame) where
+  pub over-none : count ≤ i → overListed s v (hand first count) p q limit i left ks ≡ refused 6 p left
+  over-none h = choose-no _ _ (le-ltb i count h)
+
+  over-there : i < count → (x : Value) → argumentIn v (hand first count 0) i ≡ x
+      → overListed s v (hand first count) p q limit i left ks
+      ≡ overList v p left (λ inner. run v left end (iteration p limit (restAt s q) (innermost (outer (s q)) .rest) (other (hand first count (i + 1))) ∷ ks) inner) x
+  over-there h x e =
+      choose-yes _ _ (lt-ltb i count h)
+      ∙ ap (λ (y : Value). overList v p left (λ inner. run v left end (iteration p limit (restAt s q) (innermost (outer (s q)) .rest) (other (hand first count (i + 1))) ∷ ks) inner) y) e
+
+  pub over-not : i < count → (x : Value) → argumentIn v (hand first count 0) i ≡ x → isListValue x ≡ false → overListed s v (hand first count) p q limit i left ks ≡ refused 7 p left
+  over-not h x e n = over-there h x e ∙ over-other v p left _ x n
+
+  pub over-list : i < count → (f k : ℕ) → argumentIn v (hand first count 0) i ≡ list f k
+      → overListed s v (hand first count) p q limit i left ks ≡ run v left end (iteration p limit (restAt s q) (innermost (outer (s q)) .rest) (other (hand first count (i + 1))) ∷ ks) (hand f k 0)
+  over-list h f k e = over-there h (list f k) e
+
+-- no step is left for the next pass, as it is told
+pub passes-none-told : (s : ℕ → List Level) (n : ℕ) (v : View) (first count level p q i : ℕ) (passes : Setting) (left at : ℕ) (b : List ℕ) (r : Ran) (place : ℕ)
+    → r ≡ refusedRan 9 p i left at place → either (noneRemain (hand first count i)) (usedUp passes) ≡ false → left ≡ 0 → at ≤ length b → i ≤ count
+    → Passes s n v (hand first count) level p q i passes left at b b r
+passes-none-told s n v first count level p q i passes left at b r place e h z l k =
+    subst (Passes s n v (hand first count) level p q i passes left at b b) (sym e) (passes-none s n v first count level p q i passes left at b h z place l k)
+
+-- the next pass follows, with the passes left as they are told
+pub passes-on-told : (s : ℕ → List Level) (n : ℕ) (v : View) (first count level p q i : ℕ) (passes : Setting) (left at : ℕ) (b : List ℕ)
+    → either (noneRemain (hand first count i)) (usedUp passes) ≡ false → {e : List ℕ} {r : Ran} → (left ≡ 0 → ⊥) → Runs s n v (hand first count) level q i (left - 1) at b e r
+    → {e′ : List ℕ} {r′ : Ran} {ps : Setting} → r .stop ≡ Ended → ps ≡ oneLess passes → Passes s n v (hand first count) level p q (r .next .0) ps (r .left) (r .at) e e′ r′
+    → Passes s n v (hand first count) level p q i passes left at b e′ r′
+passes-on-told s n v first count level p q i passes left at b h {e} {r} z u {e′} {r′} y w k =
+    passes-on s n v first count level p q i passes left at b h z u y (subst (λ (x : Setting). Passes s n v (hand first count) level p q (r .next .0) x (r .left) (r .at) e e′ r′) w k)

@@ -1,0 +1,30 @@
+-- The outcome of a run is that of its stop. Assumes nothing.
+use borrow.Author.Needs.{needs}
+use Rattle.engine.proofs.formatting.outcome_of.Statement.{statement}
+use Rattle.engine.proofs.formatting.outcome_of.Tie as tie
+
+sub-steps : tie.Need-sub-steps
+sub-steps c = search needs
+
+enum-told : tie.Need-enum-told
+enum-told c = search needs
+
+enum-told-2 : tie.Need-enum-told-2
+enum-told-2 c = search needs
+
+enum-known-stop : tie.Need-enum-known-stop
+enum-known-stop c = search needs
+
+returns : tie.Need-returns
+returns c = rw ((c .enum-told .given .1))
+
+returns-2 : tie.Need-returns-2
+returns-2 c = rw ((c .enum-told2 .given .1))
+
+returns-3 : tie.Need-returns-3
+returns-3 c = rw ((c .before .stop .given .1))
+
+pub outcome-of-spec : {M : Type 1} → statement M
+outcome-of-spec =
+    tie.close
+    (tie.spec sub-steps enum-told enum-told-2 enum-known-stop returns returns-2 returns-3)

@@ -1,0 +1,958 @@
+-- The runners meet their contracts. The levels that are left fall at each block; the text falls in each turn of the runner
+-- of a sequence, and the steps in each pass. The loops: whatever ends from here is the whole. Assumes nothing.
+use mathlib.Core.Path.{_≡_, refl, sym, ap, subst, _∙_}
+use mathlib.Core.List.{List, _∷_}
+use native.Mathlib.Omega.{arith}
+use borrow.Author.Needs.{needs}
+use borrow.Author.Tests.{not-true, not-false}
+use lib.ListN.{length}
+use Rattle.rules.specs.Directive.{itemAt}
+use Rattle.rules.specs.Table.{Value, viewOf}
+use Rattle.rules.specs.Text.{innermost, outer, levelsAt}
+use Rattle.rules.specs.Run.{Flow, Frame, run, conditional, overList}
+use Rattle.rules.specs.declared.Code.{Code}
+use Rattle.rules.specs.declared.Item.{Item}
+use Rattle.rules.specs.declared.Setting.{Setting}
+use Rattle.working.specs.Settling.{InHand, handAt}
+use Rattle.working.proofs.Answers.{next-reaches, run-settled, run-refused}
+use Rattle.engine.specs.Clauses.{onChosen, ChosenIn}
+use Rattle.engine.specs.declared.clauses.Chosen.{Chosen}
+use Rattle.engine.specs.Running.{endsAt, endsSequence, ListsTo}
+use Rattle.engine.specs.declared.items.Listed.{Listed}
+use Rattle.engine.specs.declared.state.Ran.{Ran}
+use Rattle.engine.specs.Ran.{Runs, Steps, Blocks, Passes, restAt, choosing, iterating, overListed}
+use Rattle.engine.proofs.ActLaws.{settings-ill, argument-there, argument-none}
+use Rattle.engine.proofs.Arms.{runs-on, runs-left, runs-refused}
+use Rattle.engine.proofs.Bases.{code-right}
+use Rattle.engine.proofs.BlockArms.{passes-over, passes-none, passes-on, passes-left, passes-refused, blocks-nothing, blocks-clause, blocks-clause-left, blocks-clause-refused, blocks-same, blocks-list, blocks-as}
+use Rattle.engine.proofs.RunnerLaws.{Onto, sequence-ends, literal-inside, no-other, acts-alone, is-iteration, is-conditional, block-deep, block-none, block-iterates, block-chooses, blocks-told, closes-after, over-other, over-none, over-not, over-list, passes-none-told, passes-on-told}
+use Rattle.rules.proofs.RunLaws.{choose-yes, choose-no}
+use Rattle.rules.proofs.TextLaws.{next-inside}
+use Prim.Native.Nat.{ℕ, _+_, _-_, _*_, _<_, _≤_}
+use borrow.Fn.Kinds.{In}
+use borrow.Fn.PlainCycle.{Measures, is, falls, and}
+use Rattle.engine.proofs.runners.run_block.Reads as run-block
+use Rattle.engine.proofs.runners.run_block.Kinds as run-block-kinds
+use Rattle.engine.proofs.runners.+run_block+run_clause+run_conditional+run_item+run_iteration+run_over_list+run_passes+run_sequence.Lts-run_block as run-block-lts
+use Rattle.engine.proofs.runners.run_clause.Reads as run-clause
+use Rattle.engine.proofs.runners.run_clause.Kinds as run-clause-kinds
+use Rattle.engine.proofs.runners.+run_block+run_clause+run_conditional+run_item+run_iteration+run_over_list+run_passes+run_sequence.Lts-run_clause as run-clause-lts
+use Rattle.engine.proofs.runners.run_conditional.Reads as run-conditional
+use Rattle.engine.proofs.runners.run_conditional.Kinds as run-conditional-kinds
+use Rattle.engine.proofs.runners.+run_block+run_clause+run_conditional+run_item+run_iteration+run_over_list+run_passes+run_sequence.Lts-run_conditional as run-conditional-lts
+use Rattle.engine.proofs.runners.run_item.Reads as run-item
+use Rattle.engine.proofs.runners.run_item.Kinds as run-item-kinds
+use Rattle.engine.proofs.runners.+run_block+run_clause+run_conditional+run_item+run_iteration+run_over_list+run_passes+run_sequence.Lts-run_item as run-item-lts
+use Rattle.engine.proofs.runners.run_iteration.Reads as run-iteration
+use Rattle.engine.proofs.runners.run_iteration.Kinds as run-iteration-kinds
+use Rattle.engine.proofs.runners.+run_block+run_clause+run_conditional+run_item+run_iteration+run_over_list+run_passes+run_sequence.Lts-run_iteration as run-iteration-lts
+use Rattle.engine.proofs.runners.run_over_list.Reads as run-over-list
+use Rattle.engine.proofs.runners.run_over_list.Kinds as run-over-list-kinds
+use Rattle.engine.proofs.runners.+run_block+run_clause+run_conditional+run_item+run_iteration+run_over_list+run_passes+run_sequence.Lts-run_over_list as run-over-list-lts
+use Rattle.engine.proofs.runners.run_passes.Reads as run-passes
+use Rattle.engine.proofs.runners.run_passes.Kinds as run-passes-kinds
+use Rattle.engine.proofs.runners.+run_block+run_clause+run_conditional+run_item+run_iteration+run_over_list+run_passes+run_sequence.Lts-run_passes as run-passes-lts
+use Rattle.engine.proofs.runners.run_sequence.Reads as run-sequence
+use Rattle.engine.proofs.runners.run_sequence.Kinds as run-sequence-kinds
+use Rattle.engine.proofs.runners.+run_block+run_clause+run_conditional+run_item+run_iteration+run_over_list+run_passes+run_sequence.Lts-run_sequence as run-sequence-lts
+use Rattle.engine.proofs.clauses.choose_clause.Reads as choose-clause-reads
+use Rattle.engine.proofs.items.act.Reads as act-reads
+use Rattle.engine.proofs.items.close_from.Reads as close-from-reads
+use Rattle.engine.proofs.items.ends_here.Reads as ends-here-reads
+use Rattle.engine.proofs.items.is_iteration.Reads as is-iteration-reads
+use Rattle.engine.proofs.items.is_over.Reads as is-over-reads
+use Rattle.engine.proofs.items.list_of.Reads as list-of-reads
+use Rattle.engine.proofs.items.one_less.Reads as one-less-reads
+use Rattle.engine.proofs.items.opens_block.Reads as opens-block-reads
+use Rattle.engine.proofs.items.put_literal.Reads as put-literal-reads
+use Rattle.engine.proofs.runners.end_block.Reads as end-block-reads
+use Rattle.engine.proofs.state.go_on.Reads as go-on-reads
+use Rattle.engine.proofs.state.refuse.Reads as refuse-reads
+use Rattle.reader.proofs.directive.item_at.Reads as item-at-reads
+use Rattle.reader.proofs.places.is_well_written.Reads as is-well-written-reads
+use Rattle.working.proofs.argument_at.Reads as argument-at-reads
+use Rattle.working.proofs.settle_directive.Reads as settle-directive-reads
+use Rattle.engine.proofs.runners.+run_block+run_clause+run_conditional+run_item+run_iteration+run_over_list+run_passes+run_sequence.{
+  statement,
+}
+use Rattle.engine.proofs.runners.+run_block+run_clause+run_conditional+run_item+run_iteration+run_over_list+run_passes+run_sequence.Tie.{
+  close,
+}
+
+abbrev μ-run-block : Measures 3 run-block-kinds.ps ℕ
+μ-run-block κs a = 8 * a .1 .1 .0 + 5
+
+abbrev μ-run-clause : Measures 3 run-clause-kinds.ps ℕ
+μ-run-clause κs a = 8 * a .1 .1 .0 + 8
+
+abbrev μ-run-conditional : Measures 3 run-conditional-kinds.ps ℕ
+μ-run-conditional κs a = 8 * a .1 .1 .0 + 9
+
+abbrev μ-run-item : Measures 3 run-item-kinds.ps ℕ
+μ-run-item κs a = 8 * a .1 .1 .0 + 6
+
+abbrev μ-run-iteration : Measures 3 run-iteration-kinds.ps ℕ
+μ-run-iteration κs a = 8 * a .1 .1 .0 + 10
+
+abbrev μ-run-over-list : Measures 3 run-over-list-kinds.ps ℕ
+μ-run-over-list κs a = 8 * a .1 .1 .0 + 9
+
+abbrev μ-run-passes : Measures 3 run-passes-kinds.ps ℕ
+μ-run-passes κs a = 8 * a .1 .1 .0 + 8
+
+abbrev μ-run-sequence : Measures 3 run-sequence-kinds.ps ℕ
+μ-run-sequence κs a = 8 * a .1 .1 .0 + 7
+
+abbrev run-block-at : ℕ → In 3 run-block-kinds.ps
+run-block-at t = and 3 run-block-kinds.ps (is 3 run-block-kinds.ps μ-run-block t) run-block.Pre
+
+abbrev run-block-below : ℕ → In 3 run-block-kinds.ps
+run-block-below t =
+    and 3 run-block-kinds.ps (falls 3 run-block-kinds.ps _<_ μ-run-block t) run-block.Pre
+
+abbrev run-clause-at : ℕ → In 3 run-clause-kinds.ps
+run-clause-at t =
+    and 3 run-clause-kinds.ps (is 3 run-clause-kinds.ps μ-run-clause t) run-clause.Pre
+
+abbrev run-clause-below : ℕ → In 3 run-clause-kinds.ps
+run-clause-below t =
+    and 3 run-clause-kinds.ps (falls 3 run-clause-kinds.ps _<_ μ-run-clause t) run-clause.Pre
+
+abbrev run-conditional-at : ℕ → In 3 run-conditional-kinds.ps
+run-conditional-at t =
+    and
+    3
+    run-conditional-kinds.ps
+    (is 3 run-conditional-kinds.ps μ-run-conditional t)
+    run-conditional.Pre
+
+abbrev run-conditional-below : ℕ → In 3 run-conditional-kinds.ps
+run-conditional-below t =
+    and
+    3
+    run-conditional-kinds.ps
+    (falls 3 run-conditional-kinds.ps _<_ μ-run-conditional t)
+    run-conditional.Pre
+
+abbrev run-item-at : ℕ → In 3 run-item-kinds.ps
+run-item-at t = and 3 run-item-kinds.ps (is 3 run-item-kinds.ps μ-run-item t) run-item.Pre
+
+abbrev run-item-below : ℕ → In 3 run-item-kinds.ps
+run-item-below t =
+    and 3 run-item-kinds.ps (falls 3 run-item-kinds.ps _<_ μ-run-item t) run-item.Pre
+
+abbrev run-iteration-at : ℕ → In 3 run-iteration-kinds.ps
+run-iteration-at t =
+    and 3 run-iteration-kinds.ps (is 3 run-iteration-kinds.ps μ-run-iteration t) run-iteration.Pre
+
+abbrev run-iteration-below : ℕ → In 3 run-iteration-kinds.ps
+run-iteration-below t =
+    and
+    3
+    run-iteration-kinds.ps
+    (falls 3 run-iteration-kinds.ps _<_ μ-run-iteration t)
+    run-iteration.Pre
+
+abbrev run-over-list-at : ℕ → In 3 run-over-list-kinds.ps
+run-over-list-at t =
+    and 3 run-over-list-kinds.ps (is 3 run-over-list-kinds.ps μ-run-over-list t) run-over-list.Pre
+
+abbrev run-over-list-below : ℕ → In 3 run-over-list-kinds.ps
+run-over-list-below t =
+    and
+    3
+    run-over-list-kinds.ps
+    (falls 3 run-over-list-kinds.ps _<_ μ-run-over-list t)
+    run-over-list.Pre
+
+abbrev run-passes-at : ℕ → In 3 run-passes-kinds.ps
+run-passes-at t =
+    and 3 run-passes-kinds.ps (is 3 run-passes-kinds.ps μ-run-passes t) run-passes.Pre
+
+abbrev run-passes-below : ℕ → In 3 run-passes-kinds.ps
+run-passes-below t =
+    and 3 run-passes-kinds.ps (falls 3 run-passes-kinds.ps _<_ μ-run-passes t) run-passes.Pre
+
+abbrev run-sequence-at : ℕ → In 3 run-sequence-kinds.ps
+run-sequence-at t =
+    and 3 run-sequence-kinds.ps (is 3 run-sequence-kinds.ps μ-run-sequence t) run-sequence.Pre
+
+abbrev run-sequence-below : ℕ → In 3 run-sequence-kinds.ps
+run-sequence-below t =
+    and
+    3
+    run-sequence-kinds.ps
+    (falls 3 run-sequence-kinds.ps _<_ μ-run-sequence t)
+    run-sequence.Pre
+
+-- what the callees of run_block ask and ensure, below the measure t
+abbrev run-block-claims : ℕ → run-block-lts.Claims
+run-block-claims t = (refuse-reads.Asked, refuse-reads.Learnt, is-iteration-reads.Asked, is-iteration-reads.Learnt, run-iteration-below t, run-iteration.Post, run-conditional-below t, run-conditional.Post)
+
+run-block-refuse-requires : (t : ℕ) → run-block-lts.Need-refuse-requires (run-block-claims t) (run-block-at t) run-block.Post
+run-block-refuse-requires t c κs = search needs
+
+run-block-returns : (t : ℕ) → run-block-lts.Need-returns (run-block-claims t) (run-block-at t) run-block.Post
+run-block-returns t c =
+    let a = (c .before .before .before .before .before .args) in
+    block-deep (a .text .now) (viewOf (a .table .now)) (a .hand .first .0) (a .hand .count) (a .level) (a .p) (a .next .0) (a .left) (a .at) (a .out .now) (a .d) (c .before .before .before .before .before .pre .1 .1 .1 .0) _ (c .before .before .before .before .before .pre .1 .1 .1 .1 .0) (c .before .if1 .taken) (c .refuse .ensures) (c .before .before .before .before .before .pre .1 .1 .1 .1 .1) (c .before .before .before .before .before .pre .1 .1 .0)
+
+run-block-refuse-requires-2 : (t : ℕ) → run-block-lts.Need-refuse-requires-2 (run-block-claims t) (run-block-at t) run-block.Post
+run-block-refuse-requires-2 t c κs = search needs
+
+run-block-returns-2 : (t : ℕ) → run-block-lts.Need-returns-2 (run-block-claims t) (run-block-at t) run-block.Post
+run-block-returns-2 t c =
+    let a = (c .before .before .before .before .before .before .args) in
+    block-none (a .text .now) (viewOf (a .table .now)) (a .hand .first .0) (a .hand .count) (a .level) (a .p) (a .next .0) (a .left) (a .at) (a .out .now) (a .d) (c .before .before .before .before .before .before .pre .1 .1 .1 .0) _ (c .before .before .before .before .before .before .pre .1 .1 .1 .1 .0) (c .before .before .if1 .left) (c .before .if2 .taken) (c .refuse2 .ensures) (c .before .before .before .before .before .before .pre .1 .1 .1 .1 .1) (c .before .before .before .before .before .before .pre .1 .1 .0)
+
+run-block-sub-run-conditional : (t : ℕ) → run-block-lts.Need-sub-run-conditional (run-block-claims t) (run-block-at t) run-block.Post
+run-block-sub-run-conditional t c = search needs
+
+run-block-is-iteration-requires : (t : ℕ) → run-block-lts.Need-is-iteration-requires (run-block-claims t) (run-block-at t) run-block.Post
+run-block-is-iteration-requires t c κs = search needs
+
+run-block-sub-run-iteration : (t : ℕ) → run-block-lts.Need-sub-run-iteration (run-block-claims t) (run-block-at t) run-block.Post
+run-block-sub-run-iteration t c = search needs
+
+run-block-run-iteration-requires : (t : ℕ) → run-block-lts.Need-run-iteration-requires (run-block-claims t) (run-block-at t) run-block.Post
+run-block-run-iteration-requires t c κs = (omega (arith, (c .before .before .before .before .before .before .before .before .pre .0), (c .before .before .before .before .if1 .left)), ((c .before .before .before .before .before .before .before .before .pre .1 .0), ((c .before .before .before .before .before .before .before .before .pre .1 .1 .0), ((next-inside ((c .before .before .before .before .before .before .before .before .args .text .now)) ((c .before .before .before .before .before .before .before .before .args .p)) ((c .before .before .before .before .before .before .before .before .args .d)) ((c .before .before .before .before .before .before .before .before .pre .1 .1 .1 .0))) .most, (c .before .before .before .before .before .before .before .before .pre .1 .1 .1 .1 .1)))))
+
+run-block-same-length : (t : ℕ) → run-block-lts.Need-same-length (run-block-claims t) (run-block-at t) run-block.Post
+run-block-same-length t c = (c .before .before .run-iteration .ensures .does .size)
+
+run-block-returns-3 : (t : ℕ) → run-block-lts.Need-returns-3 (run-block-claims t) (run-block-at t) run-block.Post
+run-block-returns-3 t c =
+    let a = (c .before .before .before .before .before .before .before .before .before .before .before .args) in
+    block-iterates (a .text .now) (viewOf (a .table .now)) (a .hand .first .0) (a .hand .count) (a .level) (a .p) (a .next .0) (a .left) (a .at) (a .out .now) (a .d) (c .before .before .before .before .before .before .before .before .before .before .before .pre .1 .1 .1 .0) (c .before .before .before .before .before .before .before .if1 .left) (c .before .before .before .before .before .before .if2 .left) (is-iteration (a .d .code) (sym (c .before .before .before .before .before .is-iteration .ensures) ∙ (c .before .before .before .before .if3 .taken))) (c .before .before .run-iteration .ensures)
+
+run-block-sub-run-conditional-2 : (t : ℕ) → run-block-lts.Need-sub-run-conditional-2 (run-block-claims t) (run-block-at t) run-block.Post
+run-block-sub-run-conditional-2 t c = search needs
+
+run-block-run-conditional-requires : (t : ℕ) → run-block-lts.Need-run-conditional-requires (run-block-claims t) (run-block-at t) run-block.Post
+run-block-run-conditional-requires t c κs = (omega (arith, (c .before .before .before .before .before .before .before .before .pre .0), (c .before .before .before .before .if1 .left)), ((c .before .before .before .before .before .before .before .before .pre .1 .0), ((c .before .before .before .before .before .before .before .before .pre .1 .1 .0), ((next-inside ((c .before .before .before .before .before .before .before .before .args .text .now)) ((c .before .before .before .before .before .before .before .before .args .p)) ((c .before .before .before .before .before .before .before .before .args .d)) ((c .before .before .before .before .before .before .before .before .pre .1 .1 .1 .0))) .most, (c .before .before .before .before .before .before .before .before .pre .1 .1 .1 .1 .1)))))
+
+run-block-same-length-2 : (t : ℕ) → run-block-lts.Need-same-length-2 (run-block-claims t) (run-block-at t) run-block.Post
+run-block-same-length-2 t c = (c .before .before .run-conditional .ensures .does .size)
+
+run-block-returns-4 : (t : ℕ) → run-block-lts.Need-returns-4 (run-block-claims t) (run-block-at t) run-block.Post
+run-block-returns-4 t c =
+    let a = (c .before .before .before .before .before .before .before .before .before .before .before .args) in
+    block-chooses (a .text .now) (viewOf (a .table .now)) (a .hand .first .0) (a .hand .count) (a .level) (a .p) (a .next .0) (a .left) (a .at) (a .out .now) (a .d) (c .before .before .before .before .before .before .before .before .before .before .before .pre .1 .1 .1 .0) (c .before .before .before .before .before .before .before .if1 .left) (c .before .before .before .before .before .before .if2 .left) (is-conditional (a .d .code) (c .before .before .before .before .before .before .before .before .before .before .before .pre .1 .1 .1 .1 .0) (sym (c .before .before .before .before .before .is-iteration .ensures) ∙ (c .before .before .before .before .if3 .left))) (c .before .before .run-conditional .ensures)
+
+-- what the callees of run_clause ask and ensure, below the measure t
+abbrev run-clause-claims : ℕ → run-clause-lts.Claims
+run-clause-claims t = (run-sequence-below t, run-sequence.Post, close-from-reads.Asked, close-from-reads.Learnt)
+
+run-clause-run-sequence-requires : (t : ℕ) → run-clause-lts.Need-run-sequence-requires (run-clause-claims t) (run-clause-at t) run-clause.Post
+run-clause-run-sequence-requires t c κs = (omega (arith, (c .before .before .before .before .pre .0)), ((c .before .before .before .before .pre .1 .0), ((c .before .before .before .before .pre .1 .1 .0), ((c .before .before .before .before .pre .1 .1 .1 .0), (c .before .before .before .before .pre .1 .1 .1 .1)))))
+
+run-clause-enum-told : (t : ℕ) → run-clause-lts.Need-enum-told (run-clause-claims t) (run-clause-at t) run-clause.Post
+run-clause-enum-told t c = search needs
+
+run-clause-close-from-requires : (t : ℕ) → run-clause-lts.Need-close-from-requires (run-clause-claims t) (run-clause-at t) run-clause.Post
+run-clause-close-from-requires t c κs = ((c .before .before .before .before .before .run-sequence .ensures .ends) ((c .enum-told .given .1))) .most
+
+run-clause-enum-told-2 : (t : ℕ) → run-clause-lts.Need-enum-told-2 (run-clause-claims t) (run-clause-at t) run-clause.Post
+run-clause-enum-told-2 t c = search needs
+
+run-clause-enum-told-3 : (t : ℕ) → run-clause-lts.Need-enum-told-3 (run-clause-claims t) (run-clause-at t) run-clause.Post
+run-clause-enum-told-3 t c = search needs
+
+run-clause-same-length : (t : ℕ) → run-clause-lts.Need-same-length (run-clause-claims t) (run-clause-at t) run-clause.Post
+run-clause-same-length t c = (c .before .before .before .before .before .before .run-sequence .ensures .does .size)
+
+run-clause-returns : (t : ℕ) → run-clause-lts.Need-returns (run-clause-claims t) (run-clause-at t) run-clause.Post
+run-clause-returns t c =
+    let a = (c .before .before .before .before .before .before .before .before .before .before .before .args) in
+    let u = (c .before .before .before .before .before .before .run-sequence .ensures) in
+    let w = u .ends (c .before .enum-told .given .1) in
+    record { is = λ q f h o l. blocks-clause (levelsAt (a .text .now)) (length (a .text .now)) (viewOf (a .table .now)) (a .hand .first .0) (a .hand .count) (a .level) q f (a .spot .left) (a .spot .at) (a .out .now) (a .z) (a .next .0) h u (c .before .enum-told .given .1) _ (closes-after (a .text .now) q _ _ (w .around ∙ o) (omega (arith, w .least)) (c .close-from .ensures)) }
+
+run-clause-same-length-2 : (t : ℕ) → run-clause-lts.Need-same-length-2 (run-clause-claims t) (run-clause-at t) run-clause.Post
+run-clause-same-length-2 t c = (c .before .before .before .before .before .run-sequence .ensures .does .size)
+
+run-clause-returns-2 : (t : ℕ) → run-clause-lts.Need-returns-2 (run-clause-claims t) (run-clause-at t) run-clause.Post
+run-clause-returns-2 t c =
+    let a = (c .before .before .before .before .before .before .before .before .before .before .args) in
+    record { is = λ q f h o l. blocks-clause-left (levelsAt (a .text .now)) (length (a .text .now)) (viewOf (a .table .now)) (a .hand .first .0) (a .hand .count) (a .level) q f (a .spot .left) (a .spot .at) (a .out .now) (a .z) (a .next .0) h (c .before .before .before .before .before .run-sequence .ensures) (c .enum-told2 .given .1) }
+
+run-clause-same-length-3 : (t : ℕ) → run-clause-lts.Need-same-length-3 (run-clause-claims t) (run-clause-at t) run-clause.Post
+run-clause-same-length-3 t c = (c .before .before .before .before .before .run-sequence .ensures .does .size)
+
+run-clause-returns-3 : (t : ℕ) → run-clause-lts.Need-returns-3 (run-clause-claims t) (run-clause-at t) run-clause.Post
+run-clause-returns-3 t c =
+    let a = (c .before .before .before .before .before .before .before .before .before .before .args) in
+    record { is = λ q f h o l. blocks-clause-refused (levelsAt (a .text .now)) (length (a .text .now)) (viewOf (a .table .now)) (a .hand .first .0) (a .hand .count) (a .level) q f (a .spot .left) (a .spot .at) (a .out .now) (a .z) (a .next .0) h (c .before .before .before .before .before .run-sequence .ensures) _ _ (c .enum-told3 .given .1) }
+
+-- what the callees of run_conditional ask and ensure, below the measure t
+abbrev run-conditional-claims : ℕ → run-conditional-lts.Claims
+run-conditional-claims t = (is-well-written-reads.Asked, is-well-written-reads.Learnt, refuse-reads.Asked, refuse-reads.Learnt, settle-directive-reads.Asked, settle-directive-reads.Learnt, choose-clause-reads.Asked, choose-clause-reads.Learnt, run-clause-below t, run-clause.Post, end-block-reads.Asked, end-block-reads.Learnt)
+
+run-conditional-is-well-written-requires : (t : ℕ) → run-conditional-lts.Need-is-well-written-requires (run-conditional-claims t) (run-conditional-at t) run-conditional.Post
+run-conditional-is-well-written-requires t c κs = search needs
+
+run-conditional-refuse-requires : (t : ℕ) → run-conditional-lts.Need-refuse-requires (run-conditional-claims t) (run-conditional-at t) run-conditional.Post
+run-conditional-refuse-requires t c κs = search needs
+
+run-conditional-returns : (t : ℕ) → run-conditional-lts.Need-returns (run-conditional-claims t) (run-conditional-at t) run-conditional.Post
+run-conditional-returns t c =
+    let a = (c .before .before .before .before .before .before .args) in
+    blocks-told (levelsAt (a .text .now)) (length (a .text .now)) (viewOf (a .table .now)) (a .hand .first .0) (a .hand .count) (a .level) (a .d .next) (choosing (levelsAt (a .text .now)) (viewOf (a .table .now)) (handAt (a .hand)) (a .spot .position) (a .d) (a .d .next) (a .next .0) (a .spot .left)) (a .spot .left) (a .spot .at) (a .out .now) _ 5 (a .spot .position) (a .next .0) _ (c .refuse .ensures) (λ ks. settings-ill (viewOf (a .table .now)) (a .spot .position) (a .spot .left) (a .d) (handAt (a .hand) (a .next .0)) _ (sym (c .before .before .is-well-written .ensures) ∙ not-true _ (c .before .if1 .taken))) (c .before .before .before .before .before .before .pre .1 .1 .1 .1) (c .before .before .before .before .before .before .pre .1 .1 .0)
+
+run-conditional-settle-directive-requires : (t : ℕ) → run-conditional-lts.Need-settle-directive-requires (run-conditional-claims t) (run-conditional-at t) run-conditional.Post
+run-conditional-settle-directive-requires t c κs = search needs
+
+run-conditional-enum-known-settled : (t : ℕ) → run-conditional-lts.Need-enum-known-settled (run-conditional-claims t) (run-conditional-at t) run-conditional.Post
+run-conditional-enum-known-settled t c = search needs
+
+run-conditional-refuse-requires-2 : (t : ℕ) → run-conditional-lts.Need-refuse-requires-2 (run-conditional-claims t) (run-conditional-at t) run-conditional.Post
+run-conditional-refuse-requires-2 t c κs = search needs
+
+run-conditional-enum-known-settled-2 : (t : ℕ) → run-conditional-lts.Need-enum-known-settled-2 (run-conditional-claims t) (run-conditional-at t) run-conditional.Post
+run-conditional-enum-known-settled-2 t c = search needs
+
+run-conditional-choose-clause-requires : (t : ℕ) → run-conditional-lts.Need-choose-clause-requires (run-conditional-claims t) (run-conditional-at t) run-conditional.Post
+run-conditional-choose-clause-requires t c κs = ((c .before .before .before .before .before .before .before .before .before .pre .1 .0), (next-reaches (c .before .before .before .settle-directive .ensures) (c .before .settled2 .given .1), (c .before .before .before .before .before .before .before .before .before .pre .1 .1 .1 .0)))
+
+run-conditional-enum-known-chosen : (t : ℕ) → run-conditional-lts.Need-enum-known-chosen (run-conditional-claims t) (run-conditional-at t) run-conditional.Post
+run-conditional-enum-known-chosen t c = search needs
+
+run-conditional-run-clause-requires : (t : ℕ) → run-conditional-lts.Need-run-clause-requires (run-conditional-claims t) (run-conditional-at t) run-conditional.Post
+run-conditional-run-clause-requires t c κs =
+    let a = (c .before .before .before .before .before .before .before .before .before .before .before .before .before .before .args) in
+    let w = subst (ChosenIn (a .text .now) (a .d .next) (a .hand .count)) (c .before .before .chosen .given .1) (c .before .before .before .before .choose-clause .ensures .inside) in
+    (omega (arith, (c .before .before .before .before .before .before .before .before .before .before .before .before .before .before .pre .0)), ((c .before .before .before .before .before .before .before .before .before .before .before .before .before .before .pre .1 .0), (w .next, (w .most, (c .before .before .before .before .before .before .before .before .before .before .before .before .before .before .pre .1 .1 .1 .1)))))
+
+run-conditional-enum-known-chosen-2 : (t : ℕ) → run-conditional-lts.Need-enum-known-chosen-2 (run-conditional-claims t) (run-conditional-at t) run-conditional.Post
+run-conditional-enum-known-chosen-2 t c = search needs
+
+run-conditional-end-block-requires : (t : ℕ) → run-conditional-lts.Need-end-block-requires (run-conditional-claims t) (run-conditional-at t) run-conditional.Post
+run-conditional-end-block-requires t c κs = (c .before .before .before .before .before .before .before .before .before .before .before .before .before .pre .1 .1 .1 .0)
+
+run-conditional-enum-known-chosen-3 : (t : ℕ) → run-conditional-lts.Need-enum-known-chosen-3 (run-conditional-claims t) (run-conditional-at t) run-conditional.Post
+run-conditional-enum-known-chosen-3 t c = search needs
+
+run-conditional-refuse-requires-3 : (t : ℕ) → run-conditional-lts.Need-refuse-requires-3 (run-conditional-claims t) (run-conditional-at t) run-conditional.Post
+run-conditional-refuse-requires-3 t c κs = search needs
+
+run-conditional-returns-2 : (t : ℕ) → run-conditional-lts.Need-returns-2 (run-conditional-claims t) (run-conditional-at t) run-conditional.Post
+run-conditional-returns-2 t c =
+    let a = (c .before .before .before .before .before .before .before .before .before .before .args) in
+    blocks-told (levelsAt (a .text .now)) (length (a .text .now)) (viewOf (a .table .now)) (a .hand .first .0) (a .hand .count) (a .level) (a .d .next) (choosing (levelsAt (a .text .now)) (viewOf (a .table .now)) (handAt (a .hand)) (a .spot .position) (a .d) (a .d .next) (a .next .0) (a .spot .left)) (a .spot .left) (a .spot .at) (a .out .now) _ _ (a .spot .position) (a .next .0) _ (c .refuse2 .ensures) (λ ks. run-refused (c .before .before .before .before .settle-directive .ensures) (sym (c .before .before .before .before .before .before .is-well-written .ensures) ∙ not-false _ (c .before .before .before .before .before .if1 .left)) (a .spot .position) (a .spot .left) _ (c .before .before .settled .given .1)) (c .before .before .before .before .before .before .before .before .before .before .pre .1 .1 .1 .1) (c .before .before .before .before .before .before .before .before .before .before .pre .1 .1 .0)
+
+run-conditional-same-length : (t : ℕ) → run-conditional-lts.Need-same-length (run-conditional-claims t) (run-conditional-at t) run-conditional.Post
+run-conditional-same-length t c =
+    let a = (c .before .before .before .before .before .before .before .before .before .before .before .before .before .before .before .before .before .args) in
+    let w = subst (ChosenIn (a .text .now) (a .d .next) (a .hand .count)) (c .before .before .before .before .before .chosen .given .1) (c .before .before .before .before .before .before .before .choose-clause .ensures .inside) in
+    (c .before .before .run-clause .ensures .is) (a .d .next) _ (λ ks. refl) (w .outside) (w .least) .does .size
+
+run-conditional-returns-3 : (t : ℕ) → run-conditional-lts.Need-returns-3 (run-conditional-claims t) (run-conditional-at t) run-conditional.Post
+run-conditional-returns-3 t c =
+    let a = (c .before .before .before .before .before .before .before .before .before .before .before .before .before .before .before .before .before .args) in
+    let w = subst (ChosenIn (a .text .now) (a .d .next) (a .hand .count)) (c .before .before .before .before .before .chosen .given .1) (c .before .before .before .before .before .before .before .choose-clause .ensures .inside) in
+    (c .before .before .run-clause .ensures .is) (a .d .next) (choosing (levelsAt (a .text .now)) (viewOf (a .table .now)) (handAt (a .hand)) (a .spot .position) (a .d) (a .d .next) (a .next .0) (a .spot .left))
+    (λ ks. run-settled (c .before .before .before .before .before .before .before .before .before .before .before .settle-directive .ensures) (sym (c .before .before .before .before .before .before .before .before .before .before .before .before .before .is-well-written .ensures) ∙ not-false _ (c .before .before .before .before .before .before .before .before .before .before .before .before .if1 .left)) (a .spot .position) (a .spot .left) _ (c .before .before .before .before .before .before .before .before .before .settled2 .given .1)
+    ∙ (c .before .before .before .before .before .before .before .choose-clause .ensures .is) (a .spot .position) (a .spot .left) (a .next .0) _
+    ∙ ap (λ (x : Chosen). onChosen (levelsAt (a .text .now)) (a .spot .position) (a .spot .left) x (λ y after. run (viewOf (a .table .now)) (a .spot .left) y (conditional (innermost (outer (levelsAt (a .text .now) (a .d .next))) .rest) ∷ ks) (handAt (a .hand) after))) (c .before .before .before .before .before .chosen .given .1)) (w .outside) (w .least)
+
+run-conditional-returns-4 : (t : ℕ) → run-conditional-lts.Need-returns-4 (run-conditional-claims t) (run-conditional-at t) run-conditional.Post
+run-conditional-returns-4 t c =
+    let a = (c .before .before .before .before .before .before .before .before .before .before .before .before .before .before .args) in
+    let w = subst (ChosenIn (a .text .now) (a .d .next) (a .hand .count)) (c .before .before .chosen2 .given .1) (c .before .before .before .before .choose-clause .ensures .inside) in
+    let u = (c .end-block .ensures) in
+    subst (Blocks (levelsAt (a .text .now)) (length (a .text .now)) (viewOf (a .table .now)) (handAt (a .hand)) (a .level) (a .d .next) (choosing (levelsAt (a .text .now)) (viewOf (a .table .now)) (handAt (a .hand)) (a .spot .position) (a .d) (a .d .next) (a .next .0) (a .spot .left)) (a .spot .left) (a .spot .at) (a .out .now) (a .out .now)) (sym (u .is))
+    (blocks-nothing (levelsAt (a .text .now)) (length (a .text .now)) (viewOf (a .table .now)) (a .hand .first .0) (a .hand .count) (a .level) (a .d .next) (choosing (levelsAt (a .text .now)) (viewOf (a .table .now)) (handAt (a .hand)) (a .spot .position) (a .d) (a .d .next) (a .next .0) (a .spot .left)) (a .spot .left) (a .spot .at) (a .out .now) _ _
+    (λ ks. run-settled (c .before .before .before .before .before .before .before .before .settle-directive .ensures) (sym (c .before .before .before .before .before .before .before .before .before .before .is-well-written .ensures) ∙ not-false _ (c .before .before .before .before .before .before .before .before .before .if1 .left)) (a .spot .position) (a .spot .left) _ (c .before .before .before .before .before .before .settled2 .given .1)
+    ∙ (c .before .before .before .before .choose-clause .ensures .is) (a .spot .position) (a .spot .left) (a .next .0) _
+    ∙ ap (λ (x : Chosen). onChosen (levelsAt (a .text .now)) (a .spot .position) (a .spot .left) x (λ y after. run (viewOf (a .table .now)) (a .spot .left) y (conditional (innermost (outer (levelsAt (a .text .now) (a .d .next))) .rest) ∷ ks) (handAt (a .hand) after))) (c .before .before .chosen2 .given .1)) (u .after) (c .before .before .before .before .before .before .before .before .before .before .before .before .before .before .pre .1 .1 .1 .1) w)
+
+run-conditional-returns-5 : (t : ℕ) → run-conditional-lts.Need-returns-5 (run-conditional-claims t) (run-conditional-at t) run-conditional.Post
+run-conditional-returns-5 t c =
+    let a = (c .before .before .before .before .before .before .before .before .before .before .before .before .before .before .args) in
+    blocks-told (levelsAt (a .text .now)) (length (a .text .now)) (viewOf (a .table .now)) (a .hand .first .0) (a .hand .count) (a .level) (a .d .next) (choosing (levelsAt (a .text .now)) (viewOf (a .table .now)) (handAt (a .hand)) (a .spot .position) (a .d) (a .d .next) (a .next .0) (a .spot .left)) (a .spot .left) (a .spot .at) (a .out .now) _ _ (a .spot .position) (a .next .0) _ (c .refuse3 .ensures)
+    (λ ks. run-settled (c .before .before .before .before .before .before .before .before .settle-directive .ensures) (sym (c .before .before .before .before .before .before .before .before .before .before .is-well-written .ensures) ∙ not-false _ (c .before .before .before .before .before .before .before .before .before .if1 .left)) (a .spot .position) (a .spot .left) _ (c .before .before .before .before .before .before .settled2 .given .1)
+    ∙ (c .before .before .before .before .choose-clause .ensures .is) (a .spot .position) (a .spot .left) (a .next .0) _
+    ∙ ap (λ (x : Chosen). onChosen (levelsAt (a .text .now)) (a .spot .position) (a .spot .left) x (λ y after. run (viewOf (a .table .now)) (a .spot .left) y (conditional (innermost (outer (levelsAt (a .text .now) (a .d .next))) .rest) ∷ ks) (handAt (a .hand) after))) (c .before .before .chosen3 .given .1)) (c .before .before .before .before .before .before .before .before .before .before .before .before .before .before .pre .1 .1 .1 .1) (c .before .before .before .before .before .before .before .before .before .before .before .before .before .before .pre .1 .1 .0)
+
+-- what the callees of run_item ask and ensure, below the measure t
+abbrev run-item-claims : ℕ → run-item-lts.Claims
+run-item-claims t = (put-literal-reads.Asked, put-literal-reads.Learnt, opens-block-reads.Asked, opens-block-reads.Learnt, run-block-below t, run-block.Post, act-reads.Asked, act-reads.Learnt, refuse-reads.Asked, refuse-reads.Learnt)
+
+run-item-enum-known-item : (t : ℕ) → run-item-lts.Need-enum-known-item (run-item-claims t) (run-item-at t) run-item.Post
+run-item-enum-known-item t c = search needs
+
+run-item-put-literal-requires : (t : ℕ) → run-item-lts.Need-put-literal-requires (run-item-claims t) (run-item-at t) run-item.Post
+run-item-put-literal-requires t c κs = ((c .before .before .before .before .before .before .before .pre .1 .1 .0), ((c .before .before .before .before .before .before .before .pre .1 .1 .1 .1 .1), omega (arith, literal-inside ((c .before .before .before .before .before .before .before .args .text .now)) ((c .before .before .before .before .before .before .before .args .p)) (c .before .before .before .before .before .before .before .pre .1 .1 .1 .0) (c .before .before .item .given .1))))
+
+run-item-enum-known-item-2 : (t : ℕ) → run-item-lts.Need-enum-known-item-2 (run-item-claims t) (run-item-at t) run-item.Post
+run-item-enum-known-item-2 t c = search needs
+
+run-item-opens-block-requires : (t : ℕ) → run-item-lts.Need-opens-block-requires (run-item-claims t) (run-item-at t) run-item.Post
+run-item-opens-block-requires t c κs = search needs
+
+run-item-run-block-requires : (t : ℕ) → run-item-lts.Need-run-block-requires (run-item-claims t) (run-item-at t) run-item.Post
+run-item-run-block-requires t c κs = (omega (arith, (c .before .before .before .before .before .before .before .before .before .pre .0)), ((c .before .before .before .before .before .before .before .before .before .pre .1 .0), ((c .before .before .before .before .before .before .before .before .before .pre .1 .1 .0), ((c .before .before .before .before .before .before .before .before .before .pre .1 .1 .1 .0) ∙ (c .before .before .before .before .item2 .given .1), (sym (c .before .before .opens-block .ensures) ∙ (c .before .if1 .taken), (c .before .before .before .before .before .before .before .before .before .pre .1 .1 .1 .1 .1))))))
+
+run-item-same-length : (t : ℕ) → run-item-lts.Need-same-length (run-item-claims t) (run-item-at t) run-item.Post
+run-item-same-length t c = (c .before .before .run-block .ensures .does .size)
+
+run-item-returns : (t : ℕ) → run-item-lts.Need-returns (run-item-claims t) (run-item-at t) run-item.Post
+run-item-returns t c = (c .before .before .run-block .ensures)
+
+run-item-act-requires : (t : ℕ) → run-item-lts.Need-act-requires (run-item-claims t) (run-item-at t) run-item.Post
+run-item-act-requires t c κs = (
+  acts-alone ((c .before .before .before .before .item2 .given .0 .0 .code)) (code-right ((c .before .before .before .before .before .before .before .before .before .args .text .now)) ((c .before .before .before .before .before .before .before .before .before .args .p)) ((c .before .before .before .before .item2 .given .0 .0)) ((c .before .before .before .before .before .before .before .before .before .pre .1 .1 .1 .0) ∙ (c .before .before .before .before .item2 .given .1))) (sym (c .before .before .opens-block .ensures) ∙ (c .before .if1 .left)) (sym (ap endsAt (c .before .before .before .before .item2 .given .1)) ∙ (c .before .before .before .before .before .before .before .before .before .pre .1 .1 .1 .1 .0)),
+  ((c .before .before .before .before .before .before .before .before .before .pre .1 .0), ((c .before .before .before .before .before .before .before .before .before .pre .1 .1 .0), (c .before .before .before .before .before .before .before .before .before .pre .1 .1 .1 .1 .1))),
+)
+
+run-item-refuse-requires : (t : ℕ) → run-item-lts.Need-refuse-requires (run-item-claims t) (run-item-at t) run-item.Post
+run-item-refuse-requires t c κs = search needs
+
+run-item-same-length-2 : (t : ℕ) → run-item-lts.Need-same-length-2 (run-item-claims t) (run-item-at t) run-item.Post
+run-item-same-length-2 t c = let a = (c .before .before .before .before .before .before .before .before .before .before .args) in (c .before .before .put-literal .ensures) (a .text .now) (viewOf (a .table .now)) (a .level) ((c .before .before .before .before .before .before .before .before .before .before .pre .1 .1 .1 .0) ∙ (c .before .before .before .before .before .item .given .1)) .does .size
+
+run-item-returns-2 : (t : ℕ) → run-item-lts.Need-returns-2 (run-item-claims t) (run-item-at t) run-item.Post
+run-item-returns-2 t c = let a = (c .before .before .before .before .before .before .before .before .before .before .args) in (c .before .before .put-literal .ensures) (a .text .now) (viewOf (a .table .now)) (a .level) ((c .before .before .before .before .before .before .before .before .before .before .pre .1 .1 .1 .0) ∙ (c .before .before .before .before .before .item .given .1))
+
+run-item-same-length-3 : (t : ℕ) → run-item-lts.Need-same-length-3 (run-item-claims t) (run-item-at t) run-item.Post
+run-item-same-length-3 t c = let a = (c .before .before .before .before .before .before .before .before .before .before .before .before .args) in (c .before .before .act .ensures) (a .text .now) (a .level) ((c .before .before .before .before .before .before .before .before .before .before .before .before .pre .1 .1 .1 .0) ∙ (c .before .before .before .before .before .before .before .item2 .given .1)) .does .size
+
+run-item-returns-3 : (t : ℕ) → run-item-lts.Need-returns-3 (run-item-claims t) (run-item-at t) run-item.Post
+run-item-returns-3 t c = let a = (c .before .before .before .before .before .before .before .before .before .before .before .before .args) in (c .before .before .act .ensures) (a .text .now) (a .level) ((c .before .before .before .before .before .before .before .before .before .before .before .before .pre .1 .1 .1 .0) ∙ (c .before .before .before .before .before .before .before .item2 .given .1))
+
+run-item-returns-4 : (t : ℕ) → run-item-lts.Need-returns-4 (run-item-claims t) (run-item-at t) run-item.Post
+run-item-returns-4 t c = absurd (no-other _ ((c .before .before .before .before .before .args .item)) refl (c .before .before .before .before .before .pre .1 .1 .1 .1 .0) (c .before .match .keys3))
+
+-- what the callees of run_iteration ask and ensure, below the measure t
+abbrev run-iteration-claims : ℕ → run-iteration-lts.Claims
+run-iteration-claims t = (is-well-written-reads.Asked, is-well-written-reads.Learnt, refuse-reads.Asked, refuse-reads.Learnt, settle-directive-reads.Asked, settle-directive-reads.Learnt, run-passes-below t, run-passes.Post, run-over-list-below t, run-over-list.Post)
+
+run-iteration-is-well-written-requires : (t : ℕ) → run-iteration-lts.Need-is-well-written-requires (run-iteration-claims t) (run-iteration-at t) run-iteration.Post
+run-iteration-is-well-written-requires t c κs = search needs
+
+run-iteration-refuse-requires : (t : ℕ) → run-iteration-lts.Need-refuse-requires (run-iteration-claims t) (run-iteration-at t) run-iteration.Post
+run-iteration-refuse-requires t c κs = search needs
+
+run-iteration-returns : (t : ℕ) → run-iteration-lts.Need-returns (run-iteration-claims t) (run-iteration-at t) run-iteration.Post
+run-iteration-returns t c =
+    let a = (c .before .before .before .before .before .before .args) in
+    blocks-told (levelsAt (a .text .now)) (length (a .text .now)) (viewOf (a .table .now)) (a .hand .first .0) (a .hand .count) (a .level) (a .d .next) (iterating (levelsAt (a .text .now)) (viewOf (a .table .now)) (handAt (a .hand)) (a .spot .position) (a .d) (a .d .next) (a .next .0) (a .spot .left)) (a .spot .left) (a .spot .at) (a .out .now) _ 5 (a .spot .position) (a .next .0) _ (c .refuse .ensures) (λ ks. settings-ill (viewOf (a .table .now)) (a .spot .position) (a .spot .left) (a .d) (handAt (a .hand) (a .next .0)) _ (sym (c .before .before .is-well-written .ensures) ∙ not-true _ (c .before .if1 .taken))) (c .before .before .before .before .before .before .pre .1 .1 .1 .1) (c .before .before .before .before .before .before .pre .1 .1 .0)
+
+run-iteration-settle-directive-requires : (t : ℕ) → run-iteration-lts.Need-settle-directive-requires (run-iteration-claims t) (run-iteration-at t) run-iteration.Post
+run-iteration-settle-directive-requires t c κs = search needs
+
+run-iteration-enum-known-settled : (t : ℕ) → run-iteration-lts.Need-enum-known-settled (run-iteration-claims t) (run-iteration-at t) run-iteration.Post
+run-iteration-enum-known-settled t c = search needs
+
+run-iteration-refuse-requires-2 : (t : ℕ) → run-iteration-lts.Need-refuse-requires-2 (run-iteration-claims t) (run-iteration-at t) run-iteration.Post
+run-iteration-refuse-requires-2 t c κs = search needs
+
+run-iteration-enum-known-settled-2 : (t : ℕ) → run-iteration-lts.Need-enum-known-settled-2 (run-iteration-claims t) (run-iteration-at t) run-iteration.Post
+run-iteration-enum-known-settled-2 t c = search needs
+
+run-iteration-run-passes-requires : (t : ℕ) → run-iteration-lts.Need-run-passes-requires (run-iteration-claims t) (run-iteration-at t) run-iteration.Post
+run-iteration-run-passes-requires t c κs = (omega (arith, (c .before .before .before .before .before .before .before .before .before .before .before .pre .0)), ((c .before .before .before .before .before .before .before .before .before .before .before .pre .1 .0), (next-reaches (c .before .before .before .before .before .settle-directive .ensures) (c .before .before .before .settled2 .given .1), ((c .before .before .before .before .before .before .before .before .before .before .before .pre .1 .1 .1 .0), (c .before .before .before .before .before .before .before .before .before .before .before .pre .1 .1 .1 .1)))))
+
+run-iteration-same-length : (t : ℕ) → run-iteration-lts.Need-same-length (run-iteration-claims t) (run-iteration-at t) run-iteration.Post
+run-iteration-same-length t c = (c .before .before .run-passes .ensures .does .size)
+
+run-iteration-returns-2 : (t : ℕ) → run-iteration-lts.Need-returns-2 (run-iteration-claims t) (run-iteration-at t) run-iteration.Post
+run-iteration-returns-2 t c =
+    let a = (c .before .before .before .before .before .before .before .before .before .before .before .before .before .before .args) in
+    blocks-same (levelsAt (a .text .now)) (length (a .text .now)) (viewOf (a .table .now)) (a .hand .first .0) (a .hand .count) (a .level) (a .d .next) (iterating (levelsAt (a .text .now)) (viewOf (a .table .now)) (handAt (a .hand)) (a .spot .position) (a .d) (a .d .next) (a .next .0) (a .spot .left)) (a .spot .left) (a .spot .at) (a .out .now) (a .spot .position) _ _
+    (λ ks. run-settled (c .before .before .before .before .before .before .before .before .settle-directive .ensures) (sym (c .before .before .before .before .before .before .before .before .before .before .is-well-written .ensures) ∙ not-false _ (c .before .before .before .before .before .before .before .before .before .if1 .left)) (a .spot .position) (a .spot .left) _ (c .before .before .before .before .before .before .settled2 .given .1) ∙ choose-yes _ _ (c .before .before .before .before .if2 .taken)) (c .before .before .run-passes .ensures)
+
+run-iteration-run-over-list-requires : (t : ℕ) → run-iteration-lts.Need-run-over-list-requires (run-iteration-claims t) (run-iteration-at t) run-iteration.Post
+run-iteration-run-over-list-requires t c κs = (omega (arith, (c .before .before .before .before .before .before .before .before .before .before .before .pre .0)), ((c .before .before .before .before .before .before .before .before .before .before .before .pre .1 .0), (next-reaches (c .before .before .before .before .before .settle-directive .ensures) (c .before .before .before .settled2 .given .1), ((c .before .before .before .before .before .before .before .before .before .before .before .pre .1 .1 .1 .0), (c .before .before .before .before .before .before .before .before .before .before .before .pre .1 .1 .1 .1)))))
+
+run-iteration-returns-3 : (t : ℕ) → run-iteration-lts.Need-returns-3 (run-iteration-claims t) (run-iteration-at t) run-iteration.Post
+run-iteration-returns-3 t c =
+    let a = (c .before .before .before .before .before .before .before .before .before .before .args) in
+    blocks-told (levelsAt (a .text .now)) (length (a .text .now)) (viewOf (a .table .now)) (a .hand .first .0) (a .hand .count) (a .level) (a .d .next) (iterating (levelsAt (a .text .now)) (viewOf (a .table .now)) (handAt (a .hand)) (a .spot .position) (a .d) (a .d .next) (a .next .0) (a .spot .left)) (a .spot .left) (a .spot .at) (a .out .now) _ _ (a .spot .position) (a .next .0) _ (c .refuse2 .ensures) (λ ks. run-refused (c .before .before .before .before .settle-directive .ensures) (sym (c .before .before .before .before .before .before .is-well-written .ensures) ∙ not-false _ (c .before .before .before .before .before .if1 .left)) (a .spot .position) (a .spot .left) _ (c .before .before .settled .given .1)) (c .before .before .before .before .before .before .before .before .before .before .pre .1 .1 .1 .1) (c .before .before .before .before .before .before .before .before .before .before .pre .1 .1 .0)
+
+run-iteration-same-length-2 : (t : ℕ) → run-iteration-lts.Need-same-length-2 (run-iteration-claims t) (run-iteration-at t) run-iteration.Post
+run-iteration-same-length-2 t c = (c .before .before .run-over-list .ensures .does .size)
+
+run-iteration-returns-4 : (t : ℕ) → run-iteration-lts.Need-returns-4 (run-iteration-claims t) (run-iteration-at t) run-iteration.Post
+run-iteration-returns-4 t c =
+    let a = (c .before .before .before .before .before .before .before .before .before .before .before .before .before .before .args) in
+    blocks-as (iterating (levelsAt (a .text .now)) (viewOf (a .table .now)) (handAt (a .hand)) (a .spot .position) (a .d) (a .d .next) (a .next .0) (a .spot .left)) _ (λ ks. run-settled (c .before .before .before .before .before .before .before .before .settle-directive .ensures) (sym (c .before .before .before .before .before .before .before .before .before .before .is-well-written .ensures) ∙ not-false _ (c .before .before .before .before .before .before .before .before .before .if1 .left)) (a .spot .position) (a .spot .left) _ (c .before .before .before .before .before .before .settled2 .given .1) ∙ choose-no _ _ (c .before .before .before .before .if2 .left)) (c .before .before .run-over-list .ensures)
+
+-- what the callees of run_over_list ask and ensure, below the measure t
+abbrev run-over-list-claims : ℕ → run-over-list-lts.Claims
+run-over-list-claims t = (refuse-reads.Asked, refuse-reads.Learnt, argument-at-reads.Asked, argument-at-reads.Learnt, list-of-reads.Asked, list-of-reads.Learnt, run-passes-below t, run-passes.Post)
+
+run-over-list-refuse-requires : (t : ℕ) → run-over-list-lts.Need-refuse-requires (run-over-list-claims t) (run-over-list-at t) run-over-list.Post
+run-over-list-refuse-requires t c κs = search needs
+
+run-over-list-returns : (t : ℕ) → run-over-list-lts.Need-returns (run-over-list-claims t) (run-over-list-at t) run-over-list.Post
+run-over-list-returns t c =
+    let a = (c .before .before .before .before .before .before .args) in
+    blocks-told (levelsAt (a .text .now)) (length (a .text .now)) (viewOf (a .table .now)) (a .hand .first .0) (a .hand .count) (a .level) (a .q) (overListed (levelsAt (a .text .now)) (viewOf (a .table .now)) (handAt (a .hand)) (a .spot .position) (a .q) (a .limit) (a .i .0) (a .spot .left)) (a .spot .left) (a .spot .at) (a .out .now) _ 6 (a .spot .position) (a .i .0) _ (c .refuse .ensures) (λ ks. over-none (levelsAt (a .text .now)) (viewOf (a .table .now)) (a .hand .first .0) (a .hand .count) (a .spot .position) (a .q) (a .limit) (a .i .0) (a .spot .left) ks (c .before .if1 .taken)) (c .before .before .before .before .before .before .pre .1 .1 .1 .1) (c .before .before .before .before .before .before .pre .1 .1 .0)
+
+run-over-list-argument-at-requires : (t : ℕ) → run-over-list-lts.Need-argument-at-requires (run-over-list-claims t) (run-over-list-at t) run-over-list.Post
+run-over-list-argument-at-requires t c κs = search needs
+
+run-over-list-list-of-requires : (t : ℕ) → run-over-list-lts.Need-list-of-requires (run-over-list-claims t) (run-over-list-at t) run-over-list.Post
+run-over-list-list-of-requires t c κs = search needs
+
+run-over-list-enum-told : (t : ℕ) → run-over-list-lts.Need-enum-told (run-over-list-claims t) (run-over-list-at t) run-over-list.Post
+run-over-list-enum-told t c = search needs
+
+run-over-list-refuse-requires-2 : (t : ℕ) → run-over-list-lts.Need-refuse-requires-2 (run-over-list-claims t) (run-over-list-at t) run-over-list.Post
+run-over-list-refuse-requires-2 t c κs = search needs
+
+run-over-list-enum-known-listed : (t : ℕ) → run-over-list-lts.Need-enum-known-listed (run-over-list-claims t) (run-over-list-at t) run-over-list.Post
+run-over-list-enum-known-listed t c = search needs
+
+run-over-list-run-passes-requires : (t : ℕ) → run-over-list-lts.Need-run-passes-requires (run-over-list-claims t) (run-over-list-at t) run-over-list.Post
+run-over-list-run-passes-requires t c κs =
+    let a = (c .before .before .before .before .before .before .before .before .before .before .before .args) in
+    let w = subst (ListsTo (a .table .now) (a .hand .first .0 + a .i .0) (c .before .before .before .before .before .argument-at .result)) (c .before .before .listed .given .1) ((c .before .before .before .before .list-of .ensures) (a .table .now) (a .hand .first .0 + a .i .0)) in
+    (omega (arith, (c .before .before .before .before .before .before .before .before .before .before .before .pre .0)), (record { accepted = (c .before .before .before .before .before .before .before .before .before .before .before .pre .1 .0 .accepted); within = w .1 (c .before .before .before .before .before .argument-at .ensures .0) }, (omega arith, ((c .before .before .before .before .before .before .before .before .before .before .before .pre .1 .1 .1 .0), (c .before .before .before .before .before .before .before .before .before .before .before .pre .1 .1 .1 .1)))))
+
+run-over-list-add-t21 : (t : ℕ) → run-over-list-lts.Need-add-t21 (run-over-list-claims t) (run-over-list-at t) run-over-list.Post
+run-over-list-add-t21 t c = search needs
+
+run-over-list-returns-2 : (t : ℕ) → run-over-list-lts.Need-returns-2 (run-over-list-claims t) (run-over-list-at t) run-over-list.Post
+run-over-list-returns-2 t c =
+    let a = (c .before .before .before .before .before .before .before .before .before .before .args) in
+    let w = subst (ListsTo (a .table .now) (a .hand .first .0 + a .i .0) (c .before .before .before .before .argument-at .result)) (c .before .enum-told .given .1) ((c .before .before .before .list-of .ensures) (a .table .now) (a .hand .first .0 + a .i .0)) in
+    blocks-told (levelsAt (a .text .now)) (length (a .text .now)) (viewOf (a .table .now)) (a .hand .first .0) (a .hand .count) (a .level) (a .q) (overListed (levelsAt (a .text .now)) (viewOf (a .table .now)) (handAt (a .hand)) (a .spot .position) (a .q) (a .limit) (a .i .0) (a .spot .left)) (a .spot .left) (a .spot .at) (a .out .now) _ 7 (a .spot .position) (a .i .0) _ (c .refuse2 .ensures) (λ ks. over-not (levelsAt (a .text .now)) (viewOf (a .table .now)) (a .hand .first .0) (a .hand .count) (a .spot .position) (a .q) (a .limit) (a .i .0) (a .spot .left) ks (c .before .before .before .before .before .if1 .left) _ (sym ((c .before .before .before .before .argument-at .ensures .1))) w) (c .before .before .before .before .before .before .before .before .before .before .pre .1 .1 .1 .1) (c .before .before .before .before .before .before .before .before .before .before .pre .1 .1 .0)
+
+run-over-list-same-length : (t : ℕ) → run-over-list-lts.Need-same-length (run-over-list-claims t) (run-over-list-at t) run-over-list.Post
+run-over-list-same-length t c = (c .before .before .run-passes .ensures .does .size)
+
+run-over-list-returns-3 : (t : ℕ) → run-over-list-lts.Need-returns-3 (run-over-list-claims t) (run-over-list-at t) run-over-list.Post
+run-over-list-returns-3 t c =
+    let a = (c .before .before .before .before .before .before .before .before .before .before .before .before .before .before .args) in
+    let w = subst (ListsTo (a .table .now) (a .hand .first .0 + a .i .0) (c .before .before .before .before .before .before .before .before .argument-at .result)) (c .before .before .before .before .before .listed .given .1) ((c .before .before .before .before .before .before .before .list-of .ensures) (a .table .now) (a .hand .first .0 + a .i .0)) in
+    blocks-list (levelsAt (a .text .now)) (length (a .text .now)) (viewOf (a .table .now)) (a .hand .first .0) (a .hand .count) (a .level) (a .q) (overListed (levelsAt (a .text .now)) (viewOf (a .table .now)) (handAt (a .hand)) (a .spot .position) (a .q) (a .limit) (a .i .0) (a .spot .left)) (a .spot .left) (a .spot .at) (a .out .now) (a .spot .position) (a .i .0 + 1) _ _ (a .limit)
+    (λ ks. over-list (levelsAt (a .text .now)) (viewOf (a .table .now)) (a .hand .first .0) (a .hand .count) (a .spot .position) (a .q) (a .limit) (a .i .0) (a .spot .left) ks (c .before .before .before .before .before .before .before .before .before .if1 .left) _ _ (sym ((c .before .before .before .before .before .before .before .before .argument-at .ensures .1)) ∙ w .0)) (c .before .before .run-passes .ensures) (omega arith)
+
+abbrev run-passes-Inv-loop : run-passes-lts.InvT-loop
+run-passes-Inv-loop text table level spot q hand out₀ passes₀ next₀ left₀ at₀ known₀ out passes next left at known =
+    Onto (λ i l a b e r. Passes (levelsAt text) (length text) (viewOf table) (handAt hand) level (spot .position) q i passes l a b e r) (Passes (levelsAt text) (length text) (viewOf table) (handAt hand) level (spot .position) q (next₀ .0) passes₀ (spot .left) (spot .at) out₀) (spot .left) (hand .count) out₀ (next .0) left at out
+    × (outer (levelsAt text known) ≡ outer (levelsAt text q)) × (q ≤ known) × (known ≤ length text)
+
+abbrev run-passes-μ-loop : run-passes-lts.MeasureT-loop
+run-passes-μ-loop text table level spot q hand out₀ passes₀ next₀ left₀ at₀ known₀ out passes next left at known =
+    left
+
+-- what the callees of run_passes ask and ensure, below the measure t
+abbrev run-passes-claims : ℕ → run-passes-lts.Claims
+run-passes-claims t = (is-over-reads.Asked, is-over-reads.Learnt, close-from-reads.Asked, close-from-reads.Learnt, refuse-reads.Asked, refuse-reads.Learnt, run-sequence-below t, run-sequence.Post, one-less-reads.Asked, one-less-reads.Learnt)
+
+run-passes-loop-holds : (t : ℕ) → run-passes-lts.Need-loop-holds (run-passes-claims t) (run-passes-at t) run-passes.Post run-passes-Inv-loop run-passes-μ-loop
+run-passes-loop-holds t c = (record { ends = λ e r k. k; size = refl; fits = (c .before .before .before .pre .1 .1 .1 .1); falls = omega arith; inside = (c .before .before .before .pre .1 .1 .0) }, refl, omega arith, (c .before .before .before .pre .1 .1 .1 .0))
+
+run-passes-is-over-requires : (t : ℕ) → run-passes-lts.Need-is-over-requires (run-passes-claims t) (run-passes-at t) run-passes.Post run-passes-Inv-loop run-passes-μ-loop
+run-passes-is-over-requires t c κs = search needs
+
+run-passes-close-from-requires : (t : ℕ) → run-passes-lts.Need-close-from-requires (run-passes-claims t) (run-passes-at t) run-passes.Post run-passes-Inv-loop run-passes-μ-loop
+run-passes-close-from-requires t c κs = (c .before .before .loop .inv .3)
+
+run-passes-same-length : (t : ℕ) → run-passes-lts.Need-same-length (run-passes-claims t) (run-passes-at t) run-passes.Post run-passes-Inv-loop run-passes-μ-loop
+run-passes-same-length t c = (c .before .before .before .loop .inv .0 .size)
+
+run-passes-returns : (t : ℕ) → run-passes-lts.Need-returns (run-passes-claims t) (run-passes-at t) run-passes.Post run-passes-Inv-loop run-passes-μ-loop
+run-passes-returns t c =
+    let a = (c .before .before .before .before .before .before .before .args) in
+    let l = (c .before .before .before .loop) in
+    l .inv .0 .ends _ _ (passes-over (levelsAt (a .text .now)) (length (a .text .now)) (viewOf (a .table .now)) (a .hand .first .0) (a .hand .count) (a .level) (a .spot .position) (a .q) (l .next .0) (l .passes) (l .left) (l .at) (l .out) (sym (c .before .before .is-over .ensures) ∙ (c .before .if1 .taken)) _ (closes-after (a .text .now) (a .q) (l .known) _ (l .inv .1) (l .inv .2) (c .close-from .ensures)) (l .inv .0 .fits) (l .inv .0 .inside))
+
+run-passes-refuse-requires : (t : ℕ) → run-passes-lts.Need-refuse-requires (run-passes-claims t) (run-passes-at t) run-passes.Post run-passes-Inv-loop run-passes-μ-loop
+run-passes-refuse-requires t c κs = search needs
+
+run-passes-same-length-2 : (t : ℕ) → run-passes-lts.Need-same-length-2 (run-passes-claims t) (run-passes-at t) run-passes.Post run-passes-Inv-loop run-passes-μ-loop
+run-passes-same-length-2 t c = (c .before .before .before .before .loop .inv .0 .size)
+
+run-passes-returns-2 : (t : ℕ) → run-passes-lts.Need-returns-2 (run-passes-claims t) (run-passes-at t) run-passes.Post run-passes-Inv-loop run-passes-μ-loop
+run-passes-returns-2 t c =
+    let a = (c .before .before .before .before .before .before .before .before .args) in
+    let l = (c .before .before .before .before .loop) in
+    l .inv .0 .ends _ _ (passes-none-told (levelsAt (a .text .now)) (length (a .text .now)) (viewOf (a .table .now)) (a .hand .first .0) (a .hand .count) (a .level) (a .spot .position) (a .q) (l .next .0) (l .passes) (l .left) (l .at) (l .out) _ _ (c .refuse .ensures) (sym (c .before .before .before .is-over .ensures) ∙ (c .before .before .if1 .left)) (c .before .if2 .taken) (l .inv .0 .fits) (l .inv .0 .inside))
+
+run-passes-sub-run-sequence : (t : ℕ) → run-passes-lts.Need-sub-run-sequence (run-passes-claims t) (run-passes-at t) run-passes.Post run-passes-Inv-loop run-passes-μ-loop
+run-passes-sub-run-sequence t c = search needs
+
+run-passes-run-sequence-requires : (t : ℕ) → run-passes-lts.Need-run-sequence-requires (run-passes-claims t) (run-passes-at t) run-passes.Post run-passes-Inv-loop run-passes-μ-loop
+run-passes-run-sequence-requires t c κs = (omega (arith, (c .before .before .before .before .before .before .before .before .pre .0)), ((c .before .before .before .before .before .before .before .before .pre .1 .0), ((c .before .before .before .before .loop .inv .0 .inside), ((c .before .before .before .before .before .before .before .before .pre .1 .1 .1 .0), (c .before .before .before .before .loop .inv .0 .fits)))))
+
+run-passes-enum-told : (t : ℕ) → run-passes-lts.Need-enum-told (run-passes-claims t) (run-passes-at t) run-passes.Post run-passes-Inv-loop run-passes-μ-loop
+run-passes-enum-told t c = search needs
+
+run-passes-one-less-requires : (t : ℕ) → run-passes-lts.Need-one-less-requires (run-passes-claims t) (run-passes-at t) run-passes.Post run-passes-Inv-loop run-passes-μ-loop
+run-passes-one-less-requires t c κs = search needs
+
+run-passes-loop-less : (t : ℕ) → run-passes-lts.Need-loop-less (run-passes-claims t) (run-passes-at t) run-passes.Post run-passes-Inv-loop run-passes-μ-loop
+run-passes-loop-less t c = let u = (c .before .before .before .before .before .before .run-sequence .ensures) in omega (arith, u .does .falls)
+
+run-passes-loop-again : (t : ℕ) → run-passes-lts.Need-loop-again (run-passes-claims t) (run-passes-at t) run-passes.Post run-passes-Inv-loop run-passes-μ-loop
+run-passes-loop-again t c =
+    let a = (c .before .before .before .before .before .before .before .before .before .before .before .before .before .before .before .args) in
+    let l = (c .before .before .before .before .before .before .before .before .before .before .before .loop) in
+    let u = (c .before .before .before .before .before .before .run-sequence .ensures) in
+    let e = (c .before .enum-told .given .1) in
+    let w = u .ends e in (
+      record {
+        ends = λ e₂ r k. l .inv .0 .ends e₂ r (passes-on-told (levelsAt (a .text .now)) (length (a .text .now)) (viewOf (a .table .now)) (a .hand .first .0) (a .hand .count) (a .level) (a .spot .position) (a .q) (l .next .0) (l .passes) (l .left) (l .at) (l .out) (sym (c .before .before .before .before .before .before .before .before .before .before .is-over .ensures) ∙ (c .before .before .before .before .before .before .before .before .before .if1 .left)) (c .before .before .before .before .before .before .before .before .if2 .left) u e (c .one-less .ensures) k);
+        size = u .does .size ∙ l .inv .0 .size;
+        fits = omega (arith, u .does .most, u .does .size);
+        falls = omega (arith, u .does .falls, l .inv .0 .falls);
+        inside = u .does .inside;
+      },
+      w .around,
+      w .least,
+      w .most,
+    )
+
+run-passes-enum-told-2 : (t : ℕ) → run-passes-lts.Need-enum-told-2 (run-passes-claims t) (run-passes-at t) run-passes.Post run-passes-Inv-loop run-passes-μ-loop
+run-passes-enum-told-2 t c = search needs
+
+run-passes-close-from-requires-2 : (t : ℕ) → run-passes-lts.Need-close-from-requires-2 (run-passes-claims t) (run-passes-at t) run-passes.Post run-passes-Inv-loop run-passes-μ-loop
+run-passes-close-from-requires-2 t c κs = (c .before .before .before .before .before .before .before .before .before .before .loop .inv .3)
+
+run-passes-same-length-3 : (t : ℕ) → run-passes-lts.Need-same-length-3 (run-passes-claims t) (run-passes-at t) run-passes.Post run-passes-Inv-loop run-passes-μ-loop
+run-passes-same-length-3 t c = let u = (c .before .before .before .before .before .before .run-sequence .ensures) in u .does .size ∙ (c .before .before .before .before .before .before .before .before .before .before .before .loop .inv .0 .size)
+
+run-passes-returns-3 : (t : ℕ) → run-passes-lts.Need-returns-3 (run-passes-claims t) (run-passes-at t) run-passes.Post run-passes-Inv-loop run-passes-μ-loop
+run-passes-returns-3 t c =
+    let a = (c .before .before .before .before .before .before .before .before .before .before .before .before .before .before .before .args) in
+    let l = (c .before .before .before .before .before .before .before .before .before .before .before .loop) in
+    l .inv .0 .ends _ _ (passes-left (levelsAt (a .text .now)) (length (a .text .now)) (viewOf (a .table .now)) (a .hand .first .0) (a .hand .count) (a .level) (a .spot .position) (a .q) (l .next .0) (l .passes) (l .left) (l .at) (l .out) (sym (c .before .before .before .before .before .before .before .before .before .before .is-over .ensures) ∙ (c .before .before .before .before .before .before .before .before .before .if1 .left)) (c .before .before .before .before .before .before .before .before .if2 .left) (c .before .before .before .before .before .before .run-sequence .ensures) (c .before .enum-told2 .given .1) _ (closes-after (a .text .now) (a .q) (l .known) _ (l .inv .1) (l .inv .2) (c .close-from2 .ensures)))
+
+run-passes-enum-told-3 : (t : ℕ) → run-passes-lts.Need-enum-told-3 (run-passes-claims t) (run-passes-at t) run-passes.Post run-passes-Inv-loop run-passes-μ-loop
+run-passes-enum-told-3 t c = search needs
+
+run-passes-same-length-4 : (t : ℕ) → run-passes-lts.Need-same-length-4 (run-passes-claims t) (run-passes-at t) run-passes.Post run-passes-Inv-loop run-passes-μ-loop
+run-passes-same-length-4 t c = let u = (c .before .before .before .before .before .run-sequence .ensures) in u .does .size ∙ (c .before .before .before .before .before .before .before .before .before .before .loop .inv .0 .size)
+
+run-passes-returns-4 : (t : ℕ) → run-passes-lts.Need-returns-4 (run-passes-claims t) (run-passes-at t) run-passes.Post run-passes-Inv-loop run-passes-μ-loop
+run-passes-returns-4 t c =
+    let a = (c .before .before .before .before .before .before .before .before .before .before .before .before .before .before .args) in
+    let l = (c .before .before .before .before .before .before .before .before .before .before .loop) in
+    l .inv .0 .ends _ _ (passes-refused (levelsAt (a .text .now)) (length (a .text .now)) (viewOf (a .table .now)) (a .hand .first .0) (a .hand .count) (a .level) (a .spot .position) (a .q) (l .next .0) (l .passes) (l .left) (l .at) (l .out) (sym (c .before .before .before .before .before .before .before .before .before .is-over .ensures) ∙ (c .before .before .before .before .before .before .before .before .if1 .left)) (c .before .before .before .before .before .before .before .if2 .left) (c .before .before .before .before .before .run-sequence .ensures) _ _ (c .enum-told3 .given .1))
+
+abbrev run-sequence-Inv-loop : run-sequence-lts.InvT-loop
+run-sequence-Inv-loop text table level start hand most out₀ from p₀ next₀ left₀ at₀ out p next left at =
+    Onto (Runs (levelsAt text) (length text) (viewOf table) (handAt hand) level p) (Runs (levelsAt text) (length text) (viewOf table) (handAt hand) level start (next₀ .0) most from out₀) most (hand .count) out₀ (next .0) left at out
+    × (p ≤ length text)
+
+abbrev run-sequence-μ-loop : run-sequence-lts.MeasureT-loop
+run-sequence-μ-loop text table level start hand most out₀ from p₀ next₀ left₀ at₀ out p next left at =
+    length text - p
+
+-- what the callees of run_sequence ask and ensure, below the measure t
+abbrev run-sequence-claims : ℕ → run-sequence-lts.Claims
+run-sequence-claims t = (item-at-reads.Asked, item-at-reads.Learnt, ends-here-reads.Asked, ends-here-reads.Learnt, go-on-reads.Asked, go-on-reads.Learnt, run-item-below t, run-item.Post)
+
+run-sequence-loop-holds : (t : ℕ) → run-sequence-lts.Need-loop-holds (run-sequence-claims t) (run-sequence-at t) run-sequence.Post run-sequence-Inv-loop run-sequence-μ-loop
+run-sequence-loop-holds t c = (record { ends = λ e r k. k; size = refl; fits = (c .before .before .before .pre .1 .1 .1 .1); falls = omega arith; inside = (c .before .before .before .pre .1 .1 .0) }, (c .before .before .before .pre .1 .1 .1 .0))
+
+run-sequence-item-at-requires : (t : ℕ) → run-sequence-lts.Need-item-at-requires (run-sequence-claims t) (run-sequence-at t) run-sequence.Post run-sequence-Inv-loop run-sequence-μ-loop
+run-sequence-item-at-requires t c κs = search needs
+
+run-sequence-ends-here-requires : (t : ℕ) → run-sequence-lts.Need-ends-here-requires (run-sequence-claims t) (run-sequence-at t) run-sequence.Post run-sequence-Inv-loop run-sequence-μ-loop
+run-sequence-ends-here-requires t c κs = search needs
+
+run-sequence-go-on-requires : (t : ℕ) → run-sequence-lts.Need-go-on-requires (run-sequence-claims t) (run-sequence-at t) run-sequence.Post run-sequence-Inv-loop run-sequence-μ-loop
+run-sequence-go-on-requires t c κs = search needs
+
+run-sequence-same-length : (t : ℕ) → run-sequence-lts.Need-same-length (run-sequence-claims t) (run-sequence-at t) run-sequence.Post run-sequence-Inv-loop run-sequence-μ-loop
+run-sequence-same-length t c = (c .before .before .before .before .loop .inv .0 .size)
+
+run-sequence-returns : (t : ℕ) → run-sequence-lts.Need-returns (run-sequence-claims t) (run-sequence-at t) run-sequence.Post run-sequence-Inv-loop run-sequence-μ-loop
+run-sequence-returns t c =
+    let a = (c .before .before .before .before .before .before .before .before .args) in
+    let l = (c .before .before .before .before .loop) in
+    l .inv .0 .ends _ _ (sequence-ends (a .text .now) (l .p) (viewOf (a .table .now)) (a .hand .first .0) (a .hand .count) (a .level) (l .next .0) (l .left) (l .at) (l .out) _ (c .before .before .before .item-at .result) (sym (c .before .before .before .item-at .ensures)) (sym (c .before .before .ends-here .ensures) ∙ (c .before .if1 .taken)) (c .go-on .ensures) (l .inv .1) (l .inv .0 .fits) (l .inv .0 .inside))
+
+run-sequence-run-item-requires : (t : ℕ) → run-sequence-lts.Need-run-item-requires (run-sequence-claims t) (run-sequence-at t) run-sequence.Post run-sequence-Inv-loop run-sequence-μ-loop
+run-sequence-run-item-requires t c κs = (omega (arith, (c .before .before .before .before .before .before .before .before .pre .0)), ((c .before .before .before .before .before .before .before .before .pre .1 .0), ((c .before .before .before .before .loop .inv .0 .inside), (sym (c .before .before .before .item-at .ensures), (sym (c .before .before .ends-here .ensures) ∙ (c .before .if1 .left), (c .before .before .before .before .loop .inv .0 .fits))))))
+
+run-sequence-enum-told : (t : ℕ) → run-sequence-lts.Need-enum-told (run-sequence-claims t) (run-sequence-at t) run-sequence.Post run-sequence-Inv-loop run-sequence-μ-loop
+run-sequence-enum-told t c = search needs
+
+run-sequence-loop-less : (t : ℕ) → run-sequence-lts.Need-loop-less (run-sequence-claims t) (run-sequence-at t) run-sequence.Post run-sequence-Inv-loop run-sequence-μ-loop
+run-sequence-loop-less t c = let u = (c .before .before .before .before .before .run-item .ensures) in omega (arith, u .least (c .enum-told .given .1), u .most (c .enum-told .given .1))
+
+run-sequence-loop-again : (t : ℕ) → run-sequence-lts.Need-loop-again (run-sequence-claims t) (run-sequence-at t) run-sequence.Post run-sequence-Inv-loop run-sequence-μ-loop
+run-sequence-loop-again t c =
+    let a = (c .before .before .before .before .before .before .before .before .before .before .before .before .before .before .args) in
+    let l = (c .before .before .before .before .before .before .before .before .before .before .loop) in
+    let u = (c .before .before .before .before .before .run-item .ensures) in
+    let e = (c .enum-told .given .1) in (
+      record {
+        ends = λ e₂ r k. l .inv .0 .ends e₂ r (runs-on (levelsAt (a .text .now)) (length (a .text .now)) (viewOf (a .table .now)) (a .hand .first .0) (a .hand .count) (a .level) (l .p) (l .next .0) (l .left) (l .at) (l .out) u e k);
+        size = u .does .size ∙ l .inv .0 .size;
+        fits = omega (arith, u .does .most, u .does .size);
+        falls = omega (arith, u .does .falls, l .inv .0 .falls);
+        inside = u .does .inside;
+      },
+      u .most e,
+    )
+
+run-sequence-enum-told-2 : (t : ℕ) → run-sequence-lts.Need-enum-told-2 (run-sequence-claims t) (run-sequence-at t) run-sequence.Post run-sequence-Inv-loop run-sequence-μ-loop
+run-sequence-enum-told-2 t c = search needs
+
+run-sequence-same-length-2 : (t : ℕ) → run-sequence-lts.Need-same-length-2 (run-sequence-claims t) (run-sequence-at t) run-sequence.Post run-sequence-Inv-loop run-sequence-μ-loop
+run-sequence-same-length-2 t c = let u = (c .before .before .before .before .before .run-item .ensures) in u .does .size ∙ (c .before .before .before .before .before .before .before .before .before .before .loop .inv .0 .size)
+
+run-sequence-returns-2 : (t : ℕ) → run-sequence-lts.Need-returns-2 (run-sequence-claims t) (run-sequence-at t) run-sequence.Post run-sequence-Inv-loop run-sequence-μ-loop
+run-sequence-returns-2 t c =
+    let a = (c .before .before .before .before .before .before .before .before .before .before .before .before .before .before .args) in
+    let l = (c .before .before .before .before .before .before .before .before .before .before .loop) in
+    l .inv .0 .ends _ _ (runs-left (levelsAt (a .text .now)) (length (a .text .now)) (viewOf (a .table .now)) (a .hand .first .0) (a .hand .count) (a .level) (l .p) (l .next .0) (l .left) (l .at) (l .out) (c .before .before .before .before .before .run-item .ensures) (c .enum-told2 .given .1))
+
+run-sequence-enum-told-3 : (t : ℕ) → run-sequence-lts.Need-enum-told-3 (run-sequence-claims t) (run-sequence-at t) run-sequence.Post run-sequence-Inv-loop run-sequence-μ-loop
+run-sequence-enum-told-3 t c = search needs
+
+run-sequence-same-length-3 : (t : ℕ) → run-sequence-lts.Need-same-length-3 (run-sequence-claims t) (run-sequence-at t) run-sequence.Post run-sequence-Inv-loop run-sequence-μ-loop
+run-sequence-same-length-3 t c = let u = (c .before .before .before .before .before .run-item .ensures) in u .does .size ∙ (c .before .before .before .before .before .before .before .before .before .before .loop .inv .0 .size)
+
+run-sequence-returns-3 : (t : ℕ) → run-sequence-lts.Need-returns-3 (run-sequence-claims t) (run-sequence-at t) run-sequence.Post run-sequence-Inv-loop run-sequence-μ-loop
+run-sequence-returns-3 t c =
+    let a = (c .before .before .before .before .before .before .before .before .before .before .before .before .before .before .args) in
+    let l = (c .before .before .before .before .before .before .before .before .before .before .loop) in
+    l .inv .0 .ends _ _ (runs-refused (levelsAt (a .text .now)) (length (a .text .now)) (viewOf (a .table .now)) (a .hand .first .0) (a .hand .count) (a .level) (l .p) (l .next .0) (l .left) (l .at) (l .out) (c .before .before .before .before .before .run-item .ensures) _ _ (c .enum-told3 .given .1))
+
+pub +run-block+run-clause+run-conditional+run-item+run-iteration+run-over-list+run-passes+run-sequence-spec :
+    {M : Type 1} → statement M
++run-block+run-clause+run-conditional+run-item+run-iteration+run-over-list+run-passes+run-sequence-spec =
+    close
+    μ-run-block
+    μ-run-clause
+    μ-run-conditional
+    μ-run-item
+    μ-run-iteration
+    μ-run-over-list
+    μ-run-passes
+    μ-run-sequence
+    (λ t. run-block-lts.spec (
+      refuse-reads.Asked,
+      refuse-reads.Learnt,
+      is-iteration-reads.Asked,
+      is-iteration-reads.Learnt,
+      run-iteration-below t,
+      run-iteration.Post,
+      run-conditional-below t,
+      run-conditional.Post,
+    )
+    (run-block-at t)
+    run-block.Post
+    (run-block-refuse-requires t)
+    (run-block-returns t)
+    (run-block-refuse-requires-2 t)
+    (run-block-returns-2 t)
+    (run-block-sub-run-conditional t)
+    (run-block-is-iteration-requires t)
+    (run-block-sub-run-iteration t)
+    (run-block-run-iteration-requires t)
+    (run-block-same-length t)
+    (run-block-returns-3 t)
+    (run-block-sub-run-conditional-2 t)
+    (run-block-run-conditional-requires t)
+    (run-block-same-length-2 t)
+    (run-block-returns-4 t))
+    (λ t. run-clause-lts.spec (
+      run-sequence-below t,
+      run-sequence.Post,
+      close-from-reads.Asked,
+      close-from-reads.Learnt,
+    )
+    (run-clause-at t)
+    run-clause.Post
+    (run-clause-run-sequence-requires t)
+    (run-clause-enum-told t)
+    (run-clause-close-from-requires t)
+    (run-clause-enum-told-2 t)
+    (run-clause-enum-told-3 t)
+    (run-clause-same-length t)
+    (run-clause-returns t)
+    (run-clause-same-length-2 t)
+    (run-clause-returns-2 t)
+    (run-clause-same-length-3 t)
+    (run-clause-returns-3 t))
+    (λ t. run-conditional-lts.spec (
+      is-well-written-reads.Asked,
+      is-well-written-reads.Learnt,
+      refuse-reads.Asked,
+      refuse-reads.Learnt,
+      settle-directive-reads.Asked,
+      settle-directive-reads.Learnt,
+      choose-clause-reads.Asked,
+      choose-clause-reads.Learnt,
+      run-clause-below t,
+      run-clause.Post,
+      end-block-reads.Asked,
+      end-block-reads.Learnt,
+    )
+    (run-conditional-at t)
+    run-conditional.Post
+    (run-conditional-is-well-written-requires t)
+    (run-conditional-refuse-requires t)
+    (run-conditional-returns t)
+    (run-conditional-settle-directive-requires t)
+    (run-conditional-enum-known-settled t)
+    (run-conditional-refuse-requires-2 t)
+    (run-conditional-enum-known-settled-2 t)
+    (run-conditional-choose-clause-requires t)
+    (run-conditional-enum-known-chosen t)
+    (run-conditional-run-clause-requires t)
+    (run-conditional-enum-known-chosen-2 t)
+    (run-conditional-end-block-requires t)
+    (run-conditional-enum-known-chosen-3 t)
+    (run-conditional-refuse-requires-3 t)
+    (run-conditional-returns-2 t)
+    (run-conditional-same-length t)
+    (run-conditional-returns-3 t)
+    (run-conditional-returns-4 t)
+    (run-conditional-returns-5 t))
+    (λ t. run-item-lts.spec (
+      put-literal-reads.Asked,
+      put-literal-reads.Learnt,
+      opens-block-reads.Asked,
+      opens-block-reads.Learnt,
+      run-block-below t,
+      run-block.Post,
+      act-reads.Asked,
+      act-reads.Learnt,
+      refuse-reads.Asked,
+      refuse-reads.Learnt,
+    )
+    (run-item-at t)
+    run-item.Post
+    (run-item-enum-known-item t)
+    (run-item-put-literal-requires t)
+    (run-item-enum-known-item-2 t)
+    (run-item-opens-block-requires t)
+    (run-item-run-block-requires t)
+    (run-item-same-length t)
+    (run-item-returns t)
+    (run-item-act-requires t)
+    (run-item-refuse-requires t)
+    (run-item-same-length-2 t)
+    (run-item-returns-2 t)
+    (run-item-same-length-3 t)
+    (run-item-returns-3 t)
+    (run-item-returns-4 t))
+    (λ t. run-iteration-lts.spec (
+      is-well-written-reads.Asked,
+      is-well-written-reads.Learnt,
+      refuse-reads.Asked,
+      refuse-reads.Learnt,
+      settle-directive-reads.Asked,
+      settle-directive-reads.Learnt,
+      run-passes-below t,
+      run-passes.Post,
+      run-over-list-below t,
+      run-over-list.Post,
+    )
+    (run-iteration-at t)
+    run-iteration.Post
+    (run-iteration-is-well-written-requires t)
+    (run-iteration-refuse-requires t)
+    (run-iteration-returns t)
+    (run-iteration-settle-directive-requires t)
+    (run-iteration-enum-known-settled t)
+    (run-iteration-refuse-requires-2 t)
+    (run-iteration-enum-known-settled-2 t)
+    (run-iteration-run-passes-requires t)
+    (run-iteration-same-length t)
+    (run-iteration-returns-2 t)
+    (run-iteration-run-over-list-requires t)
+    (run-iteration-returns-3 t)
+    (run-iteration-same-length-2 t)
+    (run-iteration-returns-4 t))
+    (λ t. run-over-list-lts.spec (
+      refuse-reads.Asked,
+      refuse-reads.Learnt,
+      argument-at-reads.Asked,
+      argument-at-reads.Learnt,
+      list-of-reads.Asked,
+      list-of-reads.Learnt,
+      run-passes-below t,
+      run-passes.Post,
+    )
+    (run-over-list-at t)
+    run-over-list.Post
+    (run-over-list-refuse-requires t)
+    (run-over-list-returns t)
+    (run-over-list-argument-at-requires t)
+    (run-over-list-list-of-requires t)
+    (run-over-list-enum-told t)
+    (run-over-list-refuse-requires-2 t)
+    (run-over-list-enum-known-listed t)
+    (run-over-list-run-passes-requires t)
+    (run-over-list-add-t21 t)
+    (run-over-list-returns-2 t)
+    (run-over-list-same-length t)
+    (run-over-list-returns-3 t))
+    (λ t. run-passes-lts.spec (
+      is-over-reads.Asked,
+      is-over-reads.Learnt,
+      close-from-reads.Asked,
+      close-from-reads.Learnt,
+      refuse-reads.Asked,
+      refuse-reads.Learnt,
+      run-sequence-below t,
+      run-sequence.Post,
+      one-less-reads.Asked,
+      one-less-reads.Learnt,
+    )
+    (run-passes-at t)
+    run-passes.Post
+    run-passes-Inv-loop
+    run-passes-μ-loop
+    (run-passes-loop-holds t)
+    (run-passes-is-over-requires t)
+    (run-passes-close-from-requires t)
+    (run-passes-same-length t)
+    (run-passes-returns t)
+    (run-passes-refuse-requires t)
+    (run-passes-same-length-2 t)
+    (run-passes-returns-2 t)
+    (run-passes-sub-run-sequence t)
+    (run-passes-run-sequence-requires t)
+    (run-passes-enum-told t)
+    (run-passes-one-less-requires t)
+    (run-passes-loop-less t)
+    (run-passes-loop-again t)
+    (run-passes-enum-told-2 t)
+    (run-passes-close-from-requires-2 t)
+    (run-passes-same-length-3 t)
+    (run-passes-returns-3 t)
+    (run-passes-enum-told-3 t)
+    (run-passes-same-length-4 t)
+    (run-passes-returns-4 t))
+    λ t. run-sequence-lts.spec (
+      item-at-reads.Asked,
+      item-at-reads.Learnt,
+      ends-here-reads.Asked,
+      ends-here-reads.Learnt,
+      go-on-reads.Asked,
+      go-on-reads.Learnt,
+      run-item-below t,
+      run-item.Post,
+    )
+    (run-sequence-at t)
+    run-sequence.Post
+    run-sequence-Inv-loop
+    run-sequence-μ-loop
+    (run-sequence-loop-holds t)
+    (run-sequence-item-at-requires t)
+    (run-sequence-ends-here-requires t)
+    (run-sequence-go-on-requires t)
+    (run-sequence-same-length t)
+    (run-sequence-returns t)
+    (run-sequence-run-item-requires t)
+    (run-sequence-enum-told t)
+    (run-sequence-loop-less t)
+    (run-sequence-loop-again t)
+    (run-sequence-enum-told-2 t)
+    (run-sequence-same-length-2 t)
+    (run-sequence-returns-2 t)
+    (run-sequence-enum-told-3 t)
+    (run-sequence-same-length-3 t)
+    (run-sequence-returns-3 t)

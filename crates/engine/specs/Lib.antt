@@ -1,0 +1,5 @@
+pub mod Acting
+pub mod Clauses
+pub mod Ran
+pub mod Running
+pub mod Whole

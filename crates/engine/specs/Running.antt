@@ -1,0 +1,94 @@
+-- What the smaller parts of the runners answer. Assumes nothing: these are definitions.
+use Prim.Native.Nat.{ℕ, _+_, _≤_, _<_}
+use mathlib.Core.Path.{_≡_}
+use mathlib.Core.Bool.{Bool, true, false, cond}
+use mathlib.Core.List.{List}
+use lib.Dec.{leb}
+use Rattle.rules.specs.Table.{Value, boolean, integer, character, string, list, meant, entryCount, Holds}
+use Rattle.rules.specs.declared.Argument.{Argument}
+use Rattle.rules.specs.declared.Code.{Code}
+use Rattle.rules.specs.declared.Code.the-variants.{Writes, Jump, Escape, Conditional, Separator, EndConditional, Iteration, EndIteration, Unknown}
+use Rattle.rules.specs.declared.Item.{Item}
+use Rattle.rules.specs.declared.Item.the-variants.{End, Literal, Written, BadNumber, Unfinished}
+use Rattle.working.specs.declared.Hand.{Hand}
+use Rattle.engine.specs.declared.items.Listed.{Listed}
+use Rattle.engine.specs.declared.items.Listed.the-variants.{Is, Not}
+use Rattle.engine.specs.declared.state.Ran.{Ran}
+use Rattle.engine.specs.declared.state.Spot.{Spot}
+use Rattle.engine.specs.declared.state.Stop.the-variants.{Left}
+use Rattle.engine.specs.Acting.{FormRight}
+use Rattle.engine.specs.Ran.{endedRan}
+
+-- whether a code, or an item, ends the sequence in which it stands
+abbrev pub endsSequence : Code → Bool
+endsSequence (Writes f) = false
+endsSequence Jump = false
+endsSequence Escape = false
+endsSequence Conditional = false
+endsSequence Separator = true
+endsSequence EndConditional = true
+endsSequence Iteration = false
+endsSequence EndIteration = true
+endsSequence Unknown = true
+
+abbrev pub endsAt : Item → Bool
+endsAt End = true
+endsAt (Literal b) = false
+endsAt (Written d) = endsSequence (d .code)
+endsAt BadNumber = true
+endsAt Unfinished = true
+
+-- a directive that neither opens a block nor ends a sequence
+abbrev pub ActsAlone : Code → Type 0
+ActsAlone (Writes f) = FormRight f
+ActsAlone Jump = Unit {0}
+ActsAlone Escape = Unit {0}
+ActsAlone Conditional = ⊥
+ActsAlone Separator = ⊥
+ActsAlone EndConditional = ⊥
+ActsAlone Iteration = ⊥
+ActsAlone EndIteration = ⊥
+ActsAlone Unknown = ⊥
+
+-- what an escape answers: it leaves its sequence where no argument remains, and else goes on
+abbrev pub leftRan : ℕ → ℕ → ℕ → ℕ → Ran
+leftRan i left at place = record { stop = Left; next = record { 0 = i }; left = left; at = at; place = place }
+
+abbrev pub escaped : Spot → ℕ → ℕ → Ran
+escaped spot count i =
+    cond (leb count i) (leftRan i (spot .left) (spot .at) (spot .place)) (endedRan i (spot .left) (spot .at) (spot .place))
+
+abbrev pub isListValue : Value → Bool
+isListValue (boolean b) = false
+isListValue (integer z) = false
+isListValue (character c) = false
+isListValue (string s) = false
+isListValue (list first count) = true
+
+-- the entries of a list, which lie in the table where the list was read from entry i of it
+abbrev pub ListsTo : List ℕ → ℕ → Argument → Listed → Type 0
+ListsTo t i x (Is h) = (meant t x ≡ list (h .first .0) (h .count)) × (Holds t i x → h .first .0 + h .count ≤ entryCount t)
+ListsTo t i x Not = isListValue (meant t x) ≡ false
+
+-- which codes open a block, and which of them an iteration
+abbrev pub opensBlock : Code → Bool
+opensBlock (Writes f) = false
+opensBlock Jump = false
+opensBlock Escape = false
+opensBlock Conditional = true
+opensBlock Separator = false
+opensBlock EndConditional = false
+opensBlock Iteration = true
+opensBlock EndIteration = false
+opensBlock Unknown = false
+
+abbrev pub iterates : Code → Bool
+iterates (Writes f) = false
+iterates Jump = false
+iterates Escape = false
+iterates Conditional = false
+iterates Separator = false
+iterates EndConditional = false
+iterates Iteration = true
+iterates EndIteration = false
+iterates Unknown = false

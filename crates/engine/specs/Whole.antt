@@ -1,0 +1,20 @@
+-- The outcome of a whole call, by how its run stopped. Assumes nothing: these are definitions.
+use Prim.Native.Nat.{ℕ, _-_}
+use Rattle.rules.specs.Answer.{limit}
+use Rattle.engine.specs.declared.formatting.Outcome.{Outcome}
+use Rattle.engine.specs.declared.state.Ran.{Ran}
+use Rattle.engine.specs.declared.state.Stop.{Stop}
+use Rattle.engine.specs.declared.state.Stop.the-variants.{Ended, Left, Refused}
+
+abbrev pub codeOf : Stop → ℕ
+codeOf Ended = 0
+codeOf Left = 0
+codeOf (Refused code p) = code
+
+abbrev pub positionOf : Stop → ℕ
+positionOf Ended = 0
+positionOf Left = 0
+positionOf (Refused code p) = p
+
+abbrev pub outcomeOf : Ran → Outcome
+outcomeOf r = record { code = codeOf (r .stop); position = positionOf (r .stop); steps = limit - r .left; written = r .at }

@@ -1,0 +1,112 @@
+// A whole call of format: the table is checked, then the text, and then the text is run.
+use crate::runners::run_sequence;
+use crate::state::Ran;
+use crate::state::Stop;
+use reader::text::check_text;
+use rules::ArgumentPosition;
+use rules::EntryIndex;
+use rules::Verdict;
+use table::argument_count;
+use table::check_table;
+use working::Hand;
+ghost use mathlib.Core.Path.{_≡_};
+ghost use Prim.Native.Nat.{_≤_};
+ghost use Rattle.rules.specs.Answer.{Answers};
+ghost use Rattle.rules.specs.Table.{tableVerdict};
+ghost use Rattle.rules.specs.Text.{textVerdict};
+ghost use Rattle.rules.specs.declared.Verdict.the-variants.{Accepted};
+ghost use Rattle.engine.specs.Whole.{outcomeOf};
+
+// How many steps a call does at most.
+const MOST_STEPS: usize = 65536;
+
+// How deep blocks nest at most.
+const DEEPEST: usize = 8;
+
+// The answer of a call beside the text: 01's code, the position, the steps done and the bytes written.
+pub struct Outcome {
+    pub code: u32,
+    pub position: usize,
+    pub steps: usize,
+    pub written: usize,
+}
+
+fn outcome_of(r: Ran) -> Outcome
+    requires { ⌜ r .left ≤ 65536 ⌝ }
+    ensures { λ o. ⌜ o ≡ outcomeOf r ⌝ }
+{
+    let stop = r.stop;
+    let steps = MOST_STEPS - r.left;
+    let written = r.at;
+    match stop {
+        Stop::Ended => Outcome {
+            code: 0,
+            position: 0,
+            steps,
+            written,
+        },
+        Stop::Left => Outcome {
+            code: 0,
+            position: 0,
+            steps,
+            written,
+        },
+        Stop::Refused { code, position } => Outcome {
+            code,
+            position,
+            steps,
+            written,
+        },
+    }
+}
+
+// The run of a text over a table, both of which are accepted.
+fn run_text(format: &[u8], table: &[u8], out: &mut [u8]) -> Outcome
+    requires { ⌜ tableVerdict (now table) ≡ Accepted ⌝ }
+    requires { ⌜ textVerdict (now format) ≡ Accepted ⌝ }
+    ensures { λ r. ⌜ Answers (now (format .entry)) (now (table .entry)) (now (out .entry)) (now (out .exit)) (r .code) (r .position) (r .steps) (r .written) ⌝ }
+{
+    let hand = Hand {
+        first: EntryIndex(0),
+        count: argument_count(table),
+    };
+    let r = run_sequence(
+        format,
+        table,
+        DEEPEST,
+        0,
+        hand,
+        ArgumentPosition(0),
+        MOST_STEPS,
+        out,
+        0,
+    );
+    outcome_of(r)
+}
+
+// Any bytes as format and as table, any buffer: the text at the start of the buffer, or a refusal.
+pub fn format_text(format: &[u8], table: &[u8], out: &mut [u8]) -> Outcome
+    ensures { λ r. ⌜ Answers (now (format .entry)) (now (table .entry)) (now (out .entry)) (now (out .exit)) (r .code) (r .position) (r .steps) (r .written) ⌝ }
+{
+    let tables = check_table(table);
+    match tables {
+        Verdict::Refused { code, position } => Outcome {
+            code,
+            position,
+            steps: 0,
+            written: 0,
+        },
+        Verdict::Accepted => {
+            let texts = check_text(format);
+            match texts {
+                Verdict::Refused { code, position } => Outcome {
+                    code,
+                    position,
+                    steps: 0,
+                    written: 0,
+                },
+                Verdict::Accepted => run_text(format, table, out),
+            }
+        }
+    }
+}

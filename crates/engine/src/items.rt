@@ -1,0 +1,273 @@
+// The parts of a run that open no block: a literal byte, a directive that acts alone, the ends of sequences and passes.
+use crate::acting::act_form;
+use crate::acting::act_jump;
+use crate::state::Ran;
+use crate::state::Spot;
+use crate::state::Stop;
+use crate::state::go_on;
+use crate::state::refuse;
+use reader::directive::item_at;
+use reader::places::is_well_written;
+use reader::text::ClauseEnd;
+use reader::text::after_block;
+use reader::text::next_clause;
+use rules::Argument;
+use rules::ArgumentPosition;
+use rules::Code;
+use rules::Directive;
+use rules::EntryIndex;
+use rules::Item;
+use rules::Setting;
+use rules::Settings;
+use working::Hand;
+use working::SettledOut;
+use working::argument_at;
+use working::settle_directive;
+ghost use mathlib.Core.Path.{_≡_};
+ghost use mathlib.Core.Bool.{false};
+ghost use mathlib.Core.List.{List, _∷_};
+ghost use Prim.Native.Nat.{ℕ, _≤_, _<_};
+ghost use lib.ListN.{length};
+ghost use Rattle.rules.specs.Directive.{either, itemAt};
+ghost use Rattle.rules.specs.Table.{View, meant, viewOf};
+ghost use Rattle.rules.specs.Text.{innermost, outer, levelsAt};
+ghost use Rattle.rules.specs.Working.{noneRemain};
+ghost use Rattle.rules.specs.Run.{Flow, Frame, conditional, usedUp, oneLess, overList, run};
+ghost use Rattle.rules.specs.declared.Item.the-variants.{Literal, Written};
+ghost use Rattle.working.specs.Settling.{InHand, handAt};
+ghost use Rattle.reader.specs.Ends.{AfterBlock};
+ghost use Rattle.engine.specs.Ran.{Runs, Steps, Blocks, Passes, choosing, iterating, restAt};
+ghost use Rattle.engine.specs.Running.{endsSequence, endsAt, opensBlock, iterates, escaped, ActsAlone, ListsTo};
+
+// Whether a code ends the sequence in which it stands.
+fn is_end(code: Code) -> bool
+    ensures { λ r. ⌜ r ≡ endsSequence code ⌝ }
+{
+    match code {
+        Code::Writes(_) => false,
+        Code::Jump => false,
+        Code::Escape => false,
+        Code::Conditional => false,
+        Code::Separator => true,
+        Code::EndConditional => true,
+        Code::Iteration => false,
+        Code::EndIteration => true,
+        Code::Unknown => true,
+    }
+}
+
+pub fn ends_here(item: Item) -> bool
+    ensures { λ r. ⌜ r ≡ endsAt item ⌝ }
+{
+    match item {
+        Item::End => true,
+        Item::Literal(_) => false,
+        Item::Written(d) => {
+            let code = d.code;
+            is_end(code)
+        }
+        Item::BadNumber => true,
+        Item::Unfinished => true,
+    }
+}
+
+// From a place inside a block where one of its sequences stands or ended, the place after the block.
+pub fn close_from(text: &[u8], place: usize) -> usize
+    requires { ⌜ place ≤ length (now text) ⌝ }
+    ensures { λ r. ⌜ AfterBlock (now (text .entry)) place r ⌝ }
+{
+    let end = next_clause(text, place);
+    match end {
+        ClauseEnd::Last { at: _, next } => next,
+        ClauseEnd::Another {
+            at: _,
+            colon: _,
+            next,
+        } => after_block(text, next),
+    }
+}
+
+fn used_up(passes: Setting) -> bool
+    ensures { λ r. ⌜ r ≡ usedUp passes ⌝ }
+{
+    match passes {
+        Setting::Absent => false,
+        Setting::Is(n) => n == 0,
+    }
+}
+
+pub fn one_less(passes: Setting) -> Setting
+    ensures { λ r. ⌜ r ≡ oneLess passes ⌝ }
+{
+    match passes {
+        Setting::Absent => Setting::Absent,
+        Setting::Is(n) => {
+            if n == 0 {
+                return Setting::Is(0);
+            }
+            Setting::Is(n - 1)
+        }
+    }
+}
+
+// Whether an iteration ends before its next pass.
+pub fn is_over(passes: Setting, next: ArgumentPosition, hand: Hand) -> bool
+    ensures { λ r. ⌜ r ≡ either (noneRemain (handAt hand (next .0))) (usedUp passes) ⌝ }
+{
+    if hand.count <= next.0 {
+        return true;
+    }
+    used_up(passes)
+}
+
+// The entries of a list as the arguments in hand.
+pub enum Listed {
+    Is(Hand),
+    Not,
+}
+
+pub fn list_of(argument: Argument) -> Listed
+    ensures { λ r. ⌜ ((t : List ℕ) (i : ℕ) → ListsTo t i argument r) ⌝ }
+{
+    match argument {
+        Argument::Boolean(_) => Listed::Not,
+        Argument::Integer(_) => Listed::Not,
+        Argument::Character(_) => Listed::Not,
+        Argument::Text { start: _, end: _ } => Listed::Not,
+        Argument::Entries { first, count } => Listed::Is(Hand { first, count }),
+    }
+}
+
+// A literal byte.
+pub fn put_literal(
+    p: usize,
+    byte: u8,
+    hand: Hand,
+    next: ArgumentPosition,
+    left: usize,
+    out: &mut [u8],
+    at: usize,
+) -> Ran
+    requires { ⌜ next .0 ≤ hand .count ⌝ }
+    requires { ⌜ at ≤ length (now out) ⌝ }
+    requires { ⌜ p < 18446744073709551615 ⌝ }
+    ensures { λ r. ⌜ ((t : List ℕ) (v : View) (level : ℕ) → itemAt t p ≡ Literal byte → Steps (levelsAt t) (length t) v (handAt hand) level p (next .0) left at (now (out .entry)) (now (out .exit)) r) ⌝ }
+{
+    let place = p + 1;
+    if left == 0 {
+        return refuse(
+            Spot {
+                position: p,
+                place,
+                left,
+                at,
+            },
+            9,
+            next,
+        );
+    }
+    let spot = Spot {
+        position: p,
+        place,
+        left: left - 1,
+        at,
+    };
+    if out.len() <= at {
+        return refuse(spot, 10, next);
+    }
+    out[at] = byte;
+    go_on(spot, next, at + 1)
+}
+
+// An escape that is begun.
+fn escape(spot: Spot, hand: Hand, next: ArgumentPosition) -> Ran
+    ensures { λ r. ⌜ r ≡ escaped spot (hand .count) (next .0) ⌝ }
+{
+    if hand.count <= next.0 {
+        return Ran {
+            stop: Stop::Left,
+            next,
+            left: spot.left,
+            at: spot.at,
+            place: spot.place,
+        };
+    }
+    go_on(spot, next, spot.at)
+}
+
+// A directive that opens no block and ends no sequence.
+pub fn act(
+    p: usize,
+    d: Directive,
+    table: &[u8],
+    hand: Hand,
+    next: ArgumentPosition,
+    left: usize,
+    out: &mut [u8],
+    at: usize,
+) -> Ran
+    requires { ⌜ ActsAlone (d .code) ⌝ }
+    requires { ⌜ InHand (now table) hand ⌝ }
+    requires { ⌜ next .0 ≤ hand .count ⌝ }
+    requires { ⌜ at ≤ length (now out) ⌝ }
+    ensures { λ r. ⌜ ((t : List ℕ) (level : ℕ) → itemAt t p ≡ Written d → Steps (levelsAt t) (length t) (viewOf (now (table .entry))) (handAt hand) level p (next .0) left at (now (out .entry)) (now (out .exit)) r) ⌝ }
+{
+    let code = d.code;
+    let place = d.next;
+    if left == 0 {
+        return refuse(
+            Spot {
+                position: p,
+                place,
+                left,
+                at,
+            },
+            9,
+            next,
+        );
+    }
+    let spot = Spot {
+        position: p,
+        place,
+        left: left - 1,
+        at,
+    };
+    match code {
+        Code::Writes(form) => act_form(spot, form, d, table, hand, next, out),
+        Code::Jump => act_jump(spot, d, table, hand, next),
+        _ => escape(spot, hand, next),
+    }
+}
+
+// Whether a directive opens a block.
+pub fn opens_block(code: Code) -> bool
+    ensures { λ r. ⌜ r ≡ opensBlock code ⌝ }
+{
+    match code {
+        Code::Writes(_) => false,
+        Code::Jump => false,
+        Code::Escape => false,
+        Code::Conditional => true,
+        Code::Separator => false,
+        Code::EndConditional => false,
+        Code::Iteration => true,
+        Code::EndIteration => false,
+        Code::Unknown => false,
+    }
+}
+
+pub fn is_iteration(code: Code) -> bool
+    ensures { λ r. ⌜ r ≡ iterates code ⌝ }
+{
+    match code {
+        Code::Writes(_) => false,
+        Code::Jump => false,
+        Code::Escape => false,
+        Code::Conditional => false,
+        Code::Separator => false,
+        Code::EndConditional => false,
+        Code::Iteration => true,
+        Code::EndIteration => false,
+        Code::Unknown => false,
+    }
+}

@@ -1,0 +1,440 @@
+// The runners. The runner of a sequence calls the runners of blocks and is called by them: the levels left for blocks
+// fall at each block, and the text or the steps that are left fall in each turn of a loop.
+use crate::clauses::Chosen;
+use crate::clauses::choose_clause;
+use crate::items::Listed;
+use crate::items::act;
+use crate::items::close_from;
+use crate::items::ends_here;
+use crate::items::is_iteration;
+use crate::items::is_over;
+use crate::items::list_of;
+use crate::items::one_less;
+use crate::items::opens_block;
+use crate::items::put_literal;
+use crate::state::Ran;
+use crate::state::Spot;
+use crate::state::Stop;
+use crate::state::go_on;
+use crate::state::refuse;
+use reader::directive::item_at;
+use reader::places::is_well_written;
+use reader::text::after_block;
+use rules::ArgumentPosition;
+use rules::Directive;
+use rules::Item;
+use rules::Setting;
+use working::Hand;
+use working::SettledOut;
+use working::argument_at;
+use working::settle_directive;
+ghost use mathlib.Core.Path.{_≡_};
+ghost use mathlib.Core.Bool.{true, false};
+ghost use Prim.Native.Nat.{_≤_};
+ghost use lib.ListN.{length};
+ghost use Rattle.rules.specs.Directive.{itemAt};
+ghost use Rattle.rules.specs.Table.{viewOf};
+ghost use Rattle.rules.specs.Text.{levelsAt};
+ghost use Rattle.rules.specs.declared.Item.the-variants.{Written};
+ghost use Rattle.working.specs.Settling.{InHand, handAt};
+ghost use Rattle.engine.specs.Ran.{Runs, Steps, Blocks, Passes, RunsClause, EndsBlock, choosing, iterating, overListed};
+ghost use Rattle.engine.specs.Running.{endsAt, opensBlock};
+
+// The sequence that is read at start, with level levels left for blocks.
+pub fn run_sequence(
+    text: &[u8],
+    table: &[u8],
+    level: usize,
+    start: usize,
+    hand: Hand,
+    first: ArgumentPosition,
+    most: usize,
+    out: &mut [u8],
+    from: usize,
+) -> Ran
+    requires { ⌜ InHand (now table) hand ⌝ }
+    requires { ⌜ first .0 ≤ hand .count ⌝ }
+    requires { ⌜ start ≤ length (now text) ⌝ }
+    requires { ⌜ from ≤ length (now out) ⌝ }
+    ensures { λ r. ⌜ Runs (levelsAt (now (text .entry))) (length (now (text .entry))) (viewOf (now (table .entry))) (handAt hand) level start (first .0) most from (now (out .entry)) (now (out .exit)) r ⌝ }
+{
+    let mut p = start;
+    let mut next = first;
+    let mut left = most;
+    let mut at = from;
+    loop {
+        let item = item_at(text, p);
+        if ends_here(item) {
+            return go_on(
+                Spot {
+                    position: p,
+                    place: p,
+                    left,
+                    at,
+                },
+                next,
+                at,
+            );
+        }
+        let r = run_item(text, table, level, p, item, hand, next, left, out, at);
+        let stop = r.stop;
+        let after = r.next;
+        match stop {
+            Stop::Ended => {
+                next = after;
+                left = r.left;
+                at = r.at;
+                p = r.place;
+            }
+            Stop::Left => {
+                return r;
+            }
+            Stop::Refused {
+                code: _,
+                position: _,
+            } => {
+                return r;
+            }
+        }
+    }
+}
+
+// The item at p, which does not end its sequence.
+fn run_item(
+    text: &[u8],
+    table: &[u8],
+    level: usize,
+    p: usize,
+    item: Item,
+    hand: Hand,
+    next: ArgumentPosition,
+    left: usize,
+    out: &mut [u8],
+    at: usize,
+) -> Ran
+    requires { ⌜ InHand (now table) hand ⌝ }
+    requires { ⌜ next .0 ≤ hand .count ⌝ }
+    requires { ⌜ itemAt (now text) p ≡ item ⌝ }
+    requires { ⌜ endsAt item ≡ false ⌝ }
+    requires { ⌜ at ≤ length (now out) ⌝ }
+    ensures { λ r. ⌜ Steps (levelsAt (now (text .entry))) (length (now (text .entry))) (viewOf (now (table .entry))) (handAt hand) level p (next .0) left at (now (out .entry)) (now (out .exit)) r ⌝ }
+{
+    match item {
+        Item::Literal(byte) => put_literal(p, byte, hand, next, left, out, at),
+        Item::Written(d) => {
+            let code = d.code;
+            if opens_block(code) {
+                return run_block(text, table, level, p, d, hand, next, left, out, at);
+            }
+            act(p, d, table, hand, next, left, out, at)
+        }
+        _ => refuse(
+            Spot {
+                position: p,
+                place: p,
+                left,
+                at,
+            },
+            4,
+            next,
+        ),
+    }
+}
+
+// The block that d opens at p.
+fn run_block(
+    text: &[u8],
+    table: &[u8],
+    level: usize,
+    p: usize,
+    d: Directive,
+    hand: Hand,
+    next: ArgumentPosition,
+    left: usize,
+    out: &mut [u8],
+    at: usize,
+) -> Ran
+    requires { ⌜ InHand (now table) hand ⌝ }
+    requires { ⌜ next .0 ≤ hand .count ⌝ }
+    requires { ⌜ itemAt (now text) p ≡ Written d ⌝ }
+    requires { ⌜ opensBlock (d .code) ≡ true ⌝ }
+    requires { ⌜ at ≤ length (now out) ⌝ }
+    ensures { λ r. ⌜ Steps (levelsAt (now (text .entry))) (length (now (text .entry))) (viewOf (now (table .entry))) (handAt hand) level p (next .0) left at (now (out .entry)) (now (out .exit)) r ⌝ }
+{
+    let code = d.code;
+    let place = d.next;
+    let spot = Spot {
+        position: p,
+        place,
+        left,
+        at,
+    };
+    if level == 0 {
+        return refuse(spot, 4, next);
+    }
+    if left == 0 {
+        return refuse(spot, 9, next);
+    }
+    let begun = Spot {
+        position: p,
+        place,
+        left: left - 1,
+        at,
+    };
+    if is_iteration(code) {
+        return run_iteration(text, table, level - 1, begun, d, hand, next, out);
+    }
+    run_conditional(text, table, level - 1, begun, d, hand, next, out)
+}
+
+// The conditional d, once it is begun.
+fn run_conditional(
+    text: &[u8],
+    table: &[u8],
+    level: usize,
+    spot: Spot,
+    d: Directive,
+    hand: Hand,
+    next: ArgumentPosition,
+    out: &mut [u8],
+) -> Ran
+    requires { ⌜ InHand (now table) hand ⌝ }
+    requires { ⌜ next .0 ≤ hand .count ⌝ }
+    requires { ⌜ d .next ≤ length (now text) ⌝ }
+    requires { ⌜ spot .at ≤ length (now out) ⌝ }
+    ensures { λ r. ⌜ Blocks (levelsAt (now (text .entry))) (length (now (text .entry))) (viewOf (now (table .entry))) (handAt hand) level (d .next) (choosing (levelsAt (now (text .entry))) (viewOf (now (table .entry))) (handAt hand) (spot .position) d (d .next) (next .0) (spot .left)) (spot .left) (spot .at) (now (out .entry)) (now (out .exit)) r ⌝ }
+{
+    if !is_well_written(d) {
+        return refuse(spot, 5, next);
+    }
+    let settled = settle_directive(table, hand, d, next);
+    match settled {
+        SettledOut::Wrong(code) => refuse(spot, code, next),
+        SettledOut::Is { settings, next: i } => {
+            let chosen = choose_clause(text, table, hand, d, settings, i);
+            match chosen {
+                Chosen::At { place, next: j } => run_clause(
+                    text,
+                    table,
+                    level,
+                    spot,
+                    place,
+                    hand,
+                    j,
+                    out,
+                ),
+                Chosen::Nothing { next: j } => end_block(text, spot, d.next, j),
+                Chosen::Wrong(code) => refuse(spot, code, next),
+            }
+        }
+    }
+}
+
+// On after the block whose inside is at q, with nothing written.
+fn end_block(text: &[u8], spot: Spot, q: usize, next: ArgumentPosition) -> Ran
+    requires { ⌜ q ≤ length (now text) ⌝ }
+    ensures { λ r. ⌜ EndsBlock (levelsAt (now (text .entry))) (length (now (text .entry))) spot q (next .0) r ⌝ }
+{
+    let place = after_block(text, q);
+    Ran {
+        stop: Stop::Ended,
+        next,
+        left: spot.left,
+        at: spot.at,
+        place,
+    }
+}
+
+// The clause at z, with next as the next argument.
+fn run_clause(
+    text: &[u8],
+    table: &[u8],
+    level: usize,
+    spot: Spot,
+    z: usize,
+    hand: Hand,
+    next: ArgumentPosition,
+    out: &mut [u8],
+) -> Ran
+    requires { ⌜ InHand (now table) hand ⌝ }
+    requires { ⌜ next .0 ≤ hand .count ⌝ }
+    requires { ⌜ z ≤ length (now text) ⌝ }
+    requires { ⌜ spot .at ≤ length (now out) ⌝ }
+    ensures { λ r. ⌜ RunsClause (levelsAt (now (text .entry))) (length (now (text .entry))) (viewOf (now (table .entry))) (handAt hand) level z (next .0) (spot .left) (spot .at) (now (out .entry)) (now (out .exit)) r ⌝ }
+{
+    let r = run_sequence(text, table, level, z, hand, next, spot.left, out, spot.at);
+    let stop = r.stop;
+    let after = r.next;
+    match stop {
+        Stop::Ended => Ran {
+            stop: Stop::Ended,
+            next: after,
+            left: r.left,
+            at: r.at,
+            place: close_from(text, r.place),
+        },
+        Stop::Left => r,
+        Stop::Refused {
+            code: _,
+            position: _,
+        } => r,
+    }
+}
+
+// The iteration d, once it is begun.
+fn run_iteration(
+    text: &[u8],
+    table: &[u8],
+    level: usize,
+    spot: Spot,
+    d: Directive,
+    hand: Hand,
+    next: ArgumentPosition,
+    out: &mut [u8],
+) -> Ran
+    requires { ⌜ InHand (now table) hand ⌝ }
+    requires { ⌜ next .0 ≤ hand .count ⌝ }
+    requires { ⌜ d .next ≤ length (now text) ⌝ }
+    requires { ⌜ spot .at ≤ length (now out) ⌝ }
+    ensures { λ r. ⌜ Blocks (levelsAt (now (text .entry))) (length (now (text .entry))) (viewOf (now (table .entry))) (handAt hand) level (d .next) (iterating (levelsAt (now (text .entry))) (viewOf (now (table .entry))) (handAt hand) (spot .position) d (d .next) (next .0) (spot .left)) (spot .left) (spot .at) (now (out .entry)) (now (out .exit)) r ⌝ }
+{
+    if !is_well_written(d) {
+        return refuse(spot, 5, next);
+    }
+    let settled = settle_directive(table, hand, d, next);
+    match settled {
+        SettledOut::Wrong(code) => refuse(spot, code, next),
+        SettledOut::Is { settings, next: i } => {
+            let limit = settings.first;
+            if d.at {
+                return run_passes(text, table, level, spot, d.next, limit, hand, i, out);
+            }
+            run_over_list(text, table, level, spot, d.next, limit, hand, i, out)
+        }
+    }
+}
+
+// The passes over the list that the next argument is.
+fn run_over_list(
+    text: &[u8],
+    table: &[u8],
+    level: usize,
+    spot: Spot,
+    q: usize,
+    limit: Setting,
+    hand: Hand,
+    i: ArgumentPosition,
+    out: &mut [u8],
+) -> Ran
+    requires { ⌜ InHand (now table) hand ⌝ }
+    requires { ⌜ i .0 ≤ hand .count ⌝ }
+    requires { ⌜ q ≤ length (now text) ⌝ }
+    requires { ⌜ spot .at ≤ length (now out) ⌝ }
+    ensures { λ r. ⌜ Blocks (levelsAt (now (text .entry))) (length (now (text .entry))) (viewOf (now (table .entry))) (handAt hand) level q (overListed (levelsAt (now (text .entry))) (viewOf (now (table .entry))) (handAt hand) (spot .position) q limit (i .0) (spot .left)) (spot .left) (spot .at) (now (out .entry)) (now (out .exit)) r ⌝ }
+{
+    let k = i.0;
+    if hand.count <= k {
+        return refuse(spot, 6, i);
+    }
+    let argument = argument_at(table, hand, i);
+    let listed = list_of(argument);
+    match listed {
+        Listed::Not => refuse(spot, 7, i),
+        Listed::Is(inner) => {
+            let r = run_passes(
+                text,
+                table,
+                level,
+                spot,
+                q,
+                limit,
+                inner,
+                ArgumentPosition(0),
+                out,
+            );
+            let stop = r.stop;
+            Ran {
+                stop,
+                next: ArgumentPosition(k + 1),
+                left: r.left,
+                at: r.at,
+                place: r.place,
+            }
+        }
+    }
+}
+
+// The passes of the iteration whose inside is at q.
+fn run_passes(
+    text: &[u8],
+    table: &[u8],
+    level: usize,
+    spot: Spot,
+    q: usize,
+    limit: Setting,
+    hand: Hand,
+    first: ArgumentPosition,
+    out: &mut [u8],
+) -> Ran
+    requires { ⌜ InHand (now table) hand ⌝ }
+    requires { ⌜ first .0 ≤ hand .count ⌝ }
+    requires { ⌜ q ≤ length (now text) ⌝ }
+    requires { ⌜ spot .at ≤ length (now out) ⌝ }
+    ensures { λ r. ⌜ Passes (levelsAt (now (text .entry))) (length (now (text .entry))) (viewOf (now (table .entry))) (handAt hand) level (spot .position) q (first .0) limit (spot .left) (spot .at) (now (out .entry)) (now (out .exit)) r ⌝ }
+{
+    let mut passes = limit;
+    let mut next = first;
+    let mut left = spot.left;
+    let mut at = spot.at;
+    let mut known = q;
+    loop {
+        if is_over(passes, next, hand) {
+            return Ran {
+                stop: Stop::Ended,
+                next,
+                left,
+                at,
+                place: close_from(text, known),
+            };
+        }
+        if left == 0 {
+            return refuse(
+                Spot {
+                    position: spot.position,
+                    place: q,
+                    left,
+                    at,
+                },
+                9,
+                next,
+            );
+        }
+        let r = run_sequence(text, table, level, q, hand, next, left - 1, out, at);
+        let stop = r.stop;
+        let after = r.next;
+        match stop {
+            Stop::Ended => {
+                next = after;
+                left = r.left;
+                at = r.at;
+                known = r.place;
+                passes = one_less(passes);
+            }
+            Stop::Left => {
+                return Ran {
+                    stop: Stop::Ended,
+                    next: after,
+                    left: r.left,
+                    at: r.at,
+                    place: close_from(text, known),
+                };
+            }
+            Stop::Refused {
+                code: _,
+                position: _,
+            } => {
+                return r;
+            }
+        }
+    }
+}

@@ -1,0 +1,60 @@
+-- `is_plain` meets its contract, item by item. Assumes nothing.
+use mathlib.Core.Path.{sym, ap, _∙_}
+use borrow.Author.Needs.{needs}
+use Rattle.vet.specs.Plain.{plainItem}
+use Rattle.vetting.proofs.plainness.is_plain.Statement.{statement}
+use Rattle.vetting.proofs.plainness.is_plain.Tie as tie
+
+enum-told : tie.Need-enum-told
+enum-told c = search needs
+
+enum-told-2 : tie.Need-enum-told-2
+enum-told-2 c = search needs
+
+enum-known-item : tie.Need-enum-known-item
+enum-known-item c = search needs
+
+is-plain-directive-requires : tie.Need-is-plain-directive-requires
+is-plain-directive-requires c κs = search needs
+
+enum-told-3 : tie.Need-enum-told-3
+enum-told-3 c = search needs
+
+enum-told-4 : tie.Need-enum-told-4
+enum-told-4 c = search needs
+
+returns : tie.Need-returns
+unfolding plainItem
+returns c = sym (ap plainItem (c .enum-told .given .1))
+
+returns-2 : tie.Need-returns-2
+unfolding plainItem
+returns-2 c = sym (ap plainItem (c .enum-told2 .given .1))
+
+returns-3 : tie.Need-returns-3
+unfolding plainItem
+returns-3 c = (c .is-plain-directive .ensures) ∙ sym (ap plainItem (c .before .before .item .given .1))
+
+returns-4 : tie.Need-returns-4
+unfolding plainItem
+returns-4 c = sym (ap plainItem (c .enum-told3 .given .1))
+
+returns-5 : tie.Need-returns-5
+unfolding plainItem
+returns-5 c = sym (ap plainItem (c .enum-told4 .given .1))
+
+pub is-plain-spec : {M : Type 1} → statement M
+is-plain-spec =
+    tie.close
+    (tie.spec
+    enum-told
+    enum-told-2
+    enum-known-item
+    is-plain-directive-requires
+    enum-told-3
+    enum-told-4
+    returns
+    returns-2
+    returns-3
+    returns-4
+    returns-5)

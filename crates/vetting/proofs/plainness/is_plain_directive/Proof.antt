@@ -1,0 +1,60 @@
+-- `is_plain_directive` meets its contract: the code and the four parameters. Assumes nothing.
+use borrow.Author.Needs.{needs}
+use Rattle.vetting.proofs.Places.{directive-plain}
+use Rattle.vetting.proofs.plainness.is_plain_directive.Statement.{statement}
+use Rattle.vetting.proofs.plainness.is_plain_directive.Tie as tie
+
+is-fixed-requires : tie.Need-is-fixed-requires
+is-fixed-requires c κs = search needs
+
+is-fixed-requires-2 : tie.Need-is-fixed-requires-2
+is-fixed-requires-2 c κs = search needs
+
+both-requires : tie.Need-both-requires
+both-requires c κs = search needs
+
+is-fixed-requires-3 : tie.Need-is-fixed-requires-3
+is-fixed-requires-3 c κs = search needs
+
+is-fixed-requires-4 : tie.Need-is-fixed-requires-4
+is-fixed-requires-4 c κs = search needs
+
+both-requires-2 : tie.Need-both-requires-2
+both-requires-2 c κs = search needs
+
+both-requires-3 : tie.Need-both-requires-3
+both-requires-3 c κs = search needs
+
+is-plain-code-requires : tie.Need-is-plain-code-requires
+is-plain-code-requires c κs = search needs
+
+both-requires-4 : tie.Need-both-requires-4
+both-requires-4 c κs = search needs
+
+returns : tie.Need-returns
+returns c =
+    let args = c .before .before .before .before .before .before .before .before .before .before .args in
+    let is-fixed = c .before .before .before .before .before .before .before .before .is-fixed in
+    let is-fixed2 = c .before .before .before .before .before .before .before .is-fixed2 in
+    let both = c .before .before .before .before .before .before .both in
+    let is-fixed3 = c .before .before .before .before .before .is-fixed3 in
+    let is-fixed4 = c .before .before .before .before .is-fixed4 in
+    let both2 = c .before .before .before .both2 in
+    let both3 = c .before .before .both3 in
+    directive-plain (args .d) (c .before .is-plain-code .ensures) (is-fixed3 .ensures) (is-fixed4 .ensures)
+    (is-fixed .ensures) (is-fixed2 .ensures) (both .ensures) (both2 .ensures) (both3 .ensures) (c .both4 .ensures)
+
+pub is-plain-directive-spec : {M : Type 1} → statement M
+is-plain-directive-spec =
+    tie.close
+    (tie.spec
+    is-fixed-requires
+    is-fixed-requires-2
+    both-requires
+    is-fixed-requires-3
+    is-fixed-requires-4
+    both-requires-2
+    both-requires-3
+    is-plain-code-requires
+    both-requires-4
+    returns)

@@ -1,0 +1,65 @@
+// What a plain format needs at the most, vetted over the kinds of its arguments.
+pub mod asking;
+pub mod counting;
+pub mod lengths;
+pub mod plainness;
+pub mod settings;
+pub mod turns;
+
+use asking::may_ask;
+use counting::count_items;
+use plainness::check_plain;
+use reader::text::check_text;
+use rules::Verdict;
+use vet::Vetted;
+ghost use mathlib.Core.Path.{_≡_};
+ghost use mathlib.Core.Bool.{true};
+ghost use Rattle.rules.specs.Text.{textVerdict};
+ghost use Rattle.rules.specs.declared.Verdict.the-variants.{Accepted};
+ghost use Rattle.vet.specs.Vet.{declined, mayAsk, vetOf};
+ghost use Rattle.vet.specs.Demand.{Promised};
+
+fn decline(code: u32, position: usize) -> Vetted
+    ensures { λ r. ⌜ r ≡ declined code position ⌝ }
+{
+    Vetted {
+        code,
+        position,
+        count: 0,
+    }
+}
+
+// From the test for plain on.
+fn vet_read(format: &[u8], kinds: &[u8], longest: usize) -> Vetted
+    requires { ⌜ mayAsk (now kinds) longest ≡ true ⌝ }
+    requires { ⌜ textVerdict (now format) ≡ Accepted ⌝ }
+    ensures { λ r. ⌜ r ≡ vetOf (now (format .entry)) (now (kinds .entry)) longest ⌝ }
+{
+    let plain = check_plain(format);
+    match plain {
+        Verdict::Accepted => count_items(format, kinds, longest),
+        Verdict::Refused { code, position } => decline(code, position),
+    }
+}
+
+// From the check of the text on.
+fn vet_asked(format: &[u8], kinds: &[u8], longest: usize) -> Vetted
+    requires { ⌜ mayAsk (now kinds) longest ≡ true ⌝ }
+    ensures { λ r. ⌜ r ≡ vetOf (now (format .entry)) (now (kinds .entry)) longest ⌝ }
+{
+    let text = check_text(format);
+    match text {
+        Verdict::Accepted => vet_read(format, kinds, longest),
+        Verdict::Refused { code, position } => decline(code, position),
+    }
+}
+
+// Vets a plain format over the kinds of its arguments, of which no string is longer than `longest`.
+pub fn vet_format(format: &[u8], kinds: &[u8], longest: usize) -> Vetted
+    ensures { λ r. ⌜ Promised (now (format .entry)) (now (kinds .entry)) longest r ⌝ }
+{
+    if may_ask(kinds, longest) {
+        return vet_asked(format, kinds, longest);
+    }
+    decline(12, 0)
+}

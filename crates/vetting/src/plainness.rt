@@ -1,0 +1,105 @@
+// Which formats are plain.
+use reader::directive::item_at;
+use reader::places::both;
+use rules::Code;
+use rules::Directive;
+use rules::Item;
+use rules::Parameter;
+use rules::Verdict;
+ghost use mathlib.Core.Path.{_≡_};
+ghost use mathlib.Core.Bool.{not};
+ghost use Prim.Native.Nat.{_<_};
+ghost use Rattle.rules.specs.Choice.{both};
+ghost use Rattle.rules.specs.Directive.{inOrder};
+ghost use Rattle.rules.proofs.TextLaws.{placeAfter};
+ghost use Rattle.vet.specs.Plain.{plainCode, isNext, noneNext, plainItem, plainVerdict};
+
+// Vet: not plain.
+const NOT_PLAIN: u32 = 11;
+
+fn is_plain_code(code: Code) -> bool
+    ensures { λ r. ⌜ r ≡ plainCode code ⌝ }
+{
+    match code {
+        Code::Writes(_) => true,
+        Code::Jump => false,
+        Code::Escape => false,
+        Code::Conditional => false,
+        Code::Separator => true,
+        Code::EndConditional => true,
+        Code::Iteration => false,
+        Code::EndIteration => true,
+        Code::Unknown => true,
+    }
+}
+
+// The parameter is no `v`.
+fn is_fixed(x: Parameter) -> bool
+    ensures { λ r. ⌜ r ≡ not (isNext x) ⌝ }
+{
+    match x {
+        Parameter::Default => true,
+        Parameter::Number(_) => true,
+        Parameter::Character(_) => true,
+        Parameter::Next => false,
+        Parameter::Remaining => true,
+    }
+}
+
+fn is_plain_directive(d: Directive) -> bool
+    ensures { λ r. ⌜ r ≡ both (plainCode (d .code)) (noneNext (inOrder (d .parameters))) ⌝ }
+{
+    let code = d.code;
+    let ps = d.parameters;
+    let p1 = ps.first;
+    let p2 = ps.second;
+    let p3 = ps.third;
+    let p4 = ps.fourth;
+    let last = both(is_fixed(p3), is_fixed(p4));
+    let all = both(is_fixed(p1), both(is_fixed(p2), last));
+    both(is_plain_code(code), all)
+}
+
+fn is_plain(item: Item) -> bool
+    ensures { λ r. ⌜ r ≡ plainItem item ⌝ }
+{
+    match item {
+        Item::End => true,
+        Item::Literal(_) => true,
+        Item::Written(d) => is_plain_directive(d),
+        Item::BadNumber => true,
+        Item::Unfinished => true,
+    }
+}
+
+// Where the text goes on after an item at p.
+pub fn place_after(item: Item, p: usize) -> usize
+    requires { ⌜ p < 18446744073709551615 ⌝ }
+    ensures { λ r. ⌜ r ≡ placeAfter p item ⌝ }
+{
+    match item {
+        Item::End => p,
+        Item::Literal(_) => p + 1,
+        Item::Written(d) => d.next,
+        Item::BadNumber => p + 1,
+        Item::Unfinished => p + 1,
+    }
+}
+
+// The first tilde that is not plain.
+pub fn check_plain(format: &[u8]) -> Verdict
+    ensures { λ r. ⌜ r ≡ plainVerdict (now (format .entry)) ⌝ }
+{
+    let mut p = 0;
+    while p < format.len() {
+        let item = item_at(format, p);
+        if !is_plain(item) {
+            return Verdict::Refused {
+                code: NOT_PLAIN,
+                position: p,
+            };
+        }
+        p = place_after(item, p);
+    }
+    Verdict::Accepted
+}
