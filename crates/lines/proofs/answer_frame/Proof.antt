@@ -1,0 +1,121 @@
+-- `lines::answer_frame` meets its contract: bytes that are no whole frame answer `ff`, and a frame as format answers
+-- it. Assumes nothing.
+use borrow.Author.Needs.{needs}
+use native.Mathlib.Omega.{arith}
+use lib.ListN.{length-take}
+use Rattle.lines.proofs.Answering.{text-within, no-length, cut-short, frame-answered}
+use Rattle.lines.proofs.answer_frame.Statement.{statement}
+use Rattle.lines.proofs.answer_frame.Tie as tie
+
+refuse-requires : tie.Need-refuse-requires
+refuse-requires c κs = search needs
+
+same-length : tie.Need-same-length
+same-length c = search needs
+
+returns : tie.Need-returns
+returns c = no-length ((c .before .before .before .before .before .before .before .before .args .frame .now)) (c .before .before .before .before .if1 .taken) (c .before .before .refuse .ensures)
+
+shared-slice-read-wide : tie.Need-shared-slice-read-wide
+shared-slice-read-wide c = search needs
+
+wide-requires : tie.Need-wide-requires
+wide-requires c κs = search needs
+
+mul-end : tie.Need-mul-end
+mul-end c = search needs
+
+add-end : tie.Need-add-end
+add-end c = search needs
+
+shared-slice-read-wide-2 : tie.Need-shared-slice-read-wide-2
+shared-slice-read-wide-2 c = search needs
+
+wide-requires-2 : tie.Need-wide-requires-2
+wide-requires-2 c κs = search needs
+
+add-end-2 : tie.Need-add-end-2
+add-end-2 c = search needs
+
+refuse-requires-2 : tie.Need-refuse-requires-2
+refuse-requires-2 c κs = search needs
+
+same-length-2 : tie.Need-same-length-2
+same-length-2 c = search needs
+
+returns-2 : tie.Need-returns-2
+returns-2 c = cut-short ((c .before .before .before .before .before .before .before .before .before .before .before .before .before .args .frame .now)) (c .before .before .before .before .before .before .before .wide .ensures .0) (c .before .before .before .before .before .wide2 .ensures .0) (c .before .before .before .before .before .before .before .before .before .if1 .left) (c .before .before .before .before .if2 .taken) (c .before .before .refuse2 .ensures)
+
+sub-format-text : tie.Need-sub-format-text
+sub-format-text c = search needs
+
+part-format-text-start : tie.Need-part-format-text-start
+part-format-text-start c = search needs
+
+part-format-text-end : tie.Need-part-format-text-end
+part-format-text-end c = search needs
+
+sub-format-text-2 : tie.Need-sub-format-text-2
+sub-format-text-2 c = search needs
+
+part-format-text-start-2 : tie.Need-part-format-text-start-2
+part-format-text-start-2 c = search needs
+
+part-format-text-end-2 : tie.Need-part-format-text-end-2
+part-format-text-end-2 c = search needs
+
+format-text-requires : tie.Need-format-text-requires
+format-text-requires c κs = search needs
+
+sub-write-answer : tie.Need-sub-write-answer
+sub-write-answer c = search needs
+
+part-write-answer-start : tie.Need-part-write-answer-start
+part-write-answer-start c = search needs
+
+part-write-answer-end : tie.Need-part-write-answer-end
+part-write-answer-end c = omega (arith, text-within (c .before .before .before .format-text .ensures), (c .before .before .before .format-text .kept .1 .1 .0))
+
+write-answer-requires : tie.Need-write-answer-requires
+write-answer-requires c κs = simp length-take (omega (arith, text-within (c .before .before .before .before .before .format-text .ensures), (c .before .before .before .before .before .before .before .before .before .before .before .before .before .before .before .before .before .before .pre)))
+
+same-length-3 : tie.Need-same-length-3
+same-length-3 c = search needs
+
+same-length-4 : tie.Need-same-length-4
+same-length-4 c = search needs
+
+returns-3 : tie.Need-returns-3
+returns-3 c = frame-answered ((c .before .before .before .before .before .before .before .before .before .before .before .before .before .before .before .before .before .before .before .before .before .args .frame .now)) (c .before .before .before .before .before .before .before .before .before .before .before .before .before .before .before .wide .ensures .0) (c .before .before .before .before .before .before .before .before .before .before .before .before .before .wide2 .ensures .0) (c .before .before .before .before .before .before .before .before .before .before .before .before .before .before .before .before .before .if1 .left) (c .before .before .before .before .before .before .before .before .before .before .before .before .if2 .left) (c .before .before .before .before .before .before .before .before .format-text .ensures) (c .before .before .before .before .before .before .before .before .before .before .before .before .before .before .before .before .before .before .before .before .before .pre .0) (c .before .before .write-answer .ensures)
+
+pub answer-frame-spec : {M : Type 1} → statement M
+answer-frame-spec =
+    tie.close
+    (tie.spec
+    refuse-requires
+    same-length
+    returns
+    shared-slice-read-wide
+    wide-requires
+    mul-end
+    add-end
+    shared-slice-read-wide-2
+    wide-requires-2
+    add-end-2
+    refuse-requires-2
+    same-length-2
+    returns-2
+    sub-format-text
+    part-format-text-start
+    part-format-text-end
+    sub-format-text-2
+    part-format-text-start-2
+    part-format-text-end-2
+    format-text-requires
+    sub-write-answer
+    part-write-answer-start
+    part-write-answer-end
+    write-answer-requires
+    same-length-3
+    same-length-4
+    returns-3)
