@@ -12,6 +12,7 @@ use Rattle.rules.specs.Answer.{Answer, answerOf, Answers}
 use Rattle.rules.specs.Job.{inPairs, formatEnd, formatIn, tableIn, isWhole, hexOf, numbersOf, answerBytes, noFrame, answerFrame, answerLine}
 use Rattle.rules.specs.Table.{be16At}
 use Rattle.rules.proofs.AnswerBounds.{answer-within}
+use Rattle.rules.proofs.JobLaws.{line-short}
 use Rattle.lines.specs.Written.{Written, Decoded}
 use Rattle.lines.proofs.Hexing.{written-then}
 
@@ -98,3 +99,7 @@ module _ (line : List ℕ) {b a : List ℕ} {n : ℕ} where
         let t : inPairs line ≡ true = sym (d .answer-is) ∙ e in
         let here : count - 0 ≡ count = omega arith in
         rw (le-leb (length line) 65535 h, t) (rw (here, d .bytes-are t) at w)
+
+-- the longest answer
+pub longest : (line : List ℕ) {b a : List ℕ} {n : ℕ} → Written b a (answerLine line) n → n ≤ 32794
+longest line w = omega (arith, w .count-is, line-short line)

@@ -1,5 +1,5 @@
 -- Reading the digits of a line, two to a byte. Assumes nothing.
-use Prim.Native.Nat.{ℕ, suc, _+_, _*_, _/_, _≤_, _<_}
+use Prim.Native.Nat.{ℕ, suc, _+_, _*_, _/_, _%_, _≤_, _<_}
 use mathlib.Core.Path.{_≡_, refl, sym, ap, _∙_}
 use mathlib.Core.Bool.{true, false}
 use mathlib.Core.List.{List, [], _∷_, _++_, append-nil}
@@ -17,7 +17,7 @@ use Rattle.lines.specs.Written.{Decoded}
 pub refused : {line frame : List ℕ} {n : ℕ} → inPairs line ≡ false → Decoded line frame n false
 refused e = record { answer-is = sym e; bytes-are = λ t. absurd (not-both-ways t e) }
 
-pub odd-refused : {line frame : List ℕ} {n : ℕ} → (length line ≡ 2 * (length line / 2) → ⊥) → Decoded line frame n false
+pub odd-refused : {line frame : List ℕ} {n : ℕ} → (length line % 2 ≡ 0 → ⊥) → Decoded line frame n false
 odd-refused {line} h = refused (odd-pairs line h)
 
 -- k pairs are read: what stands in the frame, with what the rest gives, is the whole
@@ -65,7 +65,7 @@ module _ {line frame : List ℕ} {size k : ℕ} (d : Decoding line size frame k)
           same = simp length-set (d .same);
         }
 
-  pub decode-all : length line ≡ 2 * (length line / 2) → length line / 2 ≤ k → Decoded line frame (length line / 2) true
+  pub decode-all : length line % 2 ≡ 0 → length line / 2 ≤ k → Decoded line frame (length line / 2) true
   unfolding inPairs bytesOf
   decode-all even h =
       let z : k ≡ length line / 2 = omega (arith, d .within) in

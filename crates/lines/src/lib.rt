@@ -41,10 +41,10 @@ fn decode(line: &[u8], frame: &mut [u8]) -> bool
     requires { ⌜ length (now line) / 2 ≤ length (now frame) ⌝ }
     ensures { λ r. ⌜ Decoded (now (line .entry)) (now (frame .exit)) (length (now (line .entry)) / 2) r ⌝ }
 {
-    let count = line.len() / 2;
-    if line.len() != 2 * count {
+    if line.len() % 2 != 0 {
         return false;
     }
+    let count = line.len() / 2;
     let mut k = 0;
     while k < count {
         let high = digit_value(line[2 * k]);

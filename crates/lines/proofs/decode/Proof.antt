@@ -16,9 +16,6 @@ abbrev μ-loop : tie.MeasureT-loop
 μ-loop line frame₀ count k₀ frame k =
     length line - k
 
-mul-if1 : tie.Need-mul-if1 Inv-loop μ-loop
-mul-if1 c = search needs
-
 returns : tie.Need-returns Inv-loop μ-loop
 returns c = odd-refused (c .if1 .taken)
 
@@ -88,7 +85,6 @@ decode-spec =
     (tie.spec
     Inv-loop
     μ-loop
-    mul-if1
     returns
     loop-holds
     mul-digit-value
