@@ -127,6 +127,10 @@ unfoldable pub verdictOf : List Block → List Token → Verdict
 verdictOf os [] = atEnd os
 verdictOf os (x ∷ xs) = itemMet (x .at) (x .item) os (λ os₂. verdictOf os₂ xs)
 
+-- the first fault met in reading the text t from p on, inside the open blocks
+abbrev pub verdictAt : List ℕ → List Block → ℕ → Verdict
+verdictAt t os p = verdictOf os (tokensAt t p)
+
 abbrev pub longest : ℕ
 longest = 4096
 

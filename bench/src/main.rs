@@ -1,0 +1,120 @@
+//! The proved calls against the same work in Rust, as ratios of times measured in one run.
+
+mod plain;
+
+use probe::random::Random;
+use std::hint::black_box;
+use std::time::Instant;
+
+const SEED: u64 = 3;
+const NUMBERS: usize = 4096;
+/// Each side is timed this often, by turns, and its best time counts.
+const ROUNDS: usize = 301;
+
+/// A call that writes digits: base, number, buffer, and the count as its answer.
+type Digits = fn(u64, u64, &mut [u8]) -> usize;
+
+fn main() {
+    title("digits, against the same loops in Rust");
+    digits(plain::digits);
+    title("digits, against a loop over the places in Rust");
+    digits(plain::digits_by_place);
+    title("check of a table, against a plain check in Rust");
+    tables();
+}
+
+fn title(what: &str) {
+    println!("{what:<50} {:>11} {:>11} {:>6}", "proved", "Rust", "ratio");
+}
+
+/// Nanoseconds for each of `count` items, of the best round of each side.
+fn race(
+    name: &str,
+    count: usize,
+    mut proved: impl FnMut() -> usize,
+    mut rust: impl FnMut() -> usize,
+) {
+    assert_eq!(proved(), rust(), "{name}: the two sides do the same work");
+    let time = |work: &mut dyn FnMut() -> usize| {
+        let start = Instant::now();
+        black_box(work());
+        start.elapsed().as_nanos() as f64 / count as f64
+    };
+    let (mut ours, mut theirs) = (f64::MAX, f64::MAX);
+    for _ in 0..ROUNDS {
+        ours = ours.min(time(&mut proved));
+        theirs = theirs.min(time(&mut rust));
+    }
+    println!(
+        "  {name:<48} {ours:>8.1} ns {theirs:>8.1} ns {:>6.2}",
+        ours / theirs
+    );
+}
+
+fn digits(rust: Digits) {
+    let random = Random::new(SEED);
+    let mixed: Vec<u64> = (0..NUMBERS).map(|_| random.magnitude()).collect();
+    let short: Vec<u64> = (0..NUMBERS).map(|_| random.word() % 1000).collect();
+    let long: Vec<u64> = (0..NUMBERS).map(|_| random.word() | 1 << 63).collect();
+    for (kind, numbers) in [
+        ("mixed magnitudes", &mixed),
+        ("below 1,000", &short),
+        ("64 bits", &long),
+    ] {
+        for base in [10, 16, 8, 2] {
+            let base = black_box(base);
+            let name = format!("base {base}, {kind}");
+            let (mut one, mut other) = ([0; 80], [0; 80]);
+            race(
+                &name,
+                NUMBERS,
+                || {
+                    numbers
+                        .iter()
+                        .map(|&n| probe::digits(base, n, black_box(&mut one)))
+                        .sum()
+                },
+                || {
+                    numbers
+                        .iter()
+                        .map(|&n| rust(base, n, black_box(&mut other)))
+                        .sum()
+                },
+            );
+        }
+    }
+}
+
+fn tables() {
+    let random = Random::new(SEED);
+    let integers = |n| plain::table(n, 0, |_| plain::entry(1, 7, 7));
+    let mixed = |n: usize| {
+        plain::table(n, 64, |i| match random.below(5) {
+            0 => plain::entry(0, 0, 1),
+            1 => plain::entry(1, 7, 7),
+            2 => plain::entry(2, 0, 65),
+            3 => plain::entry(3, 8, 16),
+            _ => plain::entry(4, i as u32 + 1, (n - i - 1) as u32),
+        })
+    };
+    let mut refused = integers(1024);
+    refused[2] = 255;
+    for (name, table, often) in [
+        ("4 mixed entries", mixed(4), 1000),
+        ("64 mixed entries", mixed(64), 100),
+        ("1,024 mixed entries", mixed(1024), 20),
+        ("1,024 integers", integers(1024), 20),
+        ("refused in its header, 1,024 entries", refused, 1000),
+    ] {
+        let answers = |check: fn(&[u8]) -> (u32, usize)| {
+            let (code, position) = check(black_box(&table));
+            code as usize + position
+        };
+        race(
+            name,
+            often,
+            || (0..often).map(|_| answers(probe::check_table)).sum(),
+            || (0..often).map(|_| answers(plain::check_table)).sum(),
+        );
+    }
+}

@@ -1,0 +1,60 @@
+-- What a good body says of each of its sources, and the length of a piece. Assumes nothing.
+use mathlib.Core.Path.{_≡_, refl, sym, ap, _∙_}
+use mathlib.Core.List.{List, _++_}
+use Prim.Native.Nat.{ℕ, _+_, _-_, _≤_}
+use native.Mathlib.Nat.{sub-zero}
+use native.Mathlib.Omega.{arith}
+use lib.ListN.{length, take, drop, replicate, length-append, length-replicate}
+use lib.Seq.{length-take-le}
+use Rattle.pieces.specs.Bytes.{part, quotedOf, figureOf, sourceOf, bodyOf, bytesOf, Inside, GoodFigure, GoodBody, Good}
+use Rattle.pieces.specs.declared.Source.{Source}
+use Rattle.pieces.specs.declared.Source.the-variants.{Run, Copied, Quoted, Figures, Word}
+use Rattle.pieces.specs.declared.Body.{Body}
+use Rattle.pieces.specs.declared.Figure.{Figure}
+use Rattle.pieces.specs.declared.Piece.{Piece}
+
+pub length-bytes : (t : List ℕ) (p : Piece) → length (bytesOf t p) ≡ p .left + (length (bodyOf t (p .body)) + p .right)
+unfolding bytesOf
+length-bytes t p =
+    let body = bodyOf t (p .body) in
+    let right = replicate (p .right) (p .pad) in
+    length-append (replicate (p .left) (p .pad)) (body ++ right)
+    ∙ rw (length-append body right, length-replicate (p .left) (p .pad), length-replicate (p .right) (p .pad))
+
+-- a source's text and places
+pub record Is (t : List ℕ) (b : Body) (bytes : List ℕ) (Places : Type 0) : Type 0 where
+  pub size : b .size ≡ length bytes
+  pub text : bodyOf t b ≡ bytes
+  pub places : Places
+
+module _ {t : List ℕ} {b : Body} (g : GoodBody t b) where
+  pub is-run : (byte n : ℕ) → b .source ≡ Run byte n → Is t b (replicate n byte) (b .size ≡ n)
+  unfolding sourceOf
+  is-run byte n e = record {
+    size = rw e at (g .size);
+    text = rw e;
+    places = rw (e, length-replicate n byte) at (g .size);
+  }
+
+  pub is-copied : (start end : ℕ) → b .source ≡ Copied start end
+      → Is t b (part start (end - start) t) ((start ≤ end) × (end ≤ length t))
+  unfolding sourceOf Inside
+  is-copied start end e = record { size = rw e at (g .size); text = rw e; places = rw e at (g .inside) }
+
+  pub is-quoted : (start end : ℕ) → b .source ≡ Quoted start end
+      → Is t b (quotedOf (part start (end - start) t)) ((start ≤ end) × (end ≤ length t))
+  unfolding sourceOf Inside
+  is-quoted start end e = record { size = rw e at (g .size); text = rw e; places = rw e at (g .inside) }
+
+  pub is-figures : (x : Figure) → b .source ≡ Figures x → Is t b (figureOf x) (GoodFigure x)
+  unfolding sourceOf Inside
+  is-figures x e = record { size = rw e at (g .size); text = rw e; places = rw e at (g .inside) }
+
+  -- as the part that is lent of the word
+  pub is-word : (n : ℕ) → b .source ≡ Word n → Is t b (part 0 (n - 0) (b .word)) (n ≤ length (b .word))
+  unfolding sourceOf Inside
+  is-word n e = record {
+    size = rw sub-zero (rw e at (g .size));
+    text = rw (sub-zero, e);
+    places = rw e at (g .inside);
+  }

@@ -1,0 +1,7 @@
+pub mod Parts
+pub mod Segments
+pub mod Escapes
+pub mod Numerals
+pub mod Bodies
+pub mod Made
+pub mod Spelled

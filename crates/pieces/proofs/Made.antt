@@ -1,0 +1,71 @@
+-- A body for each source, and a piece with padding on either side. Assumes nothing.
+use mathlib.Core.Path.{_≡_, refl, sym, ap, _∙_}
+use mathlib.Core.List.{List, _++_}
+use Prim.Native.Nat.{ℕ, _+_, _-_, _≤_}
+use native.Mathlib.Omega.{arith}
+use lib.ListN.{length, take, replicate, length-replicate}
+use lib.Seq.{length-take-le}
+use Rattle.pieces.specs.Bytes.{part, quotedOf, figureOf, sourceOf, bodyOf, bytesOf, Inside, GoodFigure, GoodBody, Good, Makes, Gives}
+use Rattle.pieces.specs.Given.{StringIn}
+use Rattle.pieces.specs.declared.Source.the-variants.{Run, Copied, Quoted, Figures, Word}
+use Rattle.pieces.specs.declared.Body.{Body}
+use Rattle.pieces.specs.declared.Figure.{Figure}
+use Rattle.pieces.specs.declared.Piece.{Piece}
+use Rattle.pieces.proofs.Parts.{lent-length}
+
+pub makes-same : {t : List ℕ} {b : Body} {xs ys : List ℕ} → xs ≡ ys → Makes t b xs → Makes t b ys
+makes-same e m = record { good = m .good; is = m .is ∙ e }
+
+pub gives-same : {t : List ℕ} {p : Piece} {xs ys : List ℕ} → xs ≡ ys → Gives t p xs → Gives t p ys
+gives-same e g = record { good = g .good; is = g .is ∙ e }
+
+pub makes-size : {t : List ℕ} {b : Body} {xs : List ℕ} → Makes t b xs → b .size ≡ length xs
+makes-size m = m .good .size ∙ ap length (m .is)
+
+module _ (t word : List ℕ) where
+  pub made-run : (byte n : ℕ) → n ≤ 4096 → Makes t (record { size = n; word = word; source = Run byte n }) (replicate n byte)
+  unfolding sourceOf Inside
+  made-run byte n h = record {
+    good = record { size = sym (length-replicate n byte); small = omega arith; inside = omega arith };
+    is = refl;
+  }
+
+  pub made-word : (n : ℕ) → n ≤ 12 → n ≤ length word
+      → Makes t (record { size = n; word = word; source = Word n }) (take n word)
+  unfolding sourceOf Inside
+  made-word n h k = record {
+    good = record { size = sym (length-take-le n word k); small = omega arith; inside = k };
+    is = refl;
+  }
+
+  pub made-copied : (start end : ℕ) → StringIn t start end
+      → Makes t (record { size = end - start; word = word; source = Copied start end }) (part start (end - start) t)
+  unfolding sourceOf Inside
+  made-copied start end s = record {
+    good = record {
+      size = sym (lent-length t (s .order) (s .inside));
+      small = omega (arith, s .short);
+      inside = (s .order, s .inside);
+    };
+    is = refl;
+  }
+
+  pub made-quoted : (start end size : ℕ) → StringIn t start end → size ≡ length (quotedOf (part start (end - start) t))
+      → size ≤ 131074
+      → Makes t (record { size = size; word = word; source = Quoted start end }) (quotedOf (part start (end - start) t))
+  unfolding sourceOf Inside
+  made-quoted start end size s e h = record {
+    good = record { size = e; small = h; inside = (s .order, s .inside) };
+    is = refl;
+  }
+
+  pub made-figures : (x : Figure) (size : ℕ) → GoodFigure x → size ≡ length (figureOf x) → size ≤ 128
+      → Makes t (record { size = size; word = word; source = Figures x }) (figureOf x)
+  unfolding sourceOf Inside
+  made-figures x size g e h = record { good = record { size = e; small = omega arith; inside = g }; is = refl }
+
+-- padding on its two sides
+pub made-piece : {t : List ℕ} {b : Body} {text : List ℕ} (l r pad : ℕ) → l + r ≤ 16384 → Makes t b text
+    → Gives t (record { left = l; right = r; pad = pad; body = b }) (replicate l pad ++ (text ++ replicate r pad))
+unfolding bytesOf
+made-piece l r pad h m = record { good = record { body = m .good; padding = omega arith }; is = rw (m .is) }

@@ -1,0 +1,116 @@
+use Rattle.pieces.proofs.Escapes.{Quoting, quote-room, quote-none, plain-room, quote-plain, mark-room, byte-room, quote-marked, last-room, quote-all}
+use lib.ListN.{length, length-set}
+use Prim.Native.Nat.{_-_}
+use mathlib.Core.Path.{sym, _∙_}
+use borrow.Author.Needs.{needs}
+use native.Mathlib.Omega.{arith}
+use Rattle.pieces.proofs.quoting.quote_whole.Statement.{statement}
+use Rattle.pieces.proofs.quoting.quote_whole.Tie as tie
+use Rattle.pieces.proofs.quoting.quote_whole.Reads as reads
+use Rattle.pieces.proofs.quoting.quote_whole.Lts as lts
+use Rattle.pieces.proofs.quoting.is_marked.Reads as is-marked-reads
+
+abbrev Inv-loop : tie.InvT-loop
+Inv-loop src out₀ i₀ to₀ out i to =
+    Quoting src (length out₀) out i to
+
+abbrev μ-loop : tie.MeasureT-loop
+μ-loop src out₀ i₀ to₀ out i to =
+    length src - i
+
+-- src/quoting.rt:42:5
+slice-write-out : tie.Need-slice-write-out Inv-loop μ-loop
+slice-write-out c = quote-room (c .before .before .args .src .now) (c .before .before .args .out .now) (c .before .before .pre)
+
+-- src/quoting.rt:45:5
+loop-holds : tie.Need-loop-holds Inv-loop μ-loop
+loop-holds c = quote-none (c .before .before .args .src .now) (c .before .before .args .out .now) (c .before .before .pre)
+
+-- src/quoting.rt:46:20
+shared-slice-read-byte : tie.Need-shared-slice-read-byte Inv-loop μ-loop
+shared-slice-read-byte c = search needs
+
+-- src/quoting.rt:47:9
+add-i : tie.Need-add-i Inv-loop μ-loop
+add-i c = search needs
+
+-- src/quoting.rt:48:12
+is-marked-requires : tie.Need-is-marked-requires Inv-loop μ-loop
+is-marked-requires c κs = search needs
+
+-- src/quoting.rt:49:13
+slice-write-out-2 : tie.Need-slice-write-out-2 Inv-loop μ-loop
+slice-write-out-2 c = mark-room (c .before .before .before .before .loop .inv) (c .before .before .before .loop-test .taken) (sym (c .before .is-marked .ensures) ∙ (c .if1 .taken))
+
+-- src/quoting.rt:50:13
+add-to : tie.Need-add-to Inv-loop μ-loop
+add-to c = omega (arith, mark-room (c .before .before .before .before .loop .inv) (c .before .before .before .loop-test .taken) (sym (c .before .is-marked .ensures) ∙ (c .if1 .taken)), (c .before .before .before .before .loop .inv .same), length-set (c .before .before .before .before .before .before .before .args .out .now) 0 34, (c .before .before .before .before .before .before .before .good))
+
+-- src/quoting.rt:51:13
+slice-write-out-3 : tie.Need-slice-write-out-3 Inv-loop μ-loop
+slice-write-out-3 c = byte-room (c .before .before .before .before .loop .inv) (c .before .before .before .loop-test .taken) (sym (c .before .is-marked .ensures) ∙ (c .if1 .taken))
+
+-- src/quoting.rt:52:13
+add-to-2 : tie.Need-add-to-2 Inv-loop μ-loop
+add-to-2 c = omega (arith, simp length-set at (byte-room (c .before .before .before .before .loop .inv) (c .before .before .before .loop-test .taken) (sym (c .before .is-marked .ensures) ∙ (c .if1 .taken))), (c .before .before .before .before .loop .inv .same), length-set (c .before .before .before .before .before .before .before .args .out .now) 0 34, (c .before .before .before .before .before .before .before .good))
+
+-- src/quoting.rt:45:5
+loop-less : tie.Need-loop-less Inv-loop μ-loop
+loop-less c = search needs
+
+-- src/quoting.rt:45:5
+loop-again : tie.Need-loop-again Inv-loop μ-loop
+loop-again c = quote-marked (c .before .before .before .before .loop .inv) (c .before .before .before .loop-test .taken) (sym (c .before .is-marked .ensures) ∙ (c .if1 .taken))
+
+-- src/quoting.rt:54:13
+slice-write-out-4 : tie.Need-slice-write-out-4 Inv-loop μ-loop
+slice-write-out-4 c = plain-room (c .before .before .before .before .loop .inv) (c .before .before .before .loop-test .taken) (sym (c .before .is-marked .ensures) ∙ (c .if1 .left))
+
+-- src/quoting.rt:55:13
+add-to-3 : tie.Need-add-to-3 Inv-loop μ-loop
+add-to-3 c = omega (arith, plain-room (c .before .before .before .before .loop .inv) (c .before .before .before .loop-test .taken) (sym (c .before .is-marked .ensures) ∙ (c .if1 .left)), (c .before .before .before .before .loop .inv .same), length-set (c .before .before .before .before .before .before .before .args .out .now) 0 34, (c .before .before .before .before .before .before .before .good))
+
+-- src/quoting.rt:45:5
+loop-less-2 : tie.Need-loop-less-2 Inv-loop μ-loop
+loop-less-2 c = search needs
+
+-- src/quoting.rt:45:5
+loop-again-2 : tie.Need-loop-again-2 Inv-loop μ-loop
+loop-again-2 c = quote-plain (c .before .before .before .before .loop .inv) (c .before .before .before .loop-test .taken) (sym (c .before .is-marked .ensures) ∙ (c .if1 .left))
+
+-- src/quoting.rt:58:5
+slice-write-out-5 : tie.Need-slice-write-out-5 Inv-loop μ-loop
+slice-write-out-5 c = last-room (c .before .loop .inv) (c .loop-test .left)
+
+-- src/quoting.rt:38:1
+same-length : tie.Need-same-length Inv-loop μ-loop
+same-length c = simp length-set ((c .before .loop .inv .same) ∙ length-set (c .before .before .before .before .args .out .now) 0 34)
+
+-- src/quoting.rt:38:1
+returns : tie.Need-returns Inv-loop μ-loop
+returns c = quote-all (c .before .loop .inv) (c .loop-test .left)
+
+pub quote-whole-spec : {M : Type 1} → statement M
+quote-whole-spec =
+    tie.close
+    (tie.spec
+    Inv-loop
+    μ-loop
+    slice-write-out
+    loop-holds
+    shared-slice-read-byte
+    add-i
+    is-marked-requires
+    slice-write-out-2
+    add-to
+    slice-write-out-3
+    add-to-2
+    loop-less
+    loop-again
+    slice-write-out-4
+    add-to-3
+    loop-less-2
+    loop-again-2
+    slice-write-out-5
+    same-length
+    returns)

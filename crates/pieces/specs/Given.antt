@@ -1,0 +1,67 @@
+-- What a piece is made from: parameters that are worked out, and an argument that lies in the table.
+-- Assumes nothing: these are definitions.
+use mathlib.Core.Path.{_≡_}
+use Prim.Native.Nat.{ℕ, _-_, _≤_, _<_}
+use mathlib.Core.Bool.{Bool, true, false, cond}
+use mathlib.Core.List.{List, [], _∷_, _++_}
+use lib.Dec.{ltb, eqb}
+use lib.IntN.{ℤ}
+use lib.ListN.{length}
+use Rattle.rules.specs.Directive.{Place, number, character, formPlaces}
+use Rattle.rules.specs.Number.{digitsOf, grouped, magnitudeOf, signOf}
+use Rattle.rules.specs.declared.Argument.{Argument}
+use Rattle.rules.specs.declared.Argument.the-variants.{Boolean, Integer, Character, Text, Entries}
+use Rattle.rules.specs.declared.Form.{Form}
+use Rattle.rules.specs.declared.Form.the-variants.{Object, Numeral, Glyph, Plural, Repeat, Fold}
+use Rattle.rules.specs.declared.Setting.{Setting}
+use Rattle.rules.specs.declared.Setting.the-variants.{Absent, Is}
+use Rattle.rules.specs.declared.Settings.{Settings}
+
+-- a parameter that is given lies in the range of its place; a character is a byte
+abbrev pub Allowed : Place → Setting → Type 0
+Allowed (number least most) Absent = Unit
+Allowed (number least most) (Is n) = (least ≤ n) × (n ≤ most)
+Allowed character Absent = Unit
+Allowed character (Is n) = n < 256
+
+abbrev pub EachAllowed : List Place → List Setting → Type 0
+EachAllowed [] ss = Unit
+EachAllowed (p ∷ ps) [] = Unit
+EachAllowed (p ∷ ps) (s ∷ ss) = Allowed p s × EachAllowed ps ss
+
+-- a base has digits
+abbrev pub BaseRight : Form → Type 0
+BaseRight (Object quoted) = Unit
+BaseRight (Numeral base) = (2 ≤ base) × (base ≤ 36)
+BaseRight Glyph = Unit
+BaseRight Plural = Unit
+BaseRight (Repeat b) = Unit
+BaseRight Fold = Unit
+
+-- the parameters of a form, each in the range of its place
+pub record Worked (form : Form) (s : Settings) : Type 0 where
+  pub base : BaseRight form
+  pub places : EachAllowed (formPlaces form) (s .first ∷ s .second ∷ s .third ∷ s .fourth ∷ [])
+
+-- a string lies in the table and is no longer than the pool may be
+pub record StringIn (t : List ℕ) (start end : ℕ) : Type 0 where
+  pub order : start ≤ end
+  pub inside : end ≤ length t
+  pub short : end - start ≤ 65536
+
+abbrev pub Reachable : List ℕ → Argument → Type 0
+Reachable t (Boolean b) = Unit
+Reachable t (Integer z) = Unit
+Reachable t (Character c) = Unit
+Reachable t (Text start end) = StringIn t start end
+Reachable t (Entries first count) = Unit
+
+-- the text of a number before padding; a width of 0 is no groups
+abbrev pub numberOf : ℕ → Bool → ℕ → ℕ → ℤ → List ℕ
+numberOf base plus width comma z =
+    signOf plus z
+    ++ cond (eqb width 0) (digitsOf base (magnitudeOf z)) (grouped width comma (digitsOf base (magnitudeOf z)))
+
+-- the written form of a character that has no name
+abbrev pub unnamedOf : ℕ → List ℕ
+unnamedOf c = 35 ∷ 92 ∷ cond (ltb c 32) (120 ∷ digitsOf 16 c) (c ∷ [])

@@ -1,0 +1,118 @@
+// A number with its sign: its size, the whole of it, and a part of it.
+use super::Body;
+use super::Figure;
+use super::Source;
+use super::copying::copy_part;
+use numbers::digit_count;
+use numbers::fill_digits;
+use numbers::grouped_size;
+use numbers::is_negative;
+use numbers::magnitude;
+use numbers::write_grouped;
+ghost use mathlib.Core.Path.{_≡_};
+ghost use mathlib.Core.List.{List};
+ghost use Prim.Native.Nat.{ℕ, _-_, _≤_};
+ghost use lib.ListN.{length};
+ghost use Rattle.rules.specs.Number.{signOf};
+ghost use Rattle.pieces.specs.Bytes.{part, digitsIn, signed, figureOf, GoodFigure, Makes};
+ghost use Rattle.pieces.specs.Given.{numberOf};
+
+// The size of the digits, with their separators.
+fn digits_size(x: Figure) -> usize
+    requires { ⌜ GoodFigure x ⌝ }
+    ensures size { λ r. ⌜ r ≡ length (digitsIn x) ⌝ }
+    ensures within { λ r. ⌜ r ≤ 127 ⌝ }
+{
+    let count = digit_count(x.base, x.magnitude);
+    if x.width == 0 {
+        return count;
+    }
+    grouped_size(count, x.width)
+}
+
+pub fn figure_size(x: Figure) -> usize
+    requires { ⌜ GoodFigure x ⌝ }
+    ensures size { λ r. ⌜ r ≡ length (figureOf x) ⌝ }
+    ensures within { λ r. ⌜ r ≤ 128 ⌝ }
+{
+    let size = digits_size(x);
+    if x.sign == 0 { size } else { size + 1 }
+}
+
+// The digits. Without groups they go straight to their place.
+fn digits_whole(x: Figure, out: &mut [u8])
+    requires { ⌜ GoodFigure x ⌝ }
+    requires { ⌜ length (now out) ≡ length (digitsIn x) ⌝ }
+    ensures { λ _. ⌜ now (out .exit) ≡ digitsIn x ⌝ }
+{
+    if x.width == 0 {
+        fill_digits(x.base, x.magnitude, out);
+        return;
+    }
+    let count = digit_count(x.base, x.magnitude);
+    let mut digits = [0; 64];
+    fill_digits(x.base, x.magnitude, &mut digits[0..count]);
+    write_grouped(&digits[0..count], x.width, x.comma, out);
+}
+
+// The sign and the digits.
+pub fn figure_whole(x: Figure, out: &mut [u8])
+    requires { ⌜ GoodFigure x ⌝ }
+    requires { ⌜ length (now out) ≡ length (figureOf x) ⌝ }
+    ensures { λ _. ⌜ now (out .exit) ≡ figureOf x ⌝ }
+{
+    if x.sign == 0 {
+        digits_whole(x, out);
+        return;
+    }
+    out[0] = x.sign;
+    let end = out.len();
+    digits_whole(x, &mut out[1..end]);
+}
+
+// A part, by way of a local array.
+pub fn figure_part(x: Figure, size: usize, from: usize, out: &mut [u8])
+    requires { ⌜ GoodFigure x ⌝ }
+    requires { ⌜ size ≡ length (figureOf x) ⌝ }
+    requires { ⌜ length (now out) ≤ size - from ⌝ }
+    ensures { λ _. ⌜ now (out .exit) ≡ part from (length (now (out .entry))) (figureOf x) ⌝ }
+{
+    let mut text = [0; 128];
+    figure_whole(x, &mut text[0..size]);
+    copy_part(&text[0..size], from, out);
+}
+
+// The sign that is written, as a byte; 0 is none.
+fn sign_byte(plus: bool, x: i64) -> u8
+    ensures { λ r. ⌜ signed r ≡ signOf plus x ⌝ }
+{
+    if is_negative(x) {
+        return b'-';
+    }
+    if magnitude(x) == 0 {
+        return 0;
+    }
+    if plus { b'+' } else { 0 }
+}
+
+// A number, with + before a positive one or not, in groups of a width that is not 0.
+pub fn figure_body(base: u64, plus: bool, width: usize, comma: u8, x: i64) -> Body
+    requires { ⌜ (2 ≤ base) × (base ≤ 36) ⌝ }
+    requires { ⌜ width ≤ 4096 ⌝ }
+    ensures { λ r. ⌜ ((t : List ℕ) → Makes t r (numberOf base plus width comma x)) ⌝ }
+{
+    let figure = Figure {
+        base,
+        magnitude: magnitude(x),
+        sign: sign_byte(plus, x),
+        width,
+        comma,
+    };
+    let size = figure_size(figure);
+    let word = [0; 12];
+    Body {
+        size,
+        word,
+        source: Source::Figures(figure),
+    }
+}

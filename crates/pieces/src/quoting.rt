@@ -1,0 +1,136 @@
+// A string in quotes, with a backslash before each quote and backslash.
+use super::copying::fill;
+use super::window::cut;
+ghost use mathlib.Core.Path.{_≡_};
+ghost use Prim.Native.Nat.{_-_, _≤_};
+ghost use lib.ListN.{length, drop};
+ghost use Rattle.rules.specs.Piece.{escaped};
+ghost use Rattle.pieces.specs.Bytes.{part, isMarked, owed, quotedOf};
+
+// Whether a backslash stands before the byte.
+fn is_marked(byte: u8) -> bool
+    ensures { λ r. ⌜ r ≡ isMarked byte ⌝ }
+{
+    if byte == 34 { true } else { byte == 92 }
+}
+
+// The length of a string in quotes.
+pub fn quoted_size(src: &[u8]) -> usize
+    requires { ⌜ length (now src) ≤ 65536 ⌝ }
+    ensures size { λ r. ⌜ r ≡ length (quotedOf (now (src .entry))) ⌝ }
+    ensures within { λ r. ⌜ r ≤ 131074 ⌝ }
+{
+    let mut i = 0;
+    let mut size = 2;
+    while i < src.len() {
+        let byte = src[i];
+        i += 1;
+        if is_marked(byte) {
+            size += 2;
+        } else {
+            size += 1;
+        }
+    }
+    size
+}
+
+// The whole string in quotes.
+pub fn quote_whole(src: &[u8], out: &mut [u8])
+    requires { ⌜ length (now out) ≡ length (quotedOf (now src)) ⌝ }
+    ensures { λ _. ⌜ now (out .exit) ≡ quotedOf (now (src .entry)) ⌝ }
+{
+    out[0] = 34;
+    let mut i = 0;
+    let mut to = 1;
+    while i < src.len() {
+        let byte = src[i];
+        i += 1;
+        if is_marked(byte) {
+            out[to] = 92;
+            to += 1;
+            out[to] = byte;
+            to += 1;
+        } else {
+            out[to] = byte;
+            to += 1;
+        }
+    }
+    out[to] = 34;
+}
+
+// Where a place of the escaped text falls: at a byte of the string, whose backslash is gone already or not.
+struct Spot {
+    at: usize,
+    gone: bool,
+}
+
+fn find_spot(src: &[u8], from: usize) -> Spot
+    ensures { λ r. ⌜ drop from (escaped (now (src .entry))) ≡ owed (r .gone) (drop (r .at) (now (src .entry))) ⌝ }
+{
+    let mut i = 0;
+    let mut skip = from;
+    while 0 < skip {
+        if src.len() <= i {
+            return Spot { at: i, gone: false };
+        }
+        let byte = src[i];
+        if is_marked(byte) {
+            if skip == 1 {
+                return Spot { at: i, gone: true };
+            }
+            skip -= 2;
+            i += 1;
+        } else {
+            skip -= 1;
+            i += 1;
+        }
+    }
+    Spot { at: i, gone: false }
+}
+
+// A part of the escaped text.
+fn escape_part(src: &[u8], from: usize, out: &mut [u8])
+    requires { ⌜ length (now out) ≤ length (escaped (now src)) - from ⌝ }
+    ensures { λ _. ⌜ now (out .exit) ≡ part from (length (now (out .entry))) (escaped (now (src .entry))) ⌝ }
+{
+    let spot = find_spot(src, from);
+    let mut i = spot.at;
+    let mut gone = spot.gone;
+    let mut to = 0;
+    while to < out.len() {
+        let byte = src[i];
+        if gone {
+            out[to] = byte;
+            gone = false;
+            i += 1;
+            to += 1;
+        } else {
+            if is_marked(byte) {
+                out[to] = 92;
+                gone = true;
+                to += 1;
+            } else {
+                out[to] = byte;
+                i += 1;
+                to += 1;
+            }
+        }
+    }
+}
+
+// A part of the string in quotes, whose length is size.
+pub fn quote_part(src: &[u8], size: usize, from: usize, out: &mut [u8])
+    requires { ⌜ size ≡ length (quotedOf (now src)) ⌝ }
+    requires { ⌜ size ≤ 131074 ⌝ }
+    requires { ⌜ length (now out) ≤ size - from ⌝ }
+    ensures { λ _. ⌜ now (out .exit) ≡ part from (length (now (out .entry))) (quotedOf (now (src .entry))) ⌝ }
+{
+    let n = out.len();
+    let cuts = cut(1, size - 2, from, n);
+    let a = cuts.a;
+    let b = cuts.b;
+    let start = cuts.start;
+    fill(34, &mut out[0..a]);
+    escape_part(src, start, &mut out[a..b]);
+    fill(34, &mut out[b..n]);
+}

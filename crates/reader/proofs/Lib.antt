@@ -1,0 +1,5 @@
+pub mod CheckLaws
+pub mod EndLaws
+pub mod ScanLaws
+pub mod SkipLaws
+pub mod Tests

@@ -1,0 +1,25 @@
+-- `reader::directive::number_parameter` meets its contract. Assumes nothing.
+use borrow.Author.Needs.{needs}
+use Rattle.reader.proofs.directive.number_parameter.Statement.{statement}
+use Rattle.reader.proofs.directive.number_parameter.Tie as tie
+
+enum-told : tie.Need-enum-told
+enum-told c = search needs
+
+enum-known-r : tie.Need-enum-known-r
+enum-known-r c = search needs
+
+written-parameter-requires : tie.Need-written-parameter-requires
+written-parameter-requires c κs = search needs
+
+returns : tie.Need-returns
+returns c = search needs
+
+returns-2 : tie.Need-returns-2
+returns-2 c =
+    let by-r = c .before .before in
+    rw (by-r .r .given .1) (c .written-parameter .ensures)
+
+pub number-parameter-spec : {M : Type 1} → statement M
+number-parameter-spec =
+    tie.close (tie.spec enum-told enum-known-r written-parameter-requires returns returns-2)

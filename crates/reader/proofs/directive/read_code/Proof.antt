@@ -1,0 +1,120 @@
+-- `reader::directive::read_code` meets its contract. The loop's invariant: reading from start on is reading on at i
+-- with the modifiers that are seen. Assumes nothing.
+use mathlib.Core.Path.{_≡_, refl, sym, _∙_}
+use Prim.Native.Nat.{_-_, _≤_}
+use native.Mathlib.Omega.{arith}
+use borrow.Author.Needs.{needs}
+use lib.ListN.{length, drop}
+use Rattle.rules.proofs.Reading.{scan-end}
+use Rattle.rules.specs.Directive.{scan, modifiers, having, blank}
+use Rattle.reader.proofs.ScanLaws.{marked, colon-on, at-on, code-ends}
+use Rattle.reader.proofs.directive.read_code.Statement.{statement}
+use Rattle.reader.proofs.directive.read_code.Tie as tie
+
+abbrev Inv-loop : tie.InvT-loop
+Inv-loop text start ps colon₀ at₀ i₀ colon at i =
+    (scan modifiers (having blank ps) (drop start text) start ≡ scan modifiers (marked colon at ps) (drop i text) i)
+    × (i ≤ length text)
+
+abbrev μ-loop : tie.MeasureT-loop
+μ-loop text start ps colon₀ at₀ i₀ colon at i =
+    length text - i
+
+loop-holds : tie.Need-loop-holds Inv-loop μ-loop
+loop-holds c = (refl, (c .before .pre))
+
+shared-slice-read-b : tie.Need-shared-slice-read-b Inv-loop μ-loop
+shared-slice-read-b c = search needs
+
+is-new-requires : tie.Need-is-new-requires Inv-loop μ-loop
+is-new-requires c κs = search needs
+
+add-i : tie.Need-add-i Inv-loop μ-loop
+add-i c = search needs
+
+loop-less : tie.Need-loop-less Inv-loop μ-loop
+loop-less c = search needs
+
+loop-again : tie.Need-loop-again Inv-loop μ-loop
+loop-again c =
+    let entry = c .before .before .before .before .before .before in
+    let head = c .before .before .before .before in
+    let by-loop-test = c .before .before .before in (
+      head .loop .inv .0 ∙ colon-on (entry .args .text .now) (head .loop .i) (head .loop .colon) (head .loop .at)
+          (entry .args .ps) (by-loop-test .loop-test .taken)
+          (sym (c .before .is-new .ensures) ∙ c .if1 .taken),
+      omega arith,
+    )
+
+is-new-requires-2 : tie.Need-is-new-requires-2 Inv-loop μ-loop
+is-new-requires-2 c κs = search needs
+
+add-i-2 : tie.Need-add-i-2 Inv-loop μ-loop
+add-i-2 c = search needs
+
+loop-less-2 : tie.Need-loop-less-2 Inv-loop μ-loop
+loop-less-2 c = search needs
+
+loop-again-2 : tie.Need-loop-again-2 Inv-loop μ-loop
+loop-again-2 c =
+    let entry = c .before .before .before .before .before .before .before .before in
+    let head = c .before .before .before .before .before .before in
+    let by-loop-test = c .before .before .before .before .before in
+    let by-is-new = c .before .before .before in
+    let by-if1 = c .before .before in (
+      head .loop .inv .0 ∙ at-on (entry .args .text .now) (head .loop .i) (head .loop .colon) (head .loop .at)
+          (entry .args .ps) (by-loop-test .loop-test .taken)
+          (sym (by-is-new .is-new .ensures) ∙ by-if1 .if1 .left) (sym (c .before .is-new2 .ensures) ∙ c .if2 .taken),
+      omega arith,
+    )
+
+code-of-requires : tie.Need-code-of-requires Inv-loop μ-loop
+code-of-requires c κs = search needs
+
+add-after-code : tie.Need-add-after-code Inv-loop μ-loop
+add-after-code c = search needs
+
+after-code-requires : tie.Need-after-code-requires Inv-loop μ-loop
+after-code-requires c κs = search needs
+
+returns : tie.Need-returns Inv-loop μ-loop
+returns c =
+    let entry = c .before .before .before .before .before .before .before .before .before .before in
+    let head = c .before .before .before .before .before .before .before .before in
+    let by-loop-test = c .before .before .before .before .before .before .before in
+    let by-is-new = c .before .before .before .before .before in
+    let by-if1 = c .before .before .before .before in
+    let by-is-new2 = c .before .before .before in
+    let by-if2 = c .before .before in
+    sym (head .loop .inv .0 ∙ code-ends (entry .args .text .now) (head .loop .i) (head .loop .colon) (head .loop .at)
+    (entry .args .ps) (by-loop-test .loop-test .taken)
+    (sym (by-is-new .is-new .ensures) ∙ by-if1 .if1 .left) (sym (by-is-new2 .is-new2 .ensures) ∙ by-if2 .if2 .left)
+    (c .before .code-of .result) (c .before .code-of .ensures) (c .after-code .result) (c .after-code .ensures .0))
+
+returns-2 : tie.Need-returns-2 Inv-loop μ-loop
+returns-2 c =
+    let entry = c .before .before .before in
+    sym (c .before .loop .inv .0
+    ∙ scan-end (entry .args .text .now) (c .before .loop .i) modifiers _ (c .loop-test .left))
+
+pub read-code-spec : {M : Type 1} → statement M
+read-code-spec =
+    tie.close
+    (tie.spec
+    Inv-loop
+    μ-loop
+    loop-holds
+    shared-slice-read-b
+    is-new-requires
+    add-i
+    loop-less
+    loop-again
+    is-new-requires-2
+    add-i-2
+    loop-less-2
+    loop-again-2
+    code-of-requires
+    add-after-code
+    after-code-requires
+    returns
+    returns-2)

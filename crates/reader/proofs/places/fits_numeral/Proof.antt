@@ -1,0 +1,47 @@
+-- `fits_numeral` meets its contract: the same five tests in another order. Assumes nothing.
+use lib.Dec.{leb}
+use borrow.Author.Needs.{needs}
+use Rattle.reader.proofs.Tests.{both-five}
+use Rattle.reader.proofs.places.fits_numeral.Statement.{statement}
+use Rattle.reader.proofs.places.fits_numeral.Tie as tie
+
+suits-number-requires : tie.Need-suits-number-requires
+suits-number-requires c κs = search needs
+
+both-requires : tie.Need-both-requires
+both-requires c κs = search needs
+
+suits-character-requires : tie.Need-suits-character-requires
+suits-character-requires c κs = search needs
+
+suits-character-requires-2 : tie.Need-suits-character-requires-2
+suits-character-requires-2 c κs = search needs
+
+both-requires-2 : tie.Need-both-requires-2
+both-requires-2 c κs = search needs
+
+both-requires-3 : tie.Need-both-requires-3
+both-requires-3 c κs = search needs
+
+suits-number-requires-2 : tie.Need-suits-number-requires-2
+suits-number-requires-2 c κs = search needs
+
+both-requires-4 : tie.Need-both-requires-4
+both-requires-4 c κs = search needs
+
+returns : tie.Need-returns
+returns c = cc (both-five (leb (c .before .before .before .before .before .before .before .before .before .args .ps .count) 4) (c .before .before .before .before .before .before .before .suits-number .result) (c .before .before .before .before .before .suits-character .result) (c .before .before .before .before .suits-character2 .result) (c .before .suits-number2 .result))
+
+pub fits-numeral-spec : {M : Type 1} → statement M
+fits-numeral-spec =
+    tie.close
+    (tie.spec
+    suits-number-requires
+    both-requires
+    suits-character-requires
+    suits-character-requires-2
+    both-requires-2
+    both-requires-3
+    suits-number-requires-2
+    both-requires-4
+    returns)

@@ -1,0 +1,80 @@
+-- What the parts of the reader of a directive answer, in terms of the definition of reading.
+-- Assumes nothing: these are definitions.
+use Prim.Native.Nat.{ℕ, _+_, _≤_}
+use mathlib.Core.Path.{_≡_}
+use mathlib.Core.Bool.{Bool, true, false, cond}
+use mathlib.Core.List.{List}
+use lib.Dec.{ltb, eqb}
+use lib.ListN.{length, getD, drop}
+use Rattle.rules.specs.Choice.{both}
+use Rattle.rules.specs.Directive.{Reading, start, signed, whole, isDigit, blanks, skips, scan, afterStep, onStep}
+use Rattle.rules.specs.Directive.{going, skipped, pending}
+use Rattle.rules.specs.declared.Code.{Code}
+use Rattle.rules.specs.declared.Directive.{Directive}
+use Rattle.rules.specs.declared.Item.{Item}
+use Rattle.rules.specs.declared.Item.the-variants.{BadNumber, Unfinished}
+use Rattle.rules.specs.declared.Parameter.{Parameter}
+use Rattle.rules.specs.declared.Parameter.the-variants.{Number}
+use Rattle.reader.specs.declared.directive.NumberRead.{NumberRead}
+use Rattle.reader.specs.declared.directive.NumberRead.the-variants.{Bad as BadOne, Whole as WholeOne}
+use Rattle.reader.specs.declared.directive.ParameterRead.{ParameterRead}
+use Rattle.reader.specs.declared.directive.ParameterRead.the-variants.{Bad, Cut, Whole}
+
+abbrev pub digitAt : List ℕ → ℕ → Bool
+digitAt t i = both (ltb i (length t)) (isDigit (getD t i 0))
+
+abbrev pub commaAt : List ℕ → ℕ → Bool
+commaAt t i = both (ltb i (length t)) (eqb (getD t i 0) 44)
+
+abbrev pub greatestOf : Bool → ℕ
+greatestOf minus = cond minus 0 4096
+
+-- what follows a parameter that reading stands at the end of, from i on
+abbrev pub inside : Bool → (Bool → Item) → Item
+inside true on = on true
+inside false on = Unfinished
+
+abbrev pub afterAt : List ℕ → Reading → Directive → ℕ → Item
+afterAt t r d i =
+    inside (ltb i (length t))
+    (λ _. onStep (afterStep r d (getD t i 0)) (λ r₂ d₂. scan r₂ d₂ (drop (i + 1) t) (i + 1))
+    (λ d₂. going d₂ (i + 1 + skipped d₂ (drop (i + 1) t))))
+
+-- where reading stands after a parameter, written or not
+abbrev pub reading : Bool → Parameter → Reading
+reading true x = whole x
+reading false x = start
+
+abbrev pub numberParameter : NumberRead → ParameterRead
+numberParameter BadOne = Bad
+numberParameter (WholeOne n next) = Whole (Number n) true next
+
+-- how reading goes on
+abbrev pub onParameter : List ℕ → Directive → ParameterRead → Item
+onParameter t d Bad = BadNumber
+onParameter t d Cut = Unfinished
+onParameter t d (Whole x written next) = afterAt t (reading written x) d next
+
+-- a parameter that begins at i ends at next, and one that is not written is empty
+pub record Ends (t : List ℕ) (i : ℕ) (x : Parameter) (written : Bool) (next : ℕ) : Type 0 where
+  pub on : i ≤ next
+  pub within : next ≤ length t
+  pub empty : pending (reading written x) ≡ x
+
+abbrev pub Advances : List ℕ → ℕ → ParameterRead → Type 0
+Advances t i Bad = Unit {0}
+Advances t i Cut = Unit {0}
+Advances t i (Whole x written next) = Ends t i x written next
+
+-- r is the number whose digits begin at i
+pub record Numbers (t : List ℕ) (i : ℕ) (minus : Bool) (r : NumberRead) : Type 0 where
+  pub is : (d : Directive) → scan (signed minus) d (drop i t) i ≡ onParameter t d (numberParameter r)
+  pub advances : Advances t i (numberParameter r)
+
+-- r is the parameter that begins at i
+pub record Parametrises (t : List ℕ) (i : ℕ) (r : ParameterRead) : Type 0 where
+  pub is : (d : Directive) → scan start d (drop i t) i ≡ onParameter t d r
+  pub advances : Advances t i r
+
+abbrev pub skippedBy : Code → Bool → List ℕ → ℕ
+skippedBy code colon bs = cond (skips code colon) (blanks bs) 0

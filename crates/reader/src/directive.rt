@@ -1,0 +1,337 @@
+// One directive, read from left to right: parameters, modifiers, code.
+use crate::codes::code_of;
+use rules::Code;
+use rules::Directive;
+use rules::Form;
+use rules::Item;
+use rules::Parameter;
+use rules::Parameters;
+ghost use mathlib.Core.Path.{_≡_};
+ghost use mathlib.Core.Bool.{true, cond, not};
+ghost use Prim.Native.Nat.{_+_, _≤_, _<_};
+ghost use lib.Dec.{eqb};
+ghost use lib.ListN.{length, drop};
+ghost use Rattle.rules.specs.Choice.{both};
+ghost use Rattle.rules.specs.Directive.{withParameter, noParameters, isDigit, isBlank, blanks, blank, having, closed};
+ghost use Rattle.rules.specs.Directive.{scan, start as starting, modifiers, itemAt};
+ghost use Rattle.reader.specs.declared.directive.ParameterRead.the-variants.{Whole};
+ghost use Rattle.reader.specs.Scans.{digitAt, commaAt, greatestOf, Numbers, numberParameter, Parametrises};
+ghost use Rattle.reader.specs.Scans.{reading, skippedBy};
+
+// A number that is read: its value and the position after it, or a number that is refused.
+enum NumberRead {
+    Bad,
+    Whole { value: usize, next: usize },
+}
+
+// A parameter that is read, if one is written, and the position after it.
+enum ParameterRead {
+    Bad,
+    Cut,
+    Whole {
+        parameter: Parameter,
+        written: bool,
+        next: usize,
+    },
+}
+
+fn no_parameters() -> Parameters
+    ensures { λ r. ⌜ r ≡ noParameters ⌝ }
+{
+    Parameters {
+        count: 0,
+        first: Parameter::Default,
+        second: Parameter::Default,
+        third: Parameter::Default,
+        fourth: Parameter::Default,
+    }
+}
+
+// x where the parameter that comes has this place, else what was there.
+fn placed(count: usize, place: usize, x: Parameter, old: Parameter) -> Parameter
+    ensures { λ r. ⌜ r ≡ cond (eqb count place) x old ⌝ }
+{
+    if count == place {
+        return x;
+    }
+    old
+}
+
+// One parameter more; from the fifth on they are only counted.
+fn with_parameter(ps: Parameters, x: Parameter) -> Parameters
+    requires { ⌜ ps .count < 18446744073709551615 ⌝ }
+    ensures { λ r. ⌜ r ≡ withParameter ps x ⌝ }
+{
+    let count = ps.count;
+    let a = ps.first;
+    let b = ps.second;
+    let c = ps.third;
+    let d = ps.fourth;
+    let first = placed(count, 0, x, a);
+    let second = placed(count, 1, x, b);
+    let third = placed(count, 2, x, c);
+    let fourth = placed(count, 3, x, d);
+    Parameters {
+        count: count + 1,
+        first,
+        second,
+        third,
+        fourth,
+    }
+}
+
+fn is_digit(b: u8) -> bool
+    ensures { λ r. ⌜ r ≡ isDigit b ⌝ }
+{
+    if b < 48 { false } else { b <= 57 }
+}
+
+fn digit_at(text: &[u8], i: usize) -> bool
+    ensures { λ r. ⌜ r ≡ digitAt (now (text .entry)) i ⌝ }
+{
+    if i < text.len() {
+        let b = text[i];
+        is_digit(b)
+    } else {
+        false
+    }
+}
+
+fn wide(b: u8) -> usize
+    ensures { λ r. ⌜ (r ≡ b) × (r < 256) ⌝ }
+{
+    b as usize
+}
+
+// The greatest number that may be written, after a `-` or not.
+fn greatest(minus: bool) -> usize
+    ensures { λ r. ⌜ (r ≡ greatestOf minus) × (r ≤ 4096) ⌝ }
+{
+    if minus { 0 } else { 4096 }
+}
+
+// The number whose digits begin at start, after a sign or none. It is refused as soon as it leaves the range, and where
+// there is no digit.
+fn read_number(text: &[u8], start: usize, minus: bool) -> NumberRead
+    ensures { λ r. ⌜ Numbers (now (text .entry)) start minus r ⌝ }
+{
+    let most = greatest(minus);
+    let mut n: usize = 0;
+    let mut i = start;
+    while digit_at(text, i) {
+        n = n * 10 + (wide(text[i]) - 48);
+        if most < n {
+            return NumberRead::Bad;
+        }
+        i += 1;
+    }
+    if i == start {
+        return NumberRead::Bad;
+    }
+    NumberRead::Whole { value: n, next: i }
+}
+
+// A parameter that is written, up to next.
+fn written_parameter(x: Parameter, next: usize) -> ParameterRead
+    ensures { λ r. ⌜ r ≡ Whole x true next ⌝ }
+{
+    ParameterRead::Whole {
+        parameter: x,
+        written: true,
+        next,
+    }
+}
+
+// A number as a parameter.
+fn number_parameter(r: NumberRead) -> ParameterRead
+    ensures { λ x. ⌜ x ≡ numberParameter r ⌝ }
+{
+    match r {
+        NumberRead::Bad => ParameterRead::Bad,
+        NumberRead::Whole { value, next } => written_parameter(Parameter::Number(value), next),
+    }
+}
+
+// The parameter that begins at i, if one does.
+fn read_parameter(text: &[u8], i: usize) -> ParameterRead
+    ensures { λ r. ⌜ Parametrises (now (text .entry)) i r ⌝ }
+{
+    if text.len() <= i {
+        return ParameterRead::Cut;
+    }
+    let b = text[i];
+    if is_digit(b) {
+        return number_parameter(read_number(text, i, false));
+    }
+    let next = i + 1;
+    match b {
+        43 => number_parameter(read_number(text, next, false)),
+        45 => number_parameter(read_number(text, next, true)),
+        39 => {
+            if next < text.len() {
+                return written_parameter(Parameter::Character(text[next]), next + 1);
+            }
+            ParameterRead::Cut
+        }
+        118 | 86 => written_parameter(Parameter::Next, next),
+        35 => written_parameter(Parameter::Remaining, next),
+        _ => ParameterRead::Whole {
+            parameter: Parameter::Default,
+            written: false,
+            next: i,
+        },
+    }
+}
+
+fn is_blank(b: u8) -> bool
+    ensures { λ r. ⌜ r ≡ isBlank b ⌝ }
+{
+    if b == 32 {
+        return true;
+    }
+    if b < 9 { false } else { b <= 13 }
+}
+
+// The position after the blanks from start on.
+fn after_blanks(text: &[u8], start: usize) -> usize
+    requires { ⌜ start ≤ length (now text) ⌝ }
+    ensures { λ r. ⌜ (r ≡ start + blanks (drop start (now (text .entry)))) × (r ≤ length (now (text .entry))) ⌝ }
+{
+    let mut i = start;
+    while i < text.len() {
+        let b = text[i];
+        if !is_blank(b) {
+            return i;
+        }
+        i += 1;
+    }
+    i
+}
+
+// Where the text goes on after a code that ends at i.
+fn after_code(text: &[u8], code: Code, colon: bool, i: usize) -> usize
+    requires { ⌜ i ≤ length (now text) ⌝ }
+    ensures { λ r. ⌜ (r ≡ i + skippedBy code colon (drop i (now (text .entry)))) × (r ≤ length (now (text .entry))) ⌝ }
+{
+    match code {
+        Code::Writes(form) => match form {
+            Form::Fold => {
+                if colon {
+                    return i;
+                }
+                after_blanks(text, i)
+            }
+            _ => i,
+        },
+        _ => i,
+    }
+}
+
+// Whether b is a modifier that is not seen yet.
+fn is_new(b: u8, modifier: u8, seen: bool) -> bool
+    ensures { λ r. ⌜ r ≡ both (eqb b modifier) (not seen) ⌝ }
+{
+    if b == modifier { !seen } else { false }
+}
+
+// The modifiers and the code, from start on.
+fn read_code(text: &[u8], start: usize, ps: Parameters) -> Item
+    requires { ⌜ start ≤ length (now text) ⌝ }
+    ensures { λ r. ⌜ r ≡ scan modifiers (having blank ps) (drop start (now (text .entry))) start ⌝ }
+{
+    let mut colon = false;
+    let mut at = false;
+    let mut i = start;
+    while i < text.len() {
+        let b = text[i];
+        if is_new(b, 58, colon) {
+            colon = true;
+            i += 1;
+        } else if is_new(b, 64, at) {
+            at = true;
+            i += 1;
+        } else {
+            let code = code_of(b);
+            let next = after_code(text, code, colon, i + 1);
+            return Item::Written(Directive {
+                code,
+                colon,
+                at,
+                parameters: ps,
+                next,
+            });
+        }
+    }
+    Item::Unfinished
+}
+
+// The parameters where the modifiers or the code begin, with the last one, if it is written or stands after a comma.
+fn close_parameters(ps: Parameters, x: Parameter, written: bool) -> Parameters
+    requires { ⌜ ps .count < 18446744073709551615 ⌝ }
+    ensures { λ r. ⌜ r ≡ closed (reading written x) ps ⌝ }
+{
+    if written {
+        return with_parameter(ps, x);
+    }
+    if ps.count == 0 {
+        return ps;
+    }
+    with_parameter(ps, Parameter::Default)
+}
+
+fn comma_at(text: &[u8], i: usize) -> bool
+    ensures { λ r. ⌜ r ≡ commaAt (now (text .entry)) i ⌝ }
+{
+    if i < text.len() {
+        let b = text[i];
+        b == 44
+    } else {
+        false
+    }
+}
+
+// The directive whose tilde stands before start.
+fn read_directive(text: &[u8], start: usize) -> Item
+    requires { ⌜ start ≤ length (now text) ⌝ }
+    ensures { λ r. ⌜ r ≡ scan starting blank (drop start (now (text .entry))) start ⌝ }
+{
+    let mut ps = no_parameters();
+    let mut i = start;
+    loop {
+        let r = read_parameter(text, i);
+        match r {
+            ParameterRead::Bad => {
+                return Item::BadNumber;
+            }
+            ParameterRead::Cut => {
+                return Item::Unfinished;
+            }
+            ParameterRead::Whole {
+                parameter,
+                written,
+                next,
+            } => {
+                if comma_at(text, next) {
+                    ps = with_parameter(ps, parameter);
+                    i = next + 1;
+                } else {
+                    return read_code(text, next, close_parameters(ps, parameter, written));
+                }
+            }
+        }
+    }
+}
+
+// What stands at p.
+pub fn item_at(text: &[u8], p: usize) -> Item
+    ensures { λ r. ⌜ r ≡ itemAt (now (text .entry)) p ⌝ }
+{
+    if text.len() <= p {
+        return Item::End;
+    }
+    let b = text[p];
+    if b == 126 {
+        return read_directive(text, p + 1);
+    }
+    Item::Literal(b)
+}

@@ -1,0 +1,7 @@
+pub mod Demand
+pub mod Encode
+pub mod Examples
+pub mod Plain
+pub mod Use
+pub mod Vet
+pub mod Worst

@@ -1,0 +1,4 @@
+pub mod WorkLaws
+pub mod SettleLaws
+pub mod Ranges
+pub mod Answers

@@ -1,0 +1,185 @@
+//! What holds of every answer, over drawn formats and tables.
+
+mod common;
+use common::*;
+use reference::{check_format, check_table, encode, format, vet, Value};
+
+struct Random(u64);
+
+impl Random {
+    fn below(&mut self, bound: usize) -> usize {
+        self.0 = self
+            .0
+            .wrapping_mul(6364136223846793005)
+            .wrapping_add(1442695040888963407);
+        (self.0 >> 33) as usize % bound
+    }
+}
+
+const PARTS: &[&str] = &[
+    "~",
+    "a",
+    "s",
+    "d",
+    "x",
+    "c",
+    "p",
+    "*",
+    "%",
+    "_",
+    "[",
+    "]",
+    ";",
+    "{",
+    "}",
+    "^",
+    "\n",
+    ":",
+    "@",
+    ",",
+    "v",
+    "#",
+    "'",
+    "0",
+    "1",
+    "5",
+    "-",
+    " ",
+    "q",
+    "~a",
+    "~d",
+    "~s",
+    "~p",
+    "~:p",
+    "~[",
+    "~]",
+    "~;",
+    "~:;",
+    "~{",
+    "~@{",
+    "~}",
+    "~^",
+    "~:[",
+    "~@[",
+    "~*",
+    "~:*",
+    "~@*",
+    "~2{",
+    "~v,va",
+    "~vc",
+    "~#_",
+    "~{~a~}",
+    "~@{~a~^,~}",
+    "~[x~;y~:;z~]",
+];
+
+fn text(random: &mut Random) -> String {
+    (0..random.below(9))
+        .map(|_| PARTS[random.below(PARTS.len())])
+        .collect()
+}
+
+fn value(random: &mut Random, depth: usize) -> Value {
+    match random.below(if depth == 0 { 4 } else { 6 }) {
+        0 => boolean(random.below(2) == 1),
+        1 => int(random.below(6) as i64 - 1),
+        2 => character(random.below(128) as u8),
+        3 => string(["", "ab", "\"q\\"][random.below(3)]),
+        _ => Value::List(
+            (0..random.below(4))
+                .map(|_| value(random, depth - 1))
+                .collect(),
+        ),
+    }
+}
+
+#[test]
+fn answers_hold_together() {
+    let mut random = Random(3);
+    let mut seen = [0; 11];
+    for _ in 0..200_000 {
+        let text = text(&mut random);
+        let args: Vec<Value> = (0..random.below(5))
+            .map(|_| value(&mut random, 2))
+            .collect();
+        let table = encode(&args);
+        assert_eq!(check_table(&table), Ok(()));
+        let whole = format(text.as_bytes(), &table, ROOM);
+        seen[whole.code as usize] += 1;
+        assert!(whole.steps <= 65_536);
+        assert!(whole.code == 9 || whole.position <= text.len());
+        match check_format(text.as_bytes()) {
+            Err((code, position)) => {
+                assert_eq!(
+                    (whole.code, whole.position, whole.steps),
+                    (code, position, 0),
+                    "{text:?}"
+                );
+                assert!(whole.text.is_empty());
+                assert_eq!(text.as_bytes()[position], b'~');
+            }
+            Ok(()) => {
+                assert!(matches!(whole.code, 0 | 6..=10));
+                if matches!(whole.code, 6..=8) {
+                    assert_eq!(text.as_bytes()[whole.position], b'~');
+                }
+                // Less room keeps a beginning of the text; enough changes nothing.
+                let room = random.below(whole.text.len() + 1);
+                let less = format(text.as_bytes(), &table, room);
+                assert!(whole.text.starts_with(&less.text), "{text:?}");
+                assert!(less.text.len() <= room && less.steps <= whole.steps);
+                assert!(less == whole || less.code == 10, "{text:?}");
+                assert_eq!(
+                    format(text.as_bytes(), &table, whole.text.len()).code == 10,
+                    whole.code == 10
+                );
+            }
+        }
+        // Vet agrees with this table about its kinds.
+        let kinds: Vec<u8> = args.iter().map(tag).collect();
+        let vetted = vet(text.as_bytes(), &kinds, 4);
+        match vetted.code {
+            0 => assert!(
+                whole.code == 0 && whole.text.len() <= vetted.count,
+                "{text:?}"
+            ),
+            11 => {}
+            _ => assert_eq!(
+                (whole.code, whole.position),
+                (vetted.code, vetted.position),
+                "{text:?}"
+            ),
+        }
+    }
+    for code in [0, 3, 4, 5, 6, 7, 8, 9] {
+        assert!(seen[code] > 20, "code {code}: {}", seen[code]);
+    }
+}
+
+fn tag(value: &Value) -> u8 {
+    match value {
+        Value::Bool(_) => 0,
+        Value::Int(_) => 1,
+        Value::Char(_) => 2,
+        Value::Str(_) => 3,
+        Value::List(_) => 4,
+    }
+}
+
+#[test]
+fn any_bytes_are_answered() {
+    let mut random = Random(5);
+    for _ in 0..100_000 {
+        let text: Vec<u8> = (0..random.below(12))
+            .map(|_| random.below(256) as u8)
+            .collect();
+        let mut table = encode(&[value(&mut random, 1), value(&mut random, 1)]);
+        for _ in 0..random.below(3) {
+            let at = random.below(table.len());
+            table[at] = random.below(256) as u8;
+        }
+        table.truncate(table.len() - random.below(2));
+        let answer = format(&text, &table, 64);
+        assert_eq!(answer.code == 1, check_table(&table).is_err());
+    }
+}

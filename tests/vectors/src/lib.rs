@@ -1,0 +1,354 @@
+//! The cases of formats.txt, lines.txt and tables.txt. README.md has their
+//! notation. A line that is not in it is a panic that names the line.
+
+#![forbid(unsafe_code)]
+
+use reference::Value;
+
+/// Where a case stands: its file, its line and what it is about.
+#[derive(Clone, Debug)]
+pub struct Place {
+    pub file: &'static str,
+    pub line: usize,
+    pub why: String,
+}
+
+/// A format text, and the code and position of its check.
+pub struct FormatCase {
+    pub place: Place,
+    pub code: u32,
+    pub position: usize,
+    pub text: Vec<u8>,
+}
+
+/// The bytes of a table, and the code and position of its check.
+pub struct TableCase {
+    pub place: Place,
+    pub code: u32,
+    pub position: usize,
+    pub table: Vec<u8>,
+}
+
+/// A call of format, and its whole answer.
+pub struct LineCase {
+    pub place: Place,
+    pub code: u32,
+    pub position: usize,
+    pub steps: usize,
+    pub text: Vec<u8>,
+    pub format: Vec<u8>,
+    pub arguments: Vec<Value>,
+    pub room: usize,
+}
+
+pub fn formats() -> Vec<FormatCase> {
+    cases(
+        "formats.txt",
+        include_str!("../formats.txt"),
+        |place, fields| {
+            let [code, position, text] = split(fields, " ", &place);
+            FormatCase {
+                code: number(code, &place),
+                position: number(position, &place),
+                text: text_field(text, &place),
+                place,
+            }
+        },
+    )
+}
+
+pub fn tables() -> Vec<TableCase> {
+    cases(
+        "tables.txt",
+        include_str!("../tables.txt"),
+        |place, fields| {
+            let [code, position, hex] = split(fields, " ", &place);
+            TableCase {
+                code: number(code, &place),
+                position: number(position, &place),
+                table: hex_field(hex, &place),
+                place,
+            }
+        },
+    )
+}
+
+pub fn lines() -> Vec<LineCase> {
+    cases(
+        "lines.txt",
+        include_str!("../lines.txt"),
+        |place, fields| {
+            let [answer, format, arguments, room] = split(fields, " | ", &place);
+            let [code, position, steps, text] = split(answer, " ", &place);
+            LineCase {
+                code: number(code, &place),
+                position: number(position, &place),
+                steps: number(steps, &place),
+                text: text_field(text, &place),
+                format: text_field(format, &place),
+                arguments: arguments_field(arguments, &place),
+                room: number(room, &place),
+                place,
+            }
+        },
+    )
+}
+
+fn cases<T>(file: &'static str, content: &str, read: impl Fn(Place, &str) -> T) -> Vec<T> {
+    let read_line = |(index, line): (usize, &str)| {
+        let line_number = index + 1;
+        let Some((fields, why)) = line.split_once("  #") else {
+            panic!("{file}:{line_number}: no comment");
+        };
+        let why = why.trim().to_string();
+        read(
+            Place {
+                file,
+                line: line_number,
+                why,
+            },
+            fields,
+        )
+    };
+    content.lines().enumerate().map(read_line).collect()
+}
+
+/// The fields, exactly so many; the last may hold the separator.
+fn split<'a, const N: usize>(fields: &'a str, separator: &str, place: &Place) -> [&'a str; N] {
+    let parts: Vec<&str> = fields.splitn(N, separator).collect();
+    parts
+        .try_into()
+        .unwrap_or_else(|_| panic!("{place:?}: not {N} fields"))
+}
+
+fn number<T: std::str::FromStr>(digits: &str, place: &Place) -> T {
+    digits
+        .parse()
+        .unwrap_or_else(|_| panic!("{place:?}: {digits:?} is no number"))
+}
+
+fn text_field(field: &str, place: &Place) -> Vec<u8> {
+    if field == r"\e" {
+        return Vec::new();
+    }
+    let mut reader = Reader {
+        rest: field.as_bytes(),
+        place,
+    };
+    let mut text = Vec::new();
+    while !reader.rest.is_empty() {
+        text.extend(reader.unit());
+    }
+    text
+}
+
+fn arguments_field(field: &str, place: &Place) -> Vec<Value> {
+    if field == r"\e" {
+        return Vec::new();
+    }
+    let mut reader = Reader {
+        rest: field.as_bytes(),
+        place,
+    };
+    let mut arguments = vec![reader.value()];
+    while !reader.rest.is_empty() {
+        reader.expect(b' ');
+        arguments.push(reader.value());
+    }
+    arguments
+}
+
+fn hex_field(field: &str, place: &Place) -> Vec<u8> {
+    if field == r"\e" {
+        return Vec::new();
+    }
+    let mut reader = Reader {
+        rest: field.as_bytes(),
+        place,
+    };
+    let mut bytes = Vec::new();
+    while !reader.rest.is_empty() {
+        if reader.take_if(b'\\') {
+            reader.expect(b'*');
+            let times = reader.decimal();
+            reader.expect(b'(');
+            let mut unit = Vec::new();
+            while !reader.take_if(b')') {
+                unit.push(reader.hex_byte());
+            }
+            bytes.extend(unit.repeat(times));
+        } else {
+            bytes.push(reader.hex_byte());
+        }
+    }
+    bytes
+}
+
+struct Reader<'a> {
+    rest: &'a [u8],
+    place: &'a Place,
+}
+
+impl Reader<'_> {
+    fn byte(&mut self) -> u8 {
+        let Some((&first, rest)) = self.rest.split_first() else {
+            panic!("{:?}: ends too early", self.place);
+        };
+        self.rest = rest;
+        first
+    }
+
+    fn take_if(&mut self, byte: u8) -> bool {
+        let there = self.rest.first() == Some(&byte);
+        if there {
+            self.rest = &self.rest[1..];
+        }
+        there
+    }
+
+    fn expect(&mut self, byte: u8) {
+        let got = self.byte();
+        assert_eq!(got, byte, "{:?}", self.place);
+    }
+
+    fn decimal(&mut self) -> usize {
+        let digits = self
+            .rest
+            .iter()
+            .take_while(|byte| byte.is_ascii_digit())
+            .count();
+        let (head, rest) = self.rest.split_at(digits);
+        self.rest = rest;
+        number(std::str::from_utf8(head).expect("digits"), self.place)
+    }
+
+    fn hex_byte(&mut self) -> u8 {
+        let mut digit = || match self.byte() {
+            byte @ b'0'..=b'9' => byte - b'0',
+            byte @ b'a'..=b'f' => byte - b'a' + 10,
+            byte => panic!("{:?}: {byte} is no hexadecimal digit", self.place),
+        };
+        digit() * 16 + digit()
+    }
+
+    /// A byte as it stands, an escape, or a repetition of one of these.
+    fn unit(&mut self) -> Vec<u8> {
+        let byte = self.byte();
+        if byte != b'\\' {
+            return vec![byte];
+        }
+        match self.byte() {
+            b'n' => b"\n".to_vec(),
+            b't' => b"\t".to_vec(),
+            b'r' => b"\r".to_vec(),
+            b's' => b" ".to_vec(),
+            b'h' => b"#".to_vec(),
+            b'\\' => b"\\".to_vec(),
+            b'x' => vec![self.hex_byte()],
+            b'*' => {
+                let times = self.decimal();
+                self.expect(b'(');
+                let unit = self.unit();
+                self.expect(b')');
+                unit.repeat(times)
+            }
+            other => panic!("{:?}: unknown escape {other}", self.place),
+        }
+    }
+
+    fn value(&mut self) -> Value {
+        if self.take_if(b'"') {
+            let mut text = Vec::new();
+            while !self.take_if(b'"') {
+                text.extend(self.unit());
+            }
+            return Value::Str(text);
+        }
+        if self.take_if(b'(') {
+            let mut members = Vec::new();
+            while !self.take_if(b')') {
+                if !members.is_empty() {
+                    self.expect(b' ');
+                }
+                members.push(self.value());
+            }
+            return Value::List(members);
+        }
+        if self.take_if(b'#') {
+            return match self.byte() {
+                b't' => Value::Bool(true),
+                b'f' => Value::Bool(false),
+                b'\\' => {
+                    self.expect(b'x');
+                    Value::Char(self.hex_byte())
+                }
+                other => panic!("{:?}: unknown value #{other}", self.place),
+            };
+        }
+        let length = self
+            .rest
+            .iter()
+            .take_while(|byte| !b" )".contains(byte))
+            .count();
+        let (head, rest) = self.rest.split_at(length);
+        self.rest = rest;
+        Value::Int(number(
+            std::str::from_utf8(head).expect("a number"),
+            self.place,
+        ))
+    }
+}
+
+#[cfg(test)]
+mod tests {
+    use super::*;
+
+    fn place() -> Place {
+        Place {
+            file: "here",
+            line: 1,
+            why: String::new(),
+        }
+    }
+
+    #[test]
+    fn the_notation() {
+        assert_eq!(text_field(r"\e", &place()), b"");
+        assert_eq!(
+            text_field(r"a\n\t\r\\\s\h\x7c\*3(b)\*2(\s)\*2())", &place()),
+            b"a\n\t\r\\ #|bbb  ))"
+        );
+        assert_eq!(
+            hex_field(r"00\*2(01ff)7f", &place()),
+            [0, 1, 255, 1, 255, 127]
+        );
+        assert_eq!(arguments_field(r"\e", &place()), []);
+        let read = arguments_field(r#"-5 "a\s)" #\x41 #t (1 () (#f))"#, &place());
+        let expected = [
+            Value::Int(-5),
+            Value::Str(b"a )".to_vec()),
+            Value::Char(65),
+            Value::Bool(true),
+            Value::List(vec![
+                Value::Int(1),
+                Value::List(vec![]),
+                Value::List(vec![Value::Bool(false)]),
+            ]),
+        ];
+        assert_eq!(read, expected);
+    }
+
+    #[test]
+    fn every_file_is_whole() {
+        assert_eq!(
+            formats().len(),
+            include_str!("../formats.txt").lines().count()
+        );
+        assert_eq!(
+            tables().len(),
+            include_str!("../tables.txt").lines().count()
+        );
+        assert_eq!(lines().len(), include_str!("../lines.txt").lines().count());
+        assert!(formats().len() >= 855 && tables().len() >= 132 && lines().len() >= 367);
+    }
+}

@@ -1,0 +1,45 @@
+//! The reference formatter and the cases, each written from document 01
+//! alone, agree on every case.
+
+use reference::{check_format, check_table, encode, format, Answer};
+use vectors::{formats, lines, tables};
+
+fn code_and_position(result: Result<(), (u32, usize)>) -> (u32, usize) {
+    result.err().unwrap_or((0, 0))
+}
+
+#[test]
+fn format_texts() {
+    let cases = formats();
+    for case in &cases {
+        let answer = code_and_position(check_format(&case.text));
+        assert_eq!(answer, (case.code, case.position), "{:?}", case.place);
+    }
+    println!("formats.txt: {} format texts agree", cases.len());
+}
+
+#[test]
+fn table_bytes() {
+    let cases = tables();
+    for case in &cases {
+        let answer = code_and_position(check_table(&case.table).map_err(|position| (1, position)));
+        assert_eq!(answer, (case.code, case.position), "{:?}", case.place);
+    }
+    println!("tables.txt: {} tables agree", cases.len());
+}
+
+#[test]
+fn calls() {
+    let cases = lines();
+    for case in &cases {
+        let expected = Answer {
+            code: case.code,
+            position: case.position,
+            steps: case.steps,
+            text: case.text.clone(),
+        };
+        let answer = format(&case.format, &encode(&case.arguments), case.room);
+        assert_eq!(answer, expected, "{:?}", case.place);
+    }
+    println!("lines.txt: {} calls agree", cases.len());
+}
