@@ -13,40 +13,40 @@ use Rattle.rules.specs.Job.{inPairs, formatEnd, formatIn, tableIn, isWhole, hex
 use Rattle.rules.specs.Table.{be16At}
 use Rattle.rules.proofs.AnswerBounds.{answer-within}
 use Rattle.rules.proofs.JobLaws.{line-short}
-use Rattle.lines.specs.Written.{Written, Decoded}
-use Rattle.lines.proofs.Hexing.{written-then}
+use Rattle.lines.specs.Front.{AtFront, Decoded}
+use Rattle.lines.proofs.Hexing.{front-then}
 
 -- another name for what is written
-written-as : {b a t u : List ℕ} {n : ℕ} → t ≡ u → Written b a t n → Written b a u n
-written-as e w = rw e at w
+front-as : {b a t u : List ℕ} {n : ℕ} → t ≡ u → AtFront b a t n → AtFront b a u n
+front-as e w = rw e at w
 
 -- the numbers of an answer take 26 digits
 module _ (code position steps count : ℕ) {b a numbers : List ℕ} {n : ℕ} (e : numbers ≡ numbersOf code position steps count)
-    (w : Written b a (take 0 b ++ hexOf numbers) n) where
+    (w : AtFront b a (take 0 b ++ hexOf numbers) n) where
   pub numbers-end : n ≡ 26
   unfolding hexOf
   numbers-end = w .count-is ∙ ap (λ (l : List ℕ). length (hexOf l)) e
 
-  pub numbers-then : {c : List ℕ} (text : List ℕ) {m : ℕ} → Written a c (take n a ++ hexOf text) m
-      → Written b c (hexOf (numbersOf code position steps count ++ text)) m
-  numbers-then text v = written-as (ap (λ (l : List ℕ). hexOf (l ++ text)) e) (written-then numbers text w v)
+  pub numbers-then : {c : List ℕ} (text : List ℕ) {m : ℕ} → AtFront a c (take n a ++ hexOf text) m
+      → AtFront b c (hexOf (numbersOf code position steps count ++ text)) m
+  numbers-then text v = front-as (ap (λ (l : List ℕ). hexOf (l ++ text)) e) (front-then numbers text w v)
 
 -- a text fits its room
 pub text-within : {format table before after : List ℕ} {code position steps count : ℕ}
     → Answers format table before after code position steps count → count ≤ length before
-text-within {format} {table} {before} a = omega (arith, a .written-is, answer-within format table (length before) .text-fits)
+text-within {format} {table} {before} a = omega (arith, a .written-is, answer-within format table (length before) .text-in-room)
 
 end-is : (frame : List ℕ) {x y : ℕ} → x ≡ getD frame 0 0 → y ≡ getD frame 1 0 → 2 + x * 256 + y ≡ formatEnd frame
 end-is frame p q = omega arith
 
 module _ (frame : List ℕ) {b a : List ℕ} {n : ℕ} where
   -- bytes that do not hold the length, or not the whole format
-  pub no-length : length frame < 2 → Written b a noFrame n → Written b a (answerFrame frame) n
+  pub no-length : length frame < 2 → AtFront b a noFrame n → AtFront b a (answerFrame frame) n
   unfolding answerFrame isWhole
   no-length h w = rw (lt-leb 2 (length frame) h) w
 
   module _ {x y : ℕ} (p : x ≡ getD frame 0 0) (q : y ≡ getD frame 1 0) (long : 2 ≤ length frame) where
-    pub cut-short : length frame < 2 + x * 256 + y → Written b a noFrame n → Written b a (answerFrame frame) n
+    pub cut-short : length frame < 2 + x * 256 + y → AtFront b a noFrame n → AtFront b a (answerFrame frame) n
     unfolding answerFrame isWhole
     cut-short h w =
         let short : length frame < formatEnd frame = omega (arith, end-is frame p q) in
@@ -57,8 +57,8 @@ module _ (frame : List ℕ) {b a : List ℕ} {n : ℕ} where
         → Answers (take (2 + x * 256 + y - 2) (drop 2 frame)) (take (length frame - (2 + x * 256 + y)) (drop (2 + x * 256 + y) frame))
         before after code position steps count
         → length before ≡ 16384
-        → Written b a (hexOf (numbersOf code position steps count ++ take (count - 0) after)) n
-        → Written b a (answerFrame frame) n
+        → AtFront b a (hexOf (numbersOf code position steps count ++ take (count - 0) after)) n
+        → AtFront b a (answerFrame frame) n
     unfolding answerFrame isWhole answerBytes
     frame-answered {before} {after} {code} {position} {steps} {count} h answers room w =
         let whole : formatEnd frame ≤ length frame = omega (arith, end-is frame p q) in
@@ -82,24 +82,24 @@ module _ (frame : List ℕ) {b a : List ℕ} {n : ℕ} where
         rw (le-leb 2 (length frame) long, le-leb (formatEnd frame) (length frame) whole) (rw (text, c, p, s, counted) at w)
 
 module _ (line : List ℕ) {b a : List ℕ} {n : ℕ} where
-  pub too-long : 65535 < length line → Written b a noFrame n → Written b a (answerLine line) n
+  pub too-long : 65535 < length line → AtFront b a noFrame n → AtFront b a (answerLine line) n
   unfolding answerLine
   too-long h w = rw (lt-leb (length line) 65535 h) w
 
   module _ {frame : List ℕ} {count : ℕ} {r : Bool} (h : length line ≤ 65535) (d : Decoded line frame count r) where
-    pub not-digits : r ≡ false → Written b a noFrame n → Written b a (answerLine line) n
+    pub not-digits : r ≡ false → AtFront b a noFrame n → AtFront b a (answerLine line) n
     unfolding answerLine
     not-digits e w =
-        let f : inPairs line ≡ false = sym (d .answer-is) ∙ e in
+        let f : inPairs line ≡ false = sym (d .paired-is) ∙ e in
         rw (le-leb (length line) 65535 h, f) w
 
-    pub line-answered : r ≡ true → Written b a (answerFrame (take (count - 0) frame)) n → Written b a (answerLine line) n
+    pub line-answered : r ≡ true → AtFront b a (answerFrame (take (count - 0) frame)) n → AtFront b a (answerLine line) n
     unfolding answerLine
     line-answered e w =
-        let t : inPairs line ≡ true = sym (d .answer-is) ∙ e in
+        let t : inPairs line ≡ true = sym (d .paired-is) ∙ e in
         let here : count - 0 ≡ count = omega arith in
         rw (le-leb (length line) 65535 h, t) (rw (here, d .bytes-are t) at w)
 
--- the longest answer
-pub longest : (line : List ℕ) {b a : List ℕ} {n : ℕ} → Written b a (answerLine line) n → n ≤ 32794
-longest line w = omega (arith, w .count-is, line-short line)
+-- the longest-answer answer
+pub longest-answer : (line : List ℕ) {b a : List ℕ} {n : ℕ} → AtFront b a (answerLine line) n → n ≤ 32794
+longest-answer line w = omega (arith, w .count-is, line-short line)

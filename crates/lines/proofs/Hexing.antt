@@ -10,11 +10,11 @@ use lib.Seq.{drop-cons, set-at, append-snoc, length-take-le, take-all, take-at, 
 use Rattle.rules.specs.Job.{hexOf}
 use Rattle.rules.specs.Number.{digitByte}
 use Rattle.rules.proofs.JobLaws.{hex-next, hex-append}
-use Rattle.lines.specs.Written.{Written}
+use Rattle.lines.specs.Front.{AtFront}
 
 -- a byte just behind what is written
-pub write-next : {b a t : List ℕ} {n : ℕ} (x : ℕ) → Written b a t n → n < length b → Written b (set a n x) (t ++ (x ∷ [])) (n + 1)
-write-next {b} {a} {t} {n} x w h =
+pub front-next : {b a t : List ℕ} {n : ℕ} (x : ℕ) → AtFront b a t n → n < length b → AtFront b (set a n x) (t ++ (x ∷ [])) (n + 1)
+front-next {b} {a} {t} {n} x w h =
     record {
       count-is = simp length-append (omega (arith, w .count-is));
       buffer-is =
@@ -23,10 +23,10 @@ write-next {b} {a} {t} {n} x w h =
     }
 
 -- and two
-pub write-two : {b a t : List ℕ} {n : ℕ} (x y : ℕ) → Written b a t n → n + 1 < length b
-    → Written b (set (set a n x) (n + 1) y) (t ++ (x ∷ y ∷ [])) (n + 2)
-write-two {b} {a} {t} {n} x y w h =
-    let two = write-next y (write-next x w (omega arith)) h in
+pub front-two : {b a t : List ℕ} {n : ℕ} (x y : ℕ) → AtFront b a t n → n + 1 < length b
+    → AtFront b (set (set a n x) (n + 1) y) (t ++ (x ∷ y ∷ [])) (n + 2)
+front-two {b} {a} {t} {n} x y w h =
+    let two = front-next y (front-next x w (omega arith)) h in
     let e : (t ++ (x ∷ [])) ++ (y ∷ []) ≡ t ++ (x ∷ y ∷ []) = append-assoc t (x ∷ []) (y ∷ []) in
     record {
       count-is = simp length-append (omega (arith, w .count-is));
@@ -36,21 +36,21 @@ write-two {b} {a} {t} {n} x y w h =
     }
 
 -- nothing is written yet
-pub write-none : (b : List ℕ) → Written b b [] 0
-write-none b = record { count-is = refl; buffer-is = refl }
+pub front-none : (b : List ℕ) → AtFront b b [] 0
+front-none b = record { count-is = refl; buffer-is = refl }
 
 -- what is written keeps the length of the buffer, where it fits
-pub written-length : {b a t : List ℕ} {n : ℕ} → Written b a t n → n ≤ length b → length a ≡ length b
-written-length {b} {a} {t} {n} w h = rw (w .buffer-is) (simp (length-append, length-drop) (omega (arith, w .count-is)))
+pub front-length : {b a t : List ℕ} {n : ℕ} → AtFront b a t n → n ≤ length b → length a ≡ length b
+front-length {b} {a} {t} {n} w h = rw (w .buffer-is) (simp (length-append, length-drop) (omega (arith, w .count-is)))
 
 -- and it fits, where the length is kept
-pub written-fits : {b a t : List ℕ} {n : ℕ} → Written b a t n → length a ≡ length b → n ≤ length b
-written-fits {b} {a} {t} {n} w h =
+pub front-fits : {b a t : List ℕ} {n : ℕ} → AtFront b a t n → length a ≡ length b → n ≤ length b
+front-fits {b} {a} {t} {n} w h =
     omega (arith, simp (length-append, length-drop) at (ap length (w .buffer-is)), w .count-is)
 
 -- Bytes in hexadecimal, k of them written from `at` on, up to `to`
 pub record Hexing (bytes before : List ℕ) (at : ℕ) (out : List ℕ) (to k : ℕ) : Type 0 where
-  pub written : Written before out (take at before ++ hexOf (take k bytes)) to
+  pub written : AtFront before out (take at before ++ hexOf (take k bytes)) to
   pub place : to ≡ at + 2 * k
   pub within : k ≤ length bytes
   pub same : length out ≡ length before
@@ -81,19 +81,19 @@ module _ {bytes before : List ℕ} {at : ℕ} (room : at + 2 * length bytes ≤ 
         (append-assoc (take at before) (hexOf (take k bytes)) (digitByte (getD bytes k 0 / 16) ∷ digitByte (getD bytes k 0 % 16) ∷ []))
         in
         record {
-          written = rw e at (write-two x y (s .written) (hex-room h));
+          written = rw e at (front-two x y (s .written) (hex-room h));
           place = omega (arith, s .place);
           within = omega arith;
           same = simp length-set (s .same);
         }
 
-    pub hex-all : length bytes ≤ k → Written before out (take at before ++ hexOf bytes) to
+    pub hex-all : length bytes ≤ k → AtFront before out (take at before ++ hexOf bytes) to
     hex-all h = rw (take-all k bytes h) at (s .written)
 
 -- the numbers of an answer, and then its text
-pub written-then : {b a e : List ℕ} {n m : ℕ} (numbers text : List ℕ) → Written b a (take 0 b ++ hexOf numbers) n
-    → Written a e (take n a ++ hexOf text) m → Written b e (hexOf (numbers ++ text)) m
-written-then {b} {a} {e} {n} {m} numbers text w v =
+pub front-then : {b a e : List ℕ} {n m : ℕ} (numbers text : List ℕ) → AtFront b a (take 0 b ++ hexOf numbers) n
+    → AtFront a e (take n a ++ hexOf text) m → AtFront b e (hexOf (numbers ++ text)) m
+front-then {b} {a} {e} {n} {m} numbers text w v =
     let front : take n a ≡ hexOf numbers = rw (w .buffer-is) (take-at (hexOf numbers) (drop n b) n (sym (w .count-is))) in
     let whole : take n a ++ hexOf text ≡ hexOf (numbers ++ text) = rw (hex-append numbers text, front) in
     let reach : m ≡ n + length (hexOf text) =

@@ -9,7 +9,7 @@ ghost use Prim.Native.Nat.{_+_, _*_, _/_, _%_, _≤_, _<_};
 ghost use lib.ListN.{length, take};
 ghost use Rattle.rules.specs.Job.{digitValue, hexOf, numbersOf, noFrame, answerFrame, answerLine};
 ghost use Rattle.rules.specs.Number.{digitByte};
-ghost use Rattle.lines.specs.Written.{Written, Decoded};
+ghost use Rattle.lines.specs.Front.{AtFront, Decoded};
 
 // The value of a hexadecimal digit of either case, and 16 where the byte is none.
 fn digit_value(b: u8) -> u8
@@ -62,7 +62,7 @@ fn decode(line: &[u8], frame: &mut [u8]) -> bool
 }
 
 // The byte of a digit, in lower case.
-fn digit_byte(digit: u8) -> u8
+fn hex_digit(digit: u8) -> u8
     requires { ⌜ digit < 16 ⌝ }
     ensures { λ r. ⌜ r ≡ digitByte digit ⌝ }
 {
@@ -72,14 +72,14 @@ fn digit_byte(digit: u8) -> u8
 // Writes bytes in hexadecimal from at on, and answers where they end.
 fn write_hex(bytes: &[u8], out: &mut [u8], at: usize) -> usize
     requires { ⌜ at + 2 * length (now bytes) ≤ length (now out) ⌝ }
-    ensures { λ r. ⌜ Written (now (out .entry)) (now (out .exit)) (take at (now (out .entry)) ++ hexOf (now (bytes .entry))) r ⌝ }
+    ensures { λ r. ⌜ AtFront (now (out .entry)) (now (out .exit)) (take at (now (out .entry)) ++ hexOf (now (bytes .entry))) r ⌝ }
 {
     let mut to = at;
     let mut k = 0;
     while k < bytes.len() {
         let b = bytes[k];
-        out[to] = digit_byte(b / 16);
-        out[to + 1] = digit_byte(b % 16);
+        out[to] = hex_digit(b / 16);
+        out[to + 1] = hex_digit(b % 16);
         to += 2;
         k += 1;
     }
@@ -116,7 +116,7 @@ fn numbers_of(code: u32, position: usize, steps: usize, written: usize) -> [u8; 
 // Writes an answer, whose text is lent beside it.
 fn write_answer(o: Outcome, text: &[u8], out: &mut [u8]) -> usize
     requires { ⌜ 26 + 2 * length (now text) ≤ length (now out) ⌝ }
-    ensures { λ r. ⌜ Written (now (out .entry)) (now (out .exit)) (hexOf (numbersOf (o .code) (o .position) (o .steps) (o .written) ++ now (text .entry))) r ⌝ }
+    ensures { λ r. ⌜ AtFront (now (out .entry)) (now (out .exit)) (hexOf (numbersOf (o .code) (o .position) (o .steps) (o .written) ++ now (text .entry))) r ⌝ }
 {
     let numbers = numbers_of(o.code, o.position, o.steps, o.written);
     let at = write_hex(&numbers, out, 0);
@@ -126,7 +126,7 @@ fn write_answer(o: Outcome, text: &[u8], out: &mut [u8]) -> usize
 // Answers `ff`, as for a line that is no frame.
 fn refuse(out: &mut [u8]) -> usize
     requires { ⌜ 2 ≤ length (now out) ⌝ }
-    ensures { λ r. ⌜ Written (now (out .entry)) (now (out .exit)) noFrame r ⌝ }
+    ensures { λ r. ⌜ AtFront (now (out .entry)) (now (out .exit)) noFrame r ⌝ }
 {
     out[0] = 102;
     out[1] = 102;
@@ -143,7 +143,7 @@ fn wide(b: u8) -> usize
 fn answer_frame(frame: &[u8], text: &mut [u8], out: &mut [u8]) -> usize
     requires { ⌜ length (now text) ≡ 16384 ⌝ }
     requires { ⌜ 32794 ≤ length (now out) ⌝ }
-    ensures { λ r. ⌜ Written (now (out .entry)) (now (out .exit)) (answerFrame (now (frame .entry))) r ⌝ }
+    ensures { λ r. ⌜ AtFront (now (out .entry)) (now (out .exit)) (answerFrame (now (frame .entry))) r ⌝ }
 {
     if frame.len() < 2 {
         return refuse(out);
@@ -157,14 +157,14 @@ fn answer_frame(frame: &[u8], text: &mut [u8], out: &mut [u8]) -> usize
     write_answer(o, &text[0..written], out)
 }
 
-// Answers a line, without its newline. The longest answer has 13 bytes of numbers and a text of 16,384, two digits to
+// Answers a line, without its newline. The longest-answer answer has 13 bytes of numbers and a text of 16,384, two digits to
 // each: out has room for those 32,794. What frame and text hold afterwards is left to the program: they are lent so
 // that a caller with many lines makes them once.
 pub fn answer_with(line: &[u8], frame: &mut [u8], text: &mut [u8], out: &mut [u8]) -> usize
     requires { ⌜ 32767 ≤ length (now frame) ⌝ }
     requires { ⌜ length (now text) ≡ 16384 ⌝ }
     requires { ⌜ 32794 ≤ length (now out) ⌝ }
-    ensures { λ r. ⌜ Written (now (out .entry)) (now (out .exit)) (answerLine (now (line .entry))) r ⌝ }
+    ensures { λ r. ⌜ AtFront (now (out .entry)) (now (out .exit)) (answerLine (now (line .entry))) r ⌝ }
 {
     if 65535 < line.len() {
         return refuse(out);
@@ -179,7 +179,7 @@ pub fn answer_with(line: &[u8], frame: &mut [u8], text: &mut [u8], out: &mut [u8
 // The same, with a frame and a text of its own.
 pub fn answer_line(line: &[u8], out: &mut [u8]) -> usize
     requires { ⌜ 32794 ≤ length (now out) ⌝ }
-    ensures { λ r. ⌜ Written (now (out .entry)) (now (out .exit)) (answerLine (now (line .entry))) r ⌝ }
+    ensures { λ r. ⌜ AtFront (now (out .entry)) (now (out .exit)) (answerLine (now (line .entry))) r ⌝ }
 {
     let mut frame = [0u8; 32768];
     let mut text = [0u8; 16384];

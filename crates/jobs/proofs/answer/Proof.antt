@@ -1,7 +1,7 @@
--- `jobs::answer` meets its contract: the longest answer and its newline have room. Assumes nothing.
+-- `jobs::answer` meets its contract: the longest-answer answer and its newline have room. Assumes nothing.
 use borrow.Author.Needs.{needs}
 use native.Mathlib.Omega.{arith}
-use Rattle.lines.proofs.Answering.{longest}
+use Rattle.lines.proofs.Answering.{longest-answer}
 use Rattle.jobs.proofs.answer.Statement.{statement}
 use Rattle.jobs.proofs.answer.Tie as tie
 
@@ -21,13 +21,13 @@ answer-with-requires : tie.Need-answer-with-requires
 answer-with-requires c κs = search needs
 
 add-end : tie.Need-add-end
-add-end c = omega (arith, longest ((c .before .before .before .before .before .before .before .before .before .before .before .before .before .before .before .before .args .line .now)) (c .before .before .before .before .before .before .answer-with .ensures), (c .before .before .before .before .before .before .before .before .before .before .make-room .ensures))
+add-end c = omega (arith, longest-answer ((c .before .before .before .before .before .before .before .before .before .before .before .before .before .before .before .before .args .line .now)) (c .before .before .before .before .before .before .answer-with .ensures), (c .before .before .before .before .before .before .before .before .before .before .make-room .ensures))
 
 slice-write-out : tie.Need-slice-write-out
-slice-write-out c = omega (arith, longest ((c .before .before .before .before .before .before .before .before .before .before .before .before .before .before .before .before .args .line .now)) (c .before .before .before .before .before .before .answer-with .ensures), (c .before .before .before .before .before .before .before .before .before .before .make-room .ensures))
+slice-write-out c = omega (arith, longest-answer ((c .before .before .before .before .before .before .before .before .before .before .before .before .before .before .before .before .args .line .now)) (c .before .before .before .before .before .before .answer-with .ensures), (c .before .before .before .before .before .before .before .before .before .before .make-room .ensures))
 
 add-result : tie.Need-add-result
-add-result c = omega (arith, longest ((c .before .before .before .before .before .before .before .before .before .before .before .before .before .before .before .before .args .line .now)) (c .before .before .before .before .before .before .answer-with .ensures), (c .before .before .before .before .before .before .before .before .before .before .make-room .ensures))
+add-result c = omega (arith, longest-answer ((c .before .before .before .before .before .before .before .before .before .before .before .before .before .before .before .before .args .line .now)) (c .before .before .before .before .before .before .answer-with .ensures), (c .before .before .before .before .before .before .before .before .before .before .make-room .ensures))
 
 same-length : tie.Need-same-length
 same-length c = search needs
@@ -39,7 +39,7 @@ same-length-3 : tie.Need-same-length-3
 same-length-3 c = search needs
 
 returns : tie.Need-returns
-returns c = omega (arith, longest ((c .before .before .before .before .before .before .before .before .before .before .before .before .before .before .before .before .args .line .now)) (c .before .before .before .before .before .before .answer-with .ensures), (c .before .before .before .before .before .before .before .before .before .before .make-room .ensures))
+returns c = omega (arith, longest-answer ((c .before .before .before .before .before .before .before .before .before .before .before .before .before .before .before .before .args .line .now)) (c .before .before .before .before .before .before .answer-with .ensures), (c .before .before .before .before .before .before .before .before .before .before .make-room .ensures))
 
 pub answer-spec : {M : Type 1} → statement M
 answer-spec =

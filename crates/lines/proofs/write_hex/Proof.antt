@@ -21,14 +21,14 @@ loop-holds c = hex-none (c .before .before .pre)
 shared-slice-read-b : tie.Need-shared-slice-read-b Inv-loop μ-loop
 shared-slice-read-b c = search needs
 
-digit-byte-requires : tie.Need-digit-byte-requires Inv-loop μ-loop
-digit-byte-requires c κs = omega (arith, (c .shared-slice-known2 .given) ((c .before .before .loop .k)))
+hex-digit-requires : tie.Need-hex-digit-requires Inv-loop μ-loop
+hex-digit-requires c κs = omega (arith, (c .shared-slice-known2 .given) ((c .before .before .loop .k)))
 
 slice-write-out : tie.Need-slice-write-out Inv-loop μ-loop
 slice-write-out c = omega (arith, hex-room (c .before .before .before .before .before .before .pre) (c .before .before .before .loop .inv) (c .before .before .loop-test .taken), (c .before .before .before .loop .inv .same))
 
-digit-byte-requires-2 : tie.Need-digit-byte-requires-2 Inv-loop μ-loop
-digit-byte-requires-2 c κs = omega (arith, (c .before .shared-slice-known2 .given) ((c .before .before .before .loop .k)))
+hex-digit-requires-2 : tie.Need-hex-digit-requires-2 Inv-loop μ-loop
+hex-digit-requires-2 c κs = omega (arith, (c .before .shared-slice-known2 .given) ((c .before .before .before .loop .k)))
 
 add-out : tie.Need-add-out Inv-loop μ-loop
 add-out c = omega (arith, hex-room (c .before .before .before .before .before .before .before .pre) (c .before .before .before .before .loop .inv) (c .before .before .before .loop-test .taken), (c .before .before .before .before .before .before .before .good .1 .0 .0))
@@ -46,7 +46,7 @@ loop-less : tie.Need-loop-less Inv-loop μ-loop
 loop-less c = search needs
 
 loop-again : tie.Need-loop-again Inv-loop μ-loop
-loop-again c = hex-more (c .before .before .before .before .before .before .before .pre) (c .before .before .before .before .loop .inv) (c .before .before .before .loop-test .taken) (c .before .digit-byte .ensures) (c .digit-byte2 .ensures)
+loop-again c = hex-more (c .before .before .before .before .before .before .before .pre) (c .before .before .before .before .loop .inv) (c .before .before .before .loop-test .taken) (c .before .hex-digit .ensures) (c .hex-digit2 .ensures)
 
 same-length : tie.Need-same-length Inv-loop μ-loop
 same-length c = (c .before .loop .inv .same)
@@ -62,9 +62,9 @@ write-hex-spec =
     μ-loop
     loop-holds
     shared-slice-read-b
-    digit-byte-requires
+    hex-digit-requires
     slice-write-out
-    digit-byte-requires-2
+    hex-digit-requires-2
     add-out
     slice-write-out-2
     add-to
