@@ -44,7 +44,7 @@ fn hold(line: &mut [u8], held: usize, part: &[u8]) -> usize
     to
 }
 
-// Where the next answer goes. Where the answers that wait in out leave no room for the longest-answer one and its newline they
+// Where the next answer goes. Where the answers that wait in out leave no room for the longest one and its newline they
 // are written first.
 fn make_room(out: &[u8], filled: usize) -> usize
     requires { ⌜ filled ≤ length (now out) ⌝ }

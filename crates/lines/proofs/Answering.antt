@@ -21,7 +21,8 @@ front-as : {b a t u : List ℕ} {n : ℕ} → t ≡ u → AtFront b a t n → At
 front-as e w = rw e at w
 
 -- the numbers of an answer take 26 digits
-module _ (code position steps count : ℕ) {b a numbers : List ℕ} {n : ℕ} (e : numbers ≡ numbersOf code position steps count)
+module _ (code position steps count : ℕ) {b a numbers : List ℕ} {n : ℕ}
+    (e : numbers ≡ numbersOf code position steps count)
     (w : AtFront b a (take 0 b ++ hexOf numbers) n) where
   pub numbers-end : n ≡ 26
   unfolding hexOf
@@ -34,7 +35,8 @@ module _ (code position steps count : ℕ) {b a numbers : List ℕ} {n : ℕ} (e
 -- a text fits its room
 pub text-within : {format table before after : List ℕ} {code position steps count : ℕ}
     → Answers format table before after code position steps count → count ≤ length before
-text-within {format} {table} {before} a = omega (arith, a .written-is, answer-within format table (length before) .text-in-room)
+text-within {format} {table} {before} a =
+    omega (arith, a .written-is, answer-within format table (length before) .text-in-room)
 
 end-is : (frame : List ℕ) {x y : ℕ} → x ≡ getD frame 0 0 → y ≡ getD frame 1 0 → 2 + x * 256 + y ≡ formatEnd frame
 end-is frame p q = omega arith
@@ -54,7 +56,8 @@ module _ (frame : List ℕ) {b a : List ℕ} {n : ℕ} where
 
     -- a frame, whose answer is written
     pub frame-answered : {before after : List ℕ} {code position steps count : ℕ} → 2 + x * 256 + y ≤ length frame
-        → Answers (take (2 + x * 256 + y - 2) (drop 2 frame)) (take (length frame - (2 + x * 256 + y)) (drop (2 + x * 256 + y) frame))
+        → Answers (take (2 + x * 256 + y - 2) (drop 2 frame))
+        (take (length frame - (2 + x * 256 + y)) (drop (2 + x * 256 + y) frame))
         before after code position steps count
         → length before ≡ 16384
         → AtFront b a (hexOf (numbersOf code position steps count ++ take (count - 0) after)) n
@@ -70,7 +73,8 @@ module _ (frame : List ℕ) {b a : List ℕ} {n : ℕ} where
         rw (size, end-is frame p q, rest) at answers
         in
         let r : Answer = answerOf (formatIn frame) (tableIn frame) 16384 in
-        let same : answerOf (formatIn frame) (tableIn frame) (length before) ≡ r = ap (answerOf (formatIn frame) (tableIn frame)) room in
+        let same : answerOf (formatIn frame) (tableIn frame) (length before) ≡ r =
+        ap (answerOf (formatIn frame) (tableIn frame)) room in
         let here : count - 0 ≡ count = omega arith in
         let counted : count ≡ length (r .text) = given .written-is ∙ ap (λ (z : Answer). length (z .text)) same in
         let text : take (count - 0) after ≡ r .text =
@@ -79,7 +83,8 @@ module _ (frame : List ℕ) {b a : List ℕ} {n : ℕ} where
         let c : code ≡ r .code = given .code-is ∙ ap (λ (z : Answer). z .code) same in
         let p : position ≡ r .position = given .position-is ∙ ap (λ (z : Answer). z .position) same in
         let s : steps ≡ r .steps = given .steps-is ∙ ap (λ (z : Answer). z .steps) same in
-        rw (le-leb 2 (length frame) long, le-leb (formatEnd frame) (length frame) whole) (rw (text, c, p, s, counted) at w)
+        rw (le-leb 2 (length frame) long, le-leb (formatEnd frame) (length frame) whole)
+        (rw (text, c, p, s, counted) at w)
 
 module _ (line : List ℕ) {b a : List ℕ} {n : ℕ} where
   pub too-long : 65535 < length line → AtFront b a noFrame n → AtFront b a (answerLine line) n
@@ -93,13 +98,14 @@ module _ (line : List ℕ) {b a : List ℕ} {n : ℕ} where
         let f : inPairs line ≡ false = sym (d .paired-is) ∙ e in
         rw (le-leb (length line) 65535 h, f) w
 
-    pub line-answered : r ≡ true → AtFront b a (answerFrame (take (count - 0) frame)) n → AtFront b a (answerLine line) n
+    pub line-answered : r ≡ true → AtFront b a (answerFrame (take (count - 0) frame)) n
+        → AtFront b a (answerLine line) n
     unfolding answerLine
     line-answered e w =
         let t : inPairs line ≡ true = sym (d .paired-is) ∙ e in
         let here : count - 0 ≡ count = omega arith in
         rw (le-leb (length line) 65535 h, t) (rw (here, d .bytes-are t) at w)
 
--- the longest-answer answer
+-- the longest answer
 pub longest-answer : (line : List ℕ) {b a : List ℕ} {n : ℕ} → AtFront b a (answerLine line) n → n ≤ 32794
 longest-answer line w = omega (arith, w .count-is, line-short line)

@@ -45,8 +45,8 @@ module _ {line frame : List ℕ} {size k : ℕ} (d : Decoding line size frame k)
     pub second-refused : 16 ≤ digitValue (getD line (2 * k + 1) 0) → {n : ℕ} → Decoded line frame n false
     second-refused o = not-paired (d .pairs ∙ ap inPairs pair-at ∙ second-other _ _ _ o)
 
-    pub decode-more : {x y : ℕ} → x ≡ digitValue (getD line (2 * k) 0) → y ≡ digitValue (getD line (2 * k + 1) 0) → x < 16 → y < 16
-        → k < length frame → Decoding line size (set frame k (x * 16 + y)) (k + 1)
+    pub decode-more : {x y : ℕ} → x ≡ digitValue (getD line (2 * k) 0) → y ≡ digitValue (getD line (2 * k + 1) 0)
+        → x < 16 → y < 16 → k < length frame → Decoding line size (set frame k (x * 16 + y)) (k + 1)
     unfolding inPairs frameOf
     decode-more {x} {y} p q xs ys room =
         let i = getD line (2 * k) 0 in
@@ -72,5 +72,7 @@ module _ {line frame : List ℕ} {size k : ℕ} (d : Decoding line size frame k)
       let e : drop (2 * k) line ≡ [] = drop-of-length-le line {i = 2 * k} (omega arith) in
       record {
         paired-is = sym (d .pairs ∙ ap inPairs e);
-        bytes-are = λ _. rw (← z) (sym (d .bytes ∙ ap (λ (l : List ℕ). take k frame ++ frameOf l) e ∙ append-nil (take k frame)));
+        bytes-are =
+            λ _. rw (← z)
+            (sym (d .bytes ∙ ap (λ (l : List ℕ). take k frame ++ frameOf l) e ∙ append-nil (take k frame)));
       }

@@ -5,7 +5,7 @@ use mathlib.Core.Path.{_≡_, refl, sym, ap, _∙_}
 use mathlib.Core.List.{List, [], _∷_, _++_, append-assoc, append-nil}
 use native.Mathlib.Numerals.{add-one}
 use native.Mathlib.Omega.{arith}
-use lib.ListN.{length, getD, take, drop, set, length-append, length-drop, length-set, take-append-drop}
+use lib.ListN.{length, getD, take, drop, set, length-append, length-set, take-append-drop}
 use lib.Seq.{drop-cons, set-at, append-snoc, length-take-le, take-all, take-at, drop-at, drop-drop}
 use Rattle.rules.specs.Job.{hexOf}
 use Rattle.rules.specs.Number.{digitByte}
@@ -13,7 +13,8 @@ use Rattle.rules.proofs.JobLaws.{hex-next, hex-append}
 use Rattle.lines.specs.Front.{AtFront}
 
 -- a byte just behind what is written
-pub front-next : {b a t : List ℕ} {n : ℕ} (x : ℕ) → AtFront b a t n → n < length b → AtFront b (set a n x) (t ++ (x ∷ [])) (n + 1)
+pub front-next : {b a t : List ℕ} {n : ℕ} (x : ℕ) → AtFront b a t n → n < length b
+    → AtFront b (set a n x) (t ++ (x ∷ [])) (n + 1)
 front-next {b} {a} {t} {n} x w h =
     record {
       count-is = simp length-append (omega (arith, w .count-is));
@@ -38,15 +39,6 @@ front-two {b} {a} {t} {n} x y w h =
 -- nothing is written yet
 pub front-none : (b : List ℕ) → AtFront b b [] 0
 front-none b = record { count-is = refl; buffer-is = refl }
-
--- what is written keeps the length of the buffer, where it fits
-pub front-length : {b a t : List ℕ} {n : ℕ} → AtFront b a t n → n ≤ length b → length a ≡ length b
-front-length {b} {a} {t} {n} w h = rw (w .buffer-is) (simp (length-append, length-drop) (omega (arith, w .count-is)))
-
--- and it fits, where the length is kept
-pub front-fits : {b a t : List ℕ} {n : ℕ} → AtFront b a t n → length a ≡ length b → n ≤ length b
-front-fits {b} {a} {t} {n} w h =
-    omega (arith, simp (length-append, length-drop) at (ap length (w .buffer-is)), w .count-is)
 
 -- Bytes in hexadecimal, k of them written from `at` on, up to `to`
 pub record Hexing (bytes before : List ℕ) (at : ℕ) (out : List ℕ) (to k : ℕ) : Type 0 where
@@ -73,12 +65,13 @@ module _ {bytes before : List ℕ} {at : ℕ} (room : at + 2 * length bytes ≤ 
     pub hex-room : k < length bytes → to + 1 < length before
     hex-room h = omega (arith, s .place)
 
-    pub hex-more : {x y : ℕ} → k < length bytes → x ≡ digitByte (getD bytes k 0 / 16) → y ≡ digitByte (getD bytes k 0 % 16)
-        → Hexing bytes before at (set (set out to x) (to + 1) y) (to + 2) (k + 1)
+    pub hex-more : {x y : ℕ} → k < length bytes → x ≡ digitByte (getD bytes k 0 / 16)
+        → y ≡ digitByte (getD bytes k 0 % 16) → Hexing bytes before at (set (set out to x) (to + 1) y) (to + 2) (k + 1)
     hex-more {x} {y} h p q =
-        let e : (take at before ++ hexOf (take k bytes)) ++ (x ∷ y ∷ []) ≡ take at before ++ hexOf (take (k + 1) bytes) =
-        rw (hex-next bytes k h, p, q)
-        (append-assoc (take at before) (hexOf (take k bytes)) (digitByte (getD bytes k 0 / 16) ∷ digitByte (getD bytes k 0 % 16) ∷ []))
+        let front = take at before in
+        let done = hexOf (take k bytes) in
+        let e : (front ++ done) ++ (x ∷ y ∷ []) ≡ front ++ hexOf (take (k + 1) bytes) =
+        rw (hex-next bytes k h, ← p, ← q) (append-assoc front done (x ∷ y ∷ []))
         in
         record {
           written = rw e at (front-two x y (s .written) (hex-room h));
@@ -94,14 +87,17 @@ module _ {bytes before : List ℕ} {at : ℕ} (room : at + 2 * length bytes ≤ 
 pub front-then : {b a e : List ℕ} {n m : ℕ} (numbers text : List ℕ) → AtFront b a (take 0 b ++ hexOf numbers) n
     → AtFront a e (take n a ++ hexOf text) m → AtFront b e (hexOf (numbers ++ text)) m
 front-then {b} {a} {e} {n} {m} numbers text w v =
-    let front : take n a ≡ hexOf numbers = rw (w .buffer-is) (take-at (hexOf numbers) (drop n b) n (sym (w .count-is))) in
+    let front : take n a ≡ hexOf numbers =
+    rw (w .buffer-is) (take-at (hexOf numbers) (drop n b) n (sym (w .count-is))) in
     let whole : take n a ++ hexOf text ≡ hexOf (numbers ++ text) = rw (hex-append numbers text, front) in
     let reach : m ≡ n + length (hexOf text) =
-    let l : length (take n a ++ hexOf text) ≡ length (hexOf numbers) + length (hexOf text) = rw front (length-append (hexOf numbers) (hexOf text)) in
+    let l : length (take n a ++ hexOf text) ≡ length (hexOf numbers) + length (hexOf text) =
+    rw front (length-append (hexOf numbers) (hexOf text)) in
     omega (arith, v .count-is, w .count-is)
     in
     let rest : drop m a ≡ drop m b =
     rw (reach, ← drop-drop (length (hexOf text)) n a, ← drop-drop (length (hexOf text)) n b)
-    (ap (λ (l : List ℕ). drop (length (hexOf text)) l) (rw (w .buffer-is) (drop-at (hexOf numbers) (drop n b) n (sym (w .count-is)))))
+    (ap (λ (l : List ℕ). drop (length (hexOf text)) l)
+    (rw (w .buffer-is) (drop-at (hexOf numbers) (drop n b) n (sym (w .count-is)))))
     in
     record { count-is = v .count-is ∙ ap length whole; buffer-is = v .buffer-is ∙ rw (whole, rest) }

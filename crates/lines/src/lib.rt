@@ -157,7 +157,7 @@ fn answer_frame(frame: &[u8], text: &mut [u8], out: &mut [u8]) -> usize
     write_answer(o, &text[0..written], out)
 }
 
-// Answers a line, without its newline. The longest-answer answer has 13 bytes of numbers and a text of 16,384, two digits to
+// Answers a line, without its newline. The longest answer has 13 bytes of numbers and a text of 16,384, two digits to
 // each: out has room for those 32,794. What frame and text hold afterwards is left to the program: they are lent so
 // that a caller with many lines makes them once.
 pub fn answer_with(line: &[u8], frame: &mut [u8], text: &mut [u8], out: &mut [u8]) -> usize

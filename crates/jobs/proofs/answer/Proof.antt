@@ -1,4 +1,4 @@
--- `jobs::answer` meets its contract: the longest-answer answer and its newline have room. Assumes nothing.
+-- `jobs::answer` meets its contract: the longest answer and its newline have room. Assumes nothing.
 use borrow.Author.Needs.{needs}
 use native.Mathlib.Omega.{arith}
 use Rattle.lines.proofs.Answering.{longest-answer}
@@ -21,13 +21,25 @@ answer-with-requires : tie.Need-answer-with-requires
 answer-with-requires c κs = search needs
 
 add-end : tie.Need-add-end
-add-end c = omega (arith, longest-answer ((c .before .before .before .before .before .before .before .before .before .before .before .before .before .before .before .before .args .line .now)) (c .before .before .before .before .before .before .answer-with .ensures), (c .before .before .before .before .before .before .before .before .before .before .make-room .ensures))
+add-end c =
+    let c6 = c .before .before .before .before .before .before in
+    let c10 = c6 .before .before .before .before in
+    let c16 = c10 .before .before .before .before .before .before in
+    omega (arith, longest-answer (c16 .args .line .now) (c6 .answer-with .ensures), (c10 .make-room .ensures))
 
 slice-write-out : tie.Need-slice-write-out
-slice-write-out c = omega (arith, longest-answer ((c .before .before .before .before .before .before .before .before .before .before .before .before .before .before .before .before .args .line .now)) (c .before .before .before .before .before .before .answer-with .ensures), (c .before .before .before .before .before .before .before .before .before .before .make-room .ensures))
+slice-write-out c =
+    let c6 = c .before .before .before .before .before .before in
+    let c10 = c6 .before .before .before .before in
+    let c16 = c10 .before .before .before .before .before .before in
+    omega (arith, longest-answer (c16 .args .line .now) (c6 .answer-with .ensures), (c10 .make-room .ensures))
 
 add-result : tie.Need-add-result
-add-result c = omega (arith, longest-answer ((c .before .before .before .before .before .before .before .before .before .before .before .before .before .before .before .before .args .line .now)) (c .before .before .before .before .before .before .answer-with .ensures), (c .before .before .before .before .before .before .before .before .before .before .make-room .ensures))
+add-result c =
+    let c6 = c .before .before .before .before .before .before in
+    let c10 = c6 .before .before .before .before in
+    let c16 = c10 .before .before .before .before .before .before in
+    omega (arith, longest-answer (c16 .args .line .now) (c6 .answer-with .ensures), (c10 .make-room .ensures))
 
 same-length : tie.Need-same-length
 same-length c = search needs
@@ -39,7 +51,11 @@ same-length-3 : tie.Need-same-length-3
 same-length-3 c = search needs
 
 returns : tie.Need-returns
-returns c = omega (arith, longest-answer ((c .before .before .before .before .before .before .before .before .before .before .before .before .before .before .before .before .args .line .now)) (c .before .before .before .before .before .before .answer-with .ensures), (c .before .before .before .before .before .before .before .before .before .before .make-room .ensures))
+returns c =
+    let c6 = c .before .before .before .before .before .before in
+    let c10 = c6 .before .before .before .before in
+    let c16 = c10 .before .before .before .before .before .before in
+    omega (arith, longest-answer (c16 .args .line .now) (c6 .answer-with .ensures), (c10 .make-room .ensures))
 
 pub answer-spec : {M : Type 1} → statement M
 answer-spec =

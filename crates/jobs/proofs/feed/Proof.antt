@@ -9,7 +9,8 @@ use Rattle.jobs.proofs.feed.Tie as tie
 
 abbrev Inv-loop : tie.InvT-loop
 Inv-loop chunk line₀ held frame₀ text₀ out₀ kept₀ filled₀ from₀ line frame text out kept filled from =
-    (length line ≡ 65536) × (length frame ≡ 32768) × (length text ≡ 16384) × (length out ≡ 131072) × (kept ≤ 65536) × (filled ≤ 131072) × (from ≤ length chunk)
+    (length line ≡ 65536) × (length frame ≡ 32768) × (length text ≡ 16384) × (length out ≡ 131072)
+    × (kept ≤ 65536) × (filled ≤ 131072) × (from ≤ length chunk)
 
 abbrev μ-loop : tie.MeasureT-loop
 μ-loop chunk line₀ held frame₀ text₀ out₀ kept₀ filled₀ from₀ line frame text out kept filled from =

@@ -32,7 +32,9 @@ loop-less : tie.Need-loop-less Inv-loop μ-loop
 loop-less c = search needs
 
 loop-again : tie.Need-loop-again Inv-loop μ-loop
-loop-again c = (omega arith, omega arith, below-more _ _ ((c .before .before .before .loop .inv .2)) (λ h. (c .if1 .left)))
+loop-again c =
+    let c3 = c .before .before .before in
+    (omega arith, omega arith, below-more _ _ (c3 .loop .inv .2) (λ h. (c .if1 .left)))
 
 returns-2 : tie.Need-returns-2 Inv-loop μ-loop
 returns-2 c = ((omega arith, omega arith), ((c .before .loop .inv .2), λ h. absurd (omega arith)))

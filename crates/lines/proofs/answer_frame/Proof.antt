@@ -14,7 +14,11 @@ same-length : tie.Need-same-length
 same-length c = search needs
 
 returns : tie.Need-returns
-returns c = no-length ((c .before .before .before .before .before .before .before .before .args .frame .now)) (c .before .before .before .before .if1 .taken) (c .before .before .refuse .ensures)
+returns c =
+    let c2 = c .before .before in
+    let c4 = c2 .before .before in
+    let c8 = c4 .before .before .before .before in
+    no-length (c8 .args .frame .now) (c4 .if1 .taken) (c2 .refuse .ensures)
 
 shared-slice-read-wide : tie.Need-shared-slice-read-wide
 shared-slice-read-wide c = search needs
@@ -44,7 +48,15 @@ same-length-2 : tie.Need-same-length-2
 same-length-2 c = search needs
 
 returns-2 : tie.Need-returns-2
-returns-2 c = cut-short ((c .before .before .before .before .before .before .before .before .before .before .before .before .before .args .frame .now)) (c .before .before .before .before .before .before .before .wide .ensures .0) (c .before .before .before .before .before .wide2 .ensures .0) (c .before .before .before .before .before .before .before .before .before .if1 .left) (c .before .before .before .before .if2 .taken) (c .before .before .refuse2 .ensures)
+returns-2 c =
+    let c2 = c .before .before in
+    let c4 = c2 .before .before in
+    let c5 = c4 .before in
+    let c7 = c5 .before .before in
+    let c9 = c7 .before .before in
+    let c13 = c9 .before .before .before .before in
+    cut-short (c13 .args .frame .now) (c7 .wide .ensures .0) (c5 .wide2 .ensures .0) (c9 .if1 .left) (c4 .if2 .taken)
+    (c2 .refuse2 .ensures)
 
 sub-format-text : tie.Need-sub-format-text
 sub-format-text c = search needs
@@ -74,10 +86,15 @@ part-write-answer-start : tie.Need-part-write-answer-start
 part-write-answer-start c = search needs
 
 part-write-answer-end : tie.Need-part-write-answer-end
-part-write-answer-end c = omega (arith, text-within (c .before .before .before .format-text .ensures), (c .before .before .before .format-text .kept .1 .1 .0))
+part-write-answer-end c =
+    let c3 = c .before .before .before in
+    omega (arith, text-within (c3 .format-text .ensures), (c3 .format-text .kept .1 .1 .0))
 
 write-answer-requires : tie.Need-write-answer-requires
-write-answer-requires c κs = simp length-take (omega (arith, text-within (c .before .before .before .before .before .format-text .ensures), (c .before .before .before .before .before .before .before .before .before .before .before .before .before .before .before .before .before .before .pre)))
+write-answer-requires c κs =
+    let c5 = c .before .before .before .before .before in
+    let c18 = c5 .before .before .before .before .before .before .before .before .before .before .before .before .before in
+    simp length-take (omega (arith, text-within (c5 .format-text .ensures), (c18 .pre)))
 
 same-length-3 : tie.Need-same-length-3
 same-length-3 c = search needs
@@ -86,7 +103,16 @@ same-length-4 : tie.Need-same-length-4
 same-length-4 c = search needs
 
 returns-3 : tie.Need-returns-3
-returns-3 c = frame-answered ((c .before .before .before .before .before .before .before .before .before .before .before .before .before .before .before .before .before .before .before .before .before .args .frame .now)) (c .before .before .before .before .before .before .before .before .before .before .before .before .before .before .before .wide .ensures .0) (c .before .before .before .before .before .before .before .before .before .before .before .before .before .wide2 .ensures .0) (c .before .before .before .before .before .before .before .before .before .before .before .before .before .before .before .before .before .if1 .left) (c .before .before .before .before .before .before .before .before .before .before .before .before .if2 .left) (c .before .before .before .before .before .before .before .before .format-text .ensures) (c .before .before .before .before .before .before .before .before .before .before .before .before .before .before .before .before .before .before .before .before .before .pre .0) (c .before .before .write-answer .ensures)
+returns-3 c =
+    let c2 = c .before .before in
+    let c8 = c2 .before .before .before .before .before .before in
+    let c12 = c8 .before .before .before .before in
+    let c13 = c12 .before in
+    let c15 = c13 .before .before in
+    let c17 = c15 .before .before in
+    let c21 = c17 .before .before .before .before in
+    frame-answered (c21 .args .frame .now) (c15 .wide .ensures .0) (c13 .wide2 .ensures .0) (c17 .if1 .left)
+    (c12 .if2 .left) (c8 .format-text .ensures) (c21 .pre .0) (c2 .write-answer .ensures)
 
 pub answer-frame-spec : {M : Type 1} → statement M
 answer-frame-spec =

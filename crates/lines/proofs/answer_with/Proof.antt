@@ -13,7 +13,11 @@ same-length : tie.Need-same-length
 same-length c = search needs
 
 returns : tie.Need-returns
-returns c = too-long ((c .before .before .before .before .before .before .before .before .before .args .line .now)) (c .before .before .before .before .if1 .taken) (c .before .before .refuse .ensures)
+returns c =
+    let c2 = c .before .before in
+    let c4 = c2 .before .before in
+    let c9 = c4 .before .before .before .before .before in
+    too-long (c9 .args .line .now) (c4 .if1 .taken) (c2 .refuse .ensures)
 
 decode-requires : tie.Need-decode-requires
 decode-requires c κs = search needs
@@ -28,7 +32,14 @@ same-length-3 : tie.Need-same-length-3
 same-length-3 c = search needs
 
 returns-2 : tie.Need-returns-2
-returns-2 c = not-digits ((c .before .before .before .before .before .before .before .before .before .before .before .before .before .before .args .line .now)) (c .before .before .before .before .before .before .before .before .before .if1 .left) (c .before .before .before .before .before .before .before .decode .ensures) (not-true ((c .before .before .before .before .before .before .before .decode .result)) (c .before .before .before .before .if2 .taken)) (c .before .before .refuse2 .ensures)
+returns-2 c =
+    let c2 = c .before .before in
+    let c4 = c2 .before .before in
+    let c7 = c4 .before .before .before in
+    let c9 = c7 .before .before in
+    let c14 = c9 .before .before .before .before .before in
+    not-digits (c14 .args .line .now) (c9 .if1 .left) (c7 .decode .ensures)
+    (not-true (c7 .decode .result) (c4 .if2 .taken)) (c2 .refuse2 .ensures)
 
 sub-answer-frame : tie.Need-sub-answer-frame
 sub-answer-frame c = search needs
@@ -52,7 +63,14 @@ same-length-6 : tie.Need-same-length-6
 same-length-6 c = search needs
 
 returns-3 : tie.Need-returns-3
-returns-3 c = line-answered ((c .before .before .before .before .before .before .before .before .before .before .before .before .before .before .before .before .before .before .before .args .line .now)) (c .before .before .before .before .before .before .before .before .before .before .before .before .before .before .if1 .left) (c .before .before .before .before .before .before .before .before .before .before .before .before .decode .ensures) (not-false ((c .before .before .before .before .before .before .before .before .before .before .before .before .decode .result)) (c .before .before .before .before .before .before .before .before .before .if2 .left)) (c .before .before .before .before .answer-frame .ensures)
+returns-3 c =
+    let c4 = c .before .before .before .before in
+    let c9 = c4 .before .before .before .before .before in
+    let c12 = c9 .before .before .before in
+    let c14 = c12 .before .before in
+    let c19 = c14 .before .before .before .before .before in
+    line-answered (c19 .args .line .now) (c14 .if1 .left) (c12 .decode .ensures)
+    (not-false (c12 .decode .result) (c9 .if2 .left)) (c4 .answer-frame .ensures)
 
 pub answer-with-spec : {M : Type 1} → statement M
 answer-with-spec =

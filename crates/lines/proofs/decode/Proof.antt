@@ -20,7 +20,9 @@ returns : tie.Need-returns Inv-loop μ-loop
 returns c = odd-refused (c .if1 .taken)
 
 loop-holds : tie.Need-loop-holds Inv-loop μ-loop
-loop-holds c = decode-none ((c .before .before .before .args .line .now)) ((c .before .before .before .args .frame .now))
+loop-holds c =
+    let c3 = c .before .before .before in
+    decode-none (c3 .args .line .now) (c3 .args .frame .now)
 
 mul-digit-value : tie.Need-mul-digit-value Inv-loop μ-loop
 mul-digit-value c = search needs
@@ -47,13 +49,21 @@ same-length : tie.Need-same-length Inv-loop μ-loop
 same-length c = (c .before .before .before .before .before .before .loop .inv .same)
 
 returns-2 : tie.Need-returns-2 Inv-loop μ-loop
-returns-2 c = first-refused (c .before .before .before .before .before .before .loop .inv) (c .before .before .before .before .before .loop-test .taken) (rw (c .before .before .before .digit-value .ensures) at (c .if2 .taken))
+returns-2 c =
+    let c3 = c .before .before .before in
+    let c5 = c3 .before .before in
+    let c6 = c5 .before in
+    first-refused (c6 .loop .inv) (c5 .loop-test .taken) (rw (c3 .digit-value .ensures) at (c .if2 .taken))
 
 same-length-2 : tie.Need-same-length-2 Inv-loop μ-loop
 same-length-2 c = (c .before .before .before .before .before .before .before .loop .inv .same)
 
 returns-3 : tie.Need-returns-3 Inv-loop μ-loop
-returns-3 c = second-refused (c .before .before .before .before .before .before .before .loop .inv) (c .before .before .before .before .before .before .loop-test .taken) (rw (c .before .before .digit-value2 .ensures) at (c .if3 .taken))
+returns-3 c =
+    let c2 = c .before .before in
+    let c6 = c2 .before .before .before .before in
+    let c7 = c6 .before in
+    second-refused (c7 .loop .inv) (c6 .loop-test .taken) (rw (c2 .digit-value2 .ensures) at (c .if3 .taken))
 
 mul-frame : tie.Need-mul-frame Inv-loop μ-loop
 mul-frame c = omega (arith, (c .before .if2 .left))
@@ -71,7 +81,15 @@ loop-less : tie.Need-loop-less Inv-loop μ-loop
 loop-less c = search needs
 
 loop-again : tie.Need-loop-again Inv-loop μ-loop
-loop-again c = decode-more (c .before .before .before .before .before .before .before .loop .inv) (c .before .before .before .before .before .before .loop-test .taken) (c .before .before .before .before .digit-value .ensures) (c .before .before .digit-value2 .ensures) (c .before .if2 .left) (c .if3 .left) (omega (arith, (c .before .before .before .before .before .before .before .before .before .before .before .pre), (c .before .before .before .before .before .before .before .loop .inv .same), (c .before .before .before .before .before .before .loop-test .taken)))
+loop-again c =
+    let c2 = c .before .before in
+    let c4 = c2 .before .before in
+    let c6 = c4 .before .before in
+    let c7 = c6 .before in
+    let c11 = c7 .before .before .before .before in
+    decode-more (c7 .loop .inv) (c6 .loop-test .taken) (c4 .digit-value .ensures) (c2 .digit-value2 .ensures)
+    (c .before .if2 .left) (c .if3 .left)
+    (omega (arith, (c11 .pre), (c7 .loop .inv .same), (c6 .loop-test .taken)))
 
 same-length-3 : tie.Need-same-length-3 Inv-loop μ-loop
 same-length-3 c = (c .before .loop .inv .same)

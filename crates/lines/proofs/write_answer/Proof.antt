@@ -16,16 +16,29 @@ write-hex-requires c κs = search needs
 
 write-hex-requires-2 : tie.Need-write-hex-requires-2
 write-hex-requires-2 c κs =
-    let o = (c .before .before .before .before .before .before .before .before .before .args .o) in
-    omega (arith, numbers-end (o .code) (o .position) (o .steps) (o .written) (c .before .before .before .before .before .before .numbers-of .ensures) (c .before .before .before .write-hex .ensures), (c .before .before .before .write-hex .kept .1 .0), (c .before .before .before .before .before .before .before .before .before .pre))
+    let c3 = c .before .before .before in
+    let c6 = c3 .before .before .before in
+    let c9 = c6 .before .before .before in
+    let o = c9 .args .o in
+    omega (
+      arith,
+      numbers-end (o .code) (o .position) (o .steps) (o .written) (c6 .numbers-of .ensures) (c3 .write-hex .ensures),
+      (c3 .write-hex .kept .1 .0),
+      (c9 .pre),
+    )
 
 same-length : tie.Need-same-length
 same-length c = search needs
 
 returns : tie.Need-returns
 returns c =
-    let o = (c .before .before .before .before .before .before .before .before .before .before .before .before .args .o) in
-    numbers-then (o .code) (o .position) (o .steps) (o .written) (c .before .before .before .before .before .before .before .before .before .numbers-of .ensures) (c .before .before .before .before .before .before .write-hex .ensures) ((c .before .before .before .before .before .before .before .before .before .before .before .before .args .text .now)) (c .before .before .write-hex2 .ensures)
+    let c2 = c .before .before in
+    let c6 = c2 .before .before .before .before in
+    let c9 = c6 .before .before .before in
+    let c12 = c9 .before .before .before in
+    let o = c12 .args .o in
+    numbers-then (o .code) (o .position) (o .steps) (o .written) (c9 .numbers-of .ensures) (c6 .write-hex .ensures)
+    (c12 .args .text .now) (c2 .write-hex2 .ensures)
 
 pub write-answer-spec : {M : Type 1} → statement M
 write-answer-spec =

@@ -25,19 +25,37 @@ hex-digit-requires : tie.Need-hex-digit-requires Inv-loop μ-loop
 hex-digit-requires c κs = omega (arith, (c .shared-slice-known2 .given) ((c .before .before .loop .k)))
 
 slice-write-out : tie.Need-slice-write-out Inv-loop μ-loop
-slice-write-out c = omega (arith, hex-room (c .before .before .before .before .before .before .pre) (c .before .before .before .loop .inv) (c .before .before .loop-test .taken), (c .before .before .before .loop .inv .same))
+slice-write-out c =
+    let c2 = c .before .before in
+    let c3 = c2 .before in
+    let c6 = c3 .before .before .before in
+    omega (arith, hex-room (c6 .pre) (c3 .loop .inv) (c2 .loop-test .taken), (c3 .loop .inv .same))
 
 hex-digit-requires-2 : tie.Need-hex-digit-requires-2 Inv-loop μ-loop
-hex-digit-requires-2 c κs = omega (arith, (c .before .shared-slice-known2 .given) ((c .before .before .before .loop .k)))
+hex-digit-requires-2 c κs =
+    let c3 = c .before .before .before in
+    omega (arith, (c .before .shared-slice-known2 .given) (c3 .loop .k))
 
 add-out : tie.Need-add-out Inv-loop μ-loop
-add-out c = omega (arith, hex-room (c .before .before .before .before .before .before .before .pre) (c .before .before .before .before .loop .inv) (c .before .before .before .loop-test .taken), (c .before .before .before .before .before .before .before .good .1 .0 .0))
+add-out c =
+    let c3 = c .before .before .before in
+    let c4 = c3 .before in
+    let c7 = c4 .before .before .before in
+    omega (arith, hex-room (c7 .pre) (c4 .loop .inv) (c3 .loop-test .taken), (c7 .good .1 .0 .0))
 
 slice-write-out-2 : tie.Need-slice-write-out-2 Inv-loop μ-loop
-slice-write-out-2 c = simp length-set (omega (arith, hex-room (c .before .before .before .before .before .before .before .pre) (c .before .before .before .before .loop .inv) (c .before .before .before .loop-test .taken), (c .before .before .before .before .loop .inv .same)))
+slice-write-out-2 c =
+    let c3 = c .before .before .before in
+    let c4 = c3 .before in
+    let c7 = c4 .before .before .before in
+    simp length-set (omega (arith, hex-room (c7 .pre) (c4 .loop .inv) (c3 .loop-test .taken), (c4 .loop .inv .same)))
 
 add-to : tie.Need-add-to Inv-loop μ-loop
-add-to c = omega (arith, hex-room (c .before .before .before .before .before .before .before .pre) (c .before .before .before .before .loop .inv) (c .before .before .before .loop-test .taken), (c .before .before .before .before .before .before .before .good .1 .0 .0))
+add-to c =
+    let c3 = c .before .before .before in
+    let c4 = c3 .before in
+    let c7 = c4 .before .before .before in
+    omega (arith, hex-room (c7 .pre) (c4 .loop .inv) (c3 .loop-test .taken), (c7 .good .1 .0 .0))
 
 add-k : tie.Need-add-k Inv-loop μ-loop
 add-k c = search needs
@@ -46,7 +64,11 @@ loop-less : tie.Need-loop-less Inv-loop μ-loop
 loop-less c = search needs
 
 loop-again : tie.Need-loop-again Inv-loop μ-loop
-loop-again c = hex-more (c .before .before .before .before .before .before .before .pre) (c .before .before .before .before .loop .inv) (c .before .before .before .loop-test .taken) (c .before .hex-digit .ensures) (c .hex-digit2 .ensures)
+loop-again c =
+    let c3 = c .before .before .before in
+    let c4 = c3 .before in
+    let c7 = c4 .before .before .before in
+    hex-more (c7 .pre) (c4 .loop .inv) (c3 .loop-test .taken) (c .before .hex-digit .ensures) (c .hex-digit2 .ensures)
 
 same-length : tie.Need-same-length Inv-loop μ-loop
 same-length c = (c .before .loop .inv .same)
