@@ -1,13 +1,10 @@
 -- What a good body says of each of its sources, and the length of a piece. Assumes nothing.
-use mathlib.Core.Path.{_≡_, refl, sym, ap, _∙_}
+use mathlib.Core.Path.{_≡_, _∙_}
 use mathlib.Core.List.{List, _++_}
 use Prim.Native.Nat.{ℕ, _+_, _-_, _≤_}
 use native.Mathlib.Nat.{sub-zero}
-use native.Mathlib.Omega.{arith}
-use lib.ListN.{length, take, drop, replicate, length-append, length-replicate}
-use lib.Seq.{length-take-le}
-use Rattle.pieces.specs.Bytes.{part, quotedOf, figureOf, sourceOf, bodyOf, bytesOf, Inside, GoodFigure, GoodBody, Good}
-use Rattle.pieces.specs.declared.Source.{Source}
+use lib.ListN.{length, replicate, length-append, length-replicate}
+use Rattle.pieces.specs.Bytes.{part, quotedOf, figureOf, sourceOf, bodyOf, bytesOf, Inside, GoodFigure, GoodBody}
 use Rattle.pieces.specs.declared.Source.the-variants.{Run, Copied, Quoted, Figures, Word}
 use Rattle.pieces.specs.declared.Body.{Body}
 use Rattle.pieces.specs.declared.Figure.{Figure}

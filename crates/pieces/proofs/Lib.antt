@@ -5,3 +5,4 @@ pub mod Numerals
 pub mod Bodies
 pub mod Made
 pub mod Spelled
+pub mod Callers

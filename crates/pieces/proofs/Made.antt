@@ -5,7 +5,7 @@ use Prim.Native.Nat.{ℕ, _+_, _-_, _≤_}
 use native.Mathlib.Omega.{arith}
 use lib.ListN.{length, take, replicate, length-replicate}
 use lib.Seq.{length-take-le}
-use Rattle.pieces.specs.Bytes.{part, quotedOf, figureOf, sourceOf, bodyOf, bytesOf, Inside, GoodFigure, GoodBody, Good, Makes, Gives}
+use Rattle.pieces.specs.Bytes.{part, quotedOf, figureOf, sourceOf, bytesOf, Inside, GoodFigure, Makes, Gives}
 use Rattle.pieces.specs.Given.{StringIn}
 use Rattle.pieces.specs.declared.Source.the-variants.{Run, Copied, Quoted, Figures, Word}
 use Rattle.pieces.specs.declared.Body.{Body}
@@ -23,7 +23,8 @@ pub makes-size : {t : List ℕ} {b : Body} {xs : List ℕ} → Makes t b xs → 
 makes-size m = m .good .size ∙ ap length (m .is)
 
 module _ (t word : List ℕ) where
-  pub made-run : (byte n : ℕ) → n ≤ 4096 → Makes t (record { size = n; word = word; source = Run byte n }) (replicate n byte)
+  pub made-run : (byte n : ℕ) → n ≤ 4096
+      → Makes t (record { size = n; word = word; source = Run byte n }) (replicate n byte)
   unfolding sourceOf Inside
   made-run byte n h = record {
     good = record { size = sym (length-replicate n byte); small = omega arith; inside = omega arith };

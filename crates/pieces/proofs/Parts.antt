@@ -1,12 +1,12 @@
 -- A part of a text, and the loop that copies one. Assumes nothing.
-use mathlib.Core.Path.{_≡_, refl, sym, ap, _∙_}
+use mathlib.Core.Path.{_≡_, refl, sym, ap}
 use mathlib.Core.List.{List, [], _∷_, _++_}
 use Prim.Native.Nat.{ℕ, zero, suc, _+_, _-_, _≤_, _<_, min}
 use native.Mathlib.Nat.{not-suc-le-zero, zero-sub, suc-sub-suc, zero-min, min-zero, suc-min-suc, sub-zero}
 use native.Mathlib.Numerals.{add-one}
 use native.Mathlib.Omega.{arith}
 use lib.ListN.{length, take, drop, set, getD, replicate, length-set, length-take, length-drop, drop-of-length-le}
-use lib.Seq.{drop-cons, take-all, take-nil}
+use lib.Seq.{drop-cons, take-all}
 use Rattle.rules.proofs.Writing.{Writing, write-none, write-one, write-all}
 use Rattle.pieces.specs.Bytes.{part}
 

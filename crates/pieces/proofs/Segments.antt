@@ -123,7 +123,9 @@ padded-part d l r p ys from {a} {b} {start} w h x y z ex ey ez =
     part-fill (from - l - length ys) (n - b) r p c ∙ sym ez₁ in
     let fy : part (from - l) (b - a) ys ≡ y = rw (sym (w .begins)) (sym ey₁) in
     begun-all s₃ (le-refl n) ∙ append-assoc x y z
-    ∙ sym (part-three (replicate l p) ys (replicate r p) from n a b (rw ll (w .first)) (rw ll (w .second)) ∙ rw (ll, fx, fy, fz))
+    ∙ sym
+    (part-three (replicate l p) ys (replicate r p) from n a b (rw ll (w .first)) (rw ll (w .second))
+    ∙ rw (ll, fx, fy, fz))
 
 -- the whole of such a text
 pub padded-whole : (d : List ℕ) (l r p : ℕ) (ys : List ℕ) (b : ℕ) → b ≡ l + length ys

@@ -13,16 +13,15 @@ use mir.Syntax.{w64}
 use mir.Val.{SFits, ofZ}
 use Rattle.rules.specs.Directive.{number}
 use Rattle.rules.specs.Number.{digitByte, digitsOf, magnitudeOf, signOf, padLeft}
-use Rattle.rules.specs.Piece.{orElse, nameOf, writtenOf, decimalOf, bareOf, paddingOf, objectOf, digitsIn, isOne, textOf}
+use Rattle.rules.specs.Piece.{orElse, nameOf, writtenOf, bareOf, paddingOf, objectOf, digitsIn, isOne, textOf}
 use Rattle.rules.specs.Table.{Value, boolean, integer, character, string, list, meant}
 use Rattle.rules.specs.declared.Argument.{Argument}
 use Rattle.rules.specs.declared.Form.{Form}
 use Rattle.rules.specs.declared.Setting.{Setting}
 use Rattle.rules.specs.declared.Setting.the-variants.{Absent, Is}
 use Rattle.rules.specs.declared.Settings.{Settings}
-use Rattle.rules.proofs.Digits.{digits-one, digits-more, count-word}
-use Rattle.pieces.specs.Bytes.{quotedOf, signed, figureOf, GoodFigure}
-use Rattle.pieces.specs.Bytes.{digitsIn as figureDigits}
+use Rattle.rules.proofs.Digits.{digits-one, digits-more}
+use Rattle.pieces.specs.Bytes.{quotedOf, signed, figureOf, digitsIn as figureDigits}
 use Rattle.pieces.specs.Given.{Allowed, numberOf, unnamedOf}
 
 -- a parameter with its default, in the range of its place
@@ -54,7 +53,17 @@ pub unnamed : (c : ℕ) → c ≢ 0 → c ≢ 7 → c ≢ 8 → c ≢ 9 → c �
     → unnamedOf c ≡ writtenOf c
 unfolding nameOf
 unnamed c e₁ e₂ e₃ e₄ e₅ e₆ e₇ e₈ e₉ =
-    simp (ne-eqb c 0 e₁, ne-eqb c 7 e₂, ne-eqb c 8 e₃, ne-eqb c 9 e₄, ne-eqb c 10 e₅, ne-eqb c 13 e₆, ne-eqb c 27 e₇, ne-eqb c 32 e₈, ne-eqb c 127 e₉)
+    simp (
+      ne-eqb c 0 e₁,
+      ne-eqb c 7 e₂,
+      ne-eqb c 8 e₃,
+      ne-eqb c 9 e₄,
+      ne-eqb c 10 e₅,
+      ne-eqb c 13 e₆,
+      ne-eqb c 27 e₇,
+      ne-eqb c 32 e₈,
+      ne-eqb c 127 e₉,
+    )
 
 -- numbers
 module _ (base m s w c : ℕ) (plus : Bool) (z : ℤ) (em : m ≡ magnitudeOf z) where

@@ -55,9 +55,13 @@ sourceOf t word (Word n) = take n word
 abbrev pub bodyOf : List ℕ → Body → List ℕ
 bodyOf t b = sourceOf t (b .word) (b .source)
 
+-- a text with so many bytes of padding on its left and on its right
+abbrev pub beside : ℕ → ℕ → ℕ → List ℕ → List ℕ
+beside left right pad text = replicate left pad ++ (text ++ replicate right pad)
+
 -- the bytes of a piece
 unfoldable pub bytesOf : List ℕ → Piece → List ℕ
-bytesOf t p = replicate (p .left) (p .pad) ++ (bodyOf t (p .body) ++ replicate (p .right) (p .pad))
+bytesOf t p = beside (p .left) (p .right) (p .pad) (bodyOf t (p .body))
 
 pub record GoodFigure (x : Figure) : Type 0 where
   pub base : (2 ≤ x .base) × (x .base ≤ 36)

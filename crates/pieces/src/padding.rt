@@ -2,13 +2,12 @@
 use super::Body;
 use super::Piece;
 use rules::Setting;
-ghost use mathlib.Core.List.{List, _++_};
+ghost use mathlib.Core.List.{List};
 ghost use mathlib.Core.Path.{_≡_};
 ghost use Prim.Native.Nat.{ℕ, _+_, _-_, _≤_};
-ghost use lib.ListN.{replicate};
 ghost use Rattle.rules.specs.Directive.{character};
 ghost use Rattle.rules.specs.Piece.{orElse, paddingOf};
-ghost use Rattle.pieces.specs.Bytes.{Makes, Gives};
+ghost use Rattle.pieces.specs.Bytes.{beside, Makes, Gives};
 ghost use Rattle.pieces.specs.Given.{Allowed};
 
 pub fn number_or(setting: Setting, default: usize) -> usize
@@ -57,7 +56,7 @@ pub fn padding(minwidth: usize, padinc: usize, minpad: usize, size: usize) -> us
 // A text with padding on its two sides.
 pub fn padded_piece(body: Body, left: usize, right: usize, pad: u8) -> Piece
     requires { ⌜ left + right ≤ 16384 ⌝ }
-    ensures { λ r. ⌜ ((t text : List ℕ) → Makes t body text → Gives t r (replicate left pad ++ (text ++ replicate right pad))) ⌝ }
+    ensures { λ r. ⌜ ((t text : List ℕ) → Makes t body text → Gives t r (beside left right pad text)) ⌝ }
 {
     Piece {
         left,

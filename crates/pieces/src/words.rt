@@ -11,6 +11,7 @@ ghost use Rattle.rules.specs.Piece.{writtenOf, glyphOf, pluralOf};
 ghost use Rattle.pieces.specs.Bytes.{Makes};
 ghost use Rattle.pieces.specs.Given.{unnamedOf};
 
+// The words, each filled up with dots that are not written.
 const TRUE: [u8; 12] = *b"#t..........";
 
 const FALSE: [u8; 12] = *b"#f..........";

@@ -1,15 +1,14 @@
-use Rattle.pieces.proofs.Parts.{Copying, copy-none, copy-inside, copy-more, copy-all, length-part}
-use Rattle.pieces.specs.Bytes.{part}
+-- `pieces::copying::copy_part` meets its contract: each turn copies the next byte of the part. Assumes nothing.
+use mathlib.Core.Path.{sym, _∙_}
+use Prim.Native.Nat.{_-_, _<_}
+use native.Mathlib.Omega.{arith}
+use borrow.Author.Needs.{needs}
 use lib.Seq.{getD-take, getD-drop}
 use lib.ListN.{length, drop, length-set}
-use Prim.Native.Nat.{_-_, _<_}
-use mathlib.Core.Path.{sym, _∙_}
-use borrow.Author.Needs.{needs}
-use native.Mathlib.Omega.{arith}
+use Rattle.pieces.specs.Bytes.{part}
+use Rattle.pieces.proofs.Parts.{Copying, copy-none, copy-more, copy-all, length-part}
 use Rattle.pieces.proofs.copying.copy_part.Statement.{statement}
 use Rattle.pieces.proofs.copying.copy_part.Tie as tie
-use Rattle.pieces.proofs.copying.copy_part.Reads as reads
-use Rattle.pieces.proofs.copying.copy_part.Lts as lts
 
 abbrev Inv-loop : tie.InvT-loop
 Inv-loop src from out₀ i₀ out i =
@@ -19,44 +18,38 @@ abbrev μ-loop : tie.MeasureT-loop
 μ-loop src from out₀ i₀ out i =
     length out - i
 
--- src/copying.rt:23:5
 loop-holds : tie.Need-loop-holds Inv-loop μ-loop
 loop-holds c = copy-none _ _ (length-part (c .args .from) _ (c .args .src .now) (c .pre))
 
--- src/copying.rt:24:22
 add-out : tie.Need-add-out Inv-loop μ-loop
 add-out c = omega (arith, (c .before .before .pre), (c .before .loop .inv .same))
 
--- src/copying.rt:24:18
 shared-slice-read-out : tie.Need-shared-slice-read-out Inv-loop μ-loop
 shared-slice-read-out c = omega (arith, (c .before .before .before .pre), (c .before .before .loop .inv .same))
 
--- src/copying.rt:24:9
 slice-write-out : tie.Need-slice-write-out Inv-loop μ-loop
 slice-write-out c = search needs
 
--- src/copying.rt:25:9
 add-i : tie.Need-add-i Inv-loop μ-loop
 add-i c = search needs
 
--- src/copying.rt:23:5
 loop-less : tie.Need-loop-less Inv-loop μ-loop
 loop-less c = simp length-set (omega arith)
 
--- src/copying.rt:23:5
 loop-again : tie.Need-loop-again Inv-loop μ-loop
 loop-again c =
-    let n = length ((c .before .before .before .args .out .now)) in
-    let from = (c .before .before .before .args .from) in
-    let src = (c .before .before .before .args .src .now) in
+    let start = c .before .before .before in
+    let n = length (start .args .out .now) in
+    let from = (start .args .from) in
+    let src = (start .args .src .now) in
     let h : (c .before .before .loop .i) < n = omega (arith, (c .before .before .loop .inv .same)) in
-    copy-more (c .before .before .loop .inv) _ (c .before .loop-test .taken) (sym (getD-take n (drop from src) (c .before .before .loop .i) 0 h ∙ getD-drop from src (c .before .before .loop .i) 0))
+    copy-more (c .before .before .loop .inv) _ (c .before .loop-test .taken)
+    (sym (getD-take n (drop from src) (c .before .before .loop .i) 0 h
+    ∙ getD-drop from src (c .before .before .loop .i) 0))
 
--- src/copying.rt:18:1
 same-length : tie.Need-same-length Inv-loop μ-loop
-same-length c = (c .before .loop .inv .same)
+same-length c = c .before .loop .inv .same
 
--- src/copying.rt:18:1
 returns : tie.Need-returns Inv-loop μ-loop
 returns c = copy-all (c .before .loop .inv) (c .loop-test .left)
 

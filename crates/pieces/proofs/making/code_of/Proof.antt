@@ -1,48 +1,37 @@
+-- `pieces::making::code_of` meets its contract: the code of a character, and 0 of anything else. Assumes nothing.
 use borrow.Author.Needs.{needs}
 use Rattle.pieces.proofs.making.code_of.Statement.{statement}
 use Rattle.pieces.proofs.making.code_of.Tie as tie
-use Rattle.pieces.proofs.making.code_of.Reads as reads
-use Rattle.pieces.proofs.making.code_of.Lts as lts
 
--- src/making.rt:139:33
 enum-told : tie.Need-enum-told
 enum-told c = search needs
 
--- src/making.rt:140:33
 enum-told-2 : tie.Need-enum-told-2
 enum-told-2 c = search needs
 
--- src/making.rt:141:29
 enum-known-argument : tie.Need-enum-known-argument
 enum-known-argument c = search needs
 
--- src/making.rt:142:48
 enum-told-3 : tie.Need-enum-told-3
 enum-told-3 c = search needs
 
--- src/making.rt:143:53
 enum-told-4 : tie.Need-enum-told-4
 enum-told-4 c = search needs
 
--- src/making.rt:135:1
 returns : tie.Need-returns
-returns c = λ t. rw ((c .enum-told .given .1))
+returns c = λ t. rw (c .enum-told .given .1)
 
--- src/making.rt:135:1
 returns-2 : tie.Need-returns-2
-returns-2 c = λ t. rw ((c .enum-told2 .given .1))
+returns-2 c = λ t. rw (c .enum-told2 .given .1)
 
--- src/making.rt:135:1
 returns-3 : tie.Need-returns-3
-returns-3 c = λ t. rw ((c .before .argument .given .1))
+returns-3 c = λ t. rw (c .before .argument .given .1)
 
--- src/making.rt:135:1
 returns-4 : tie.Need-returns-4
-returns-4 c = λ t. rw ((c .enum-told3 .given .1))
+returns-4 c = λ t. rw (c .enum-told3 .given .1)
 
--- src/making.rt:135:1
 returns-5 : tie.Need-returns-5
-returns-5 c = λ t. rw ((c .enum-told4 .given .1))
+returns-5 c = λ t. rw (c .enum-told4 .given .1)
 
 pub code-of-spec : {M : Type 1} → statement M
 code-of-spec =

@@ -1,27 +1,21 @@
+-- `pieces::padding::byte_or` meets its contract: a character parameter is a byte. Assumes nothing.
 use native.Mathlib.Omega.{arith}
 use borrow.Author.Needs.{needs}
 use Rattle.pieces.proofs.padding.byte_or.Statement.{statement}
 use Rattle.pieces.proofs.padding.byte_or.Tie as tie
-use Rattle.pieces.proofs.padding.byte_or.Reads as reads
-use Rattle.pieces.proofs.padding.byte_or.Lts as lts
 
--- src/padding.rt:28:28
 enum-told : tie.Need-enum-told
 enum-told c = search needs
 
--- src/padding.rt:29:21
 enum-known-setting : tie.Need-enum-known-setting
 enum-known-setting c = search needs
 
--- src/padding.rt:29:27
 cast-result : tie.Need-cast-result
-cast-result c = omega (arith, rw ((c .before .setting .given .1)) at (c .before .before .before .pre))
+cast-result c = omega (arith, rw (c .before .setting .given .1) at (c .before .before .before .pre))
 
--- src/padding.rt:23:1
 returns : tie.Need-returns
 returns c = search needs
 
--- src/padding.rt:23:1
 returns-2 : tie.Need-returns-2
 returns-2 c = search needs
 

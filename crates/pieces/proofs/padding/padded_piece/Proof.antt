@@ -1,10 +1,8 @@
+-- `pieces::padding::padded_piece` meets its contract: a body with its padding is a piece. Assumes nothing.
 use Rattle.pieces.proofs.Made.{made-piece}
 use Rattle.pieces.proofs.padding.padded_piece.Statement.{statement}
 use Rattle.pieces.proofs.padding.padded_piece.Tie as tie
-use Rattle.pieces.proofs.padding.padded_piece.Reads as reads
-use Rattle.pieces.proofs.padding.padded_piece.Lts as lts
 
--- src/padding.rt:58:1
 returns : tie.Need-returns
 returns c = λ t text m. made-piece _ _ _ (c .pre) m
 

@@ -1,52 +1,68 @@
-use Rattle.rules.proofs.Padding.{times-most, padding-wide, padding-most}
-use Rattle.rules.specs.Piece.{timesPadded}
-use Prim.Native.Nat.{_+_, _-_, _*_, _/_}
-use mathlib.Core.Path.{_≡_, refl, sym}
+-- `pieces::padding::padding` meets its contract: minpad where that is wide enough, and else what the shortfall asks for
+-- besides. Assumes nothing.
+use mathlib.Core.Path.{refl, sym}
+use Prim.Native.Nat.{_+_, _-_}
 use native.Mathlib.Omega.{arith}
 use borrow.Author.Needs.{needs}
+use Rattle.rules.proofs.Padding.{times-most, padding-wide, padding-most}
+use Rattle.rules.specs.Piece.{timesPadded}
 use Rattle.pieces.proofs.padding.padding.Statement.{statement}
 use Rattle.pieces.proofs.padding.padding.Tie as tie
-use Rattle.pieces.proofs.padding.padding.Reads as reads
-use Rattle.pieces.proofs.padding.padding.Lts as lts
 
--- src/padding.rt:48:17
 add-least : tie.Need-add-least
 add-least c = search needs
 
--- src/padding.rt:50:9
 returns : tie.Need-returns
-returns c = (sym (padding-wide (c .before .args .minwidth) (c .before .args .padinc) (c .before .args .minpad) (c .before .args .size) (c .before .pre .1 .0 .0) (c .if1 .taken)), omega arith)
+returns c =
+    let start = c .before in (
+      sym (padding-wide (start .args .minwidth) (start .args .padinc) (start .args .minpad) (start .args .size)
+          (start .pre .1 .0 .0) (c .if1 .taken)),
+      omega arith,
+    )
 
--- src/padding.rt:52:21
 sub-shortfall : tie.Need-sub-shortfall
 sub-shortfall c = search needs
 
--- src/padding.rt:53:31
 sub-times : tie.Need-sub-times
 sub-times c = search needs
 
--- src/padding.rt:53:18
 add-times : tie.Need-add-times
 add-times c = search needs
 
--- src/padding.rt:53:17
 div-times : tie.Need-div-times
 div-times c = search needs
 
--- src/padding.rt:54:14
 mul-result : tie.Need-mul-result
 unfolding timesPadded
-mul-result c = omega (arith, times-most (c .before .args .padinc) ((c .before .args .minwidth) - ((c .before .args .size) + (c .before .args .minpad))) (c .before .pre .1 .0 .0))
+mul-result c =
+    let start = c .before in
+    omega (
+      arith,
+      times-most (start .args .padinc)
+          ((start .args .minwidth) - ((start .args .size) + (start .args .minpad))) (start .pre .1 .0 .0),
+    )
 
--- src/padding.rt:54:5
 add-result : tie.Need-add-result
 unfolding timesPadded
-add-result c = omega (arith, times-most (c .before .args .padinc) ((c .before .args .minwidth) - ((c .before .args .size) + (c .before .args .minpad))) (c .before .pre .1 .0 .0))
+add-result c =
+    let start = c .before in
+    omega (
+      arith,
+      times-most (start .args .padinc)
+          ((start .args .minwidth) - ((start .args .size) + (start .args .minpad))) (start .pre .1 .0 .0),
+    )
 
--- src/padding.rt:41:1
 returns-2 : tie.Need-returns-2
 unfolding timesPadded
-returns-2 c = (refl, omega (arith, padding-most (c .before .args .minwidth) (c .before .args .padinc) (c .before .args .minpad) (c .before .args .size) (c .before .pre .1 .0 .0)))
+returns-2 c =
+    let start = c .before in (
+      refl,
+      omega (
+        arith,
+        padding-most (start .args .minwidth) (start .args .padinc) (start .args .minpad)
+            (start .args .size) (start .pre .1 .0 .0),
+      ),
+    )
 
 pub padding-spec : {M : Type 1} → statement M
 padding-spec =

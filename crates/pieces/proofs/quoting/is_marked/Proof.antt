@@ -1,16 +1,13 @@
-use Rattle.pieces.specs.Bytes.{isMarked}
+-- `pieces::quoting::is_marked` meets its contract: its test is the definition's. Assumes nothing.
 use borrow.Author.Tests.{eq-eqb, ne-eqb}
+use Rattle.pieces.specs.Bytes.{isMarked}
 use Rattle.pieces.proofs.quoting.is_marked.Statement.{statement}
 use Rattle.pieces.proofs.quoting.is_marked.Tie as tie
-use Rattle.pieces.proofs.quoting.is_marked.Reads as reads
-use Rattle.pieces.proofs.quoting.is_marked.Lts as lts
 
--- src/quoting.rt:11:1
 returns : tie.Need-returns
 unfolding isMarked
 returns c = rw (eq-eqb _ _ (c .if1 .taken))
 
--- src/quoting.rt:11:1
 returns-2 : tie.Need-returns-2
 unfolding isMarked
 returns-2 c = rw (ne-eqb _ _ (c .if1 .left))

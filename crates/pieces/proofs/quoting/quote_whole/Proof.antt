@@ -1,14 +1,14 @@
-use Rattle.pieces.proofs.Escapes.{Quoting, quote-room, quote-none, plain-room, quote-plain, mark-room, byte-room, quote-marked, last-room, quote-all}
-use lib.ListN.{length, length-set}
-use Prim.Native.Nat.{_-_}
+-- `pieces::quoting::quote_whole` meets its contract: what is written, with what the string still owes and the last
+-- quote, is the whole. Assumes nothing.
 use mathlib.Core.Path.{sym, _∙_}
-use borrow.Author.Needs.{needs}
+use Prim.Native.Nat.{_-_}
 use native.Mathlib.Omega.{arith}
+use borrow.Author.Needs.{needs}
+use lib.ListN.{length, length-set}
+use Rattle.pieces.proofs.Escapes.{Quoting, quote-room, quote-none, plain-room, quote-plain, mark-room, byte-room}
+use Rattle.pieces.proofs.Escapes.{quote-marked, last-room, quote-all}
 use Rattle.pieces.proofs.quoting.quote_whole.Statement.{statement}
 use Rattle.pieces.proofs.quoting.quote_whole.Tie as tie
-use Rattle.pieces.proofs.quoting.quote_whole.Reads as reads
-use Rattle.pieces.proofs.quoting.quote_whole.Lts as lts
-use Rattle.pieces.proofs.quoting.is_marked.Reads as is-marked-reads
 
 abbrev Inv-loop : tie.InvT-loop
 Inv-loop src out₀ i₀ to₀ out i to =
@@ -18,75 +18,100 @@ abbrev μ-loop : tie.MeasureT-loop
 μ-loop src out₀ i₀ to₀ out i to =
     length src - i
 
--- src/quoting.rt:42:5
 slice-write-out : tie.Need-slice-write-out Inv-loop μ-loop
-slice-write-out c = quote-room (c .before .before .args .src .now) (c .before .before .args .out .now) (c .before .before .pre)
+slice-write-out c =
+    let start = c .before .before in
+    quote-room (start .args .src .now) (start .args .out .now) (start .pre)
 
--- src/quoting.rt:45:5
 loop-holds : tie.Need-loop-holds Inv-loop μ-loop
-loop-holds c = quote-none (c .before .before .args .src .now) (c .before .before .args .out .now) (c .before .before .pre)
+loop-holds c =
+    let start = c .before .before in
+    quote-none (start .args .src .now) (start .args .out .now) (start .pre)
 
--- src/quoting.rt:46:20
 shared-slice-read-byte : tie.Need-shared-slice-read-byte Inv-loop μ-loop
 shared-slice-read-byte c = search needs
 
--- src/quoting.rt:47:9
 add-i : tie.Need-add-i Inv-loop μ-loop
 add-i c = search needs
 
--- src/quoting.rt:48:12
 is-marked-requires : tie.Need-is-marked-requires Inv-loop μ-loop
 is-marked-requires c κs = search needs
 
--- src/quoting.rt:49:13
 slice-write-out-2 : tie.Need-slice-write-out-2 Inv-loop μ-loop
-slice-write-out-2 c = mark-room (c .before .before .before .before .loop .inv) (c .before .before .before .loop-test .taken) (sym (c .before .is-marked .ensures) ∙ (c .if1 .taken))
+slice-write-out-2 c =
+    mark-room (c .before .before .before .before .loop .inv) (c .before .before .before .loop-test .taken)
+    (sym (c .before .is-marked .ensures) ∙ (c .if1 .taken))
 
--- src/quoting.rt:50:13
 add-to : tie.Need-add-to Inv-loop μ-loop
-add-to c = omega (arith, mark-room (c .before .before .before .before .loop .inv) (c .before .before .before .loop-test .taken) (sym (c .before .is-marked .ensures) ∙ (c .if1 .taken)), (c .before .before .before .before .loop .inv .same), length-set (c .before .before .before .before .before .before .before .args .out .now) 0 34, (c .before .before .before .before .before .before .before .good))
+add-to c =
+    let start = c .before .before .before .before .before .before .before in
+    omega (
+      arith,
+      mark-room (c .before .before .before .before .loop .inv) (c .before .before .before .loop-test .taken)
+          (sym (c .before .is-marked .ensures) ∙ (c .if1 .taken)),
+      (c .before .before .before .before .loop .inv .same),
+      length-set (start .args .out .now) 0 34,
+      (start .good),
+    )
 
--- src/quoting.rt:51:13
 slice-write-out-3 : tie.Need-slice-write-out-3 Inv-loop μ-loop
-slice-write-out-3 c = byte-room (c .before .before .before .before .loop .inv) (c .before .before .before .loop-test .taken) (sym (c .before .is-marked .ensures) ∙ (c .if1 .taken))
+slice-write-out-3 c =
+    byte-room (c .before .before .before .before .loop .inv) (c .before .before .before .loop-test .taken)
+    (sym (c .before .is-marked .ensures) ∙ (c .if1 .taken))
 
--- src/quoting.rt:52:13
 add-to-2 : tie.Need-add-to-2 Inv-loop μ-loop
-add-to-2 c = omega (arith, simp length-set at (byte-room (c .before .before .before .before .loop .inv) (c .before .before .before .loop-test .taken) (sym (c .before .is-marked .ensures) ∙ (c .if1 .taken))), (c .before .before .before .before .loop .inv .same), length-set (c .before .before .before .before .before .before .before .args .out .now) 0 34, (c .before .before .before .before .before .before .before .good))
+add-to-2 c =
+    let start = c .before .before .before .before .before .before .before in
+    omega (
+      arith,
+      simp length-set
+          at (byte-room (c .before .before .before .before .loop .inv) (c .before .before .before .loop-test .taken)
+          (sym (c .before .is-marked .ensures) ∙ (c .if1 .taken))),
+      (c .before .before .before .before .loop .inv .same),
+      length-set (start .args .out .now) 0 34,
+      (start .good),
+    )
 
--- src/quoting.rt:45:5
 loop-less : tie.Need-loop-less Inv-loop μ-loop
 loop-less c = search needs
 
--- src/quoting.rt:45:5
 loop-again : tie.Need-loop-again Inv-loop μ-loop
-loop-again c = quote-marked (c .before .before .before .before .loop .inv) (c .before .before .before .loop-test .taken) (sym (c .before .is-marked .ensures) ∙ (c .if1 .taken))
+loop-again c =
+    quote-marked (c .before .before .before .before .loop .inv) (c .before .before .before .loop-test .taken)
+    (sym (c .before .is-marked .ensures) ∙ (c .if1 .taken))
 
--- src/quoting.rt:54:13
 slice-write-out-4 : tie.Need-slice-write-out-4 Inv-loop μ-loop
-slice-write-out-4 c = plain-room (c .before .before .before .before .loop .inv) (c .before .before .before .loop-test .taken) (sym (c .before .is-marked .ensures) ∙ (c .if1 .left))
+slice-write-out-4 c =
+    plain-room (c .before .before .before .before .loop .inv) (c .before .before .before .loop-test .taken)
+    (sym (c .before .is-marked .ensures) ∙ (c .if1 .left))
 
--- src/quoting.rt:55:13
 add-to-3 : tie.Need-add-to-3 Inv-loop μ-loop
-add-to-3 c = omega (arith, plain-room (c .before .before .before .before .loop .inv) (c .before .before .before .loop-test .taken) (sym (c .before .is-marked .ensures) ∙ (c .if1 .left)), (c .before .before .before .before .loop .inv .same), length-set (c .before .before .before .before .before .before .before .args .out .now) 0 34, (c .before .before .before .before .before .before .before .good))
+add-to-3 c =
+    let start = c .before .before .before .before .before .before .before in
+    omega (
+      arith,
+      plain-room (c .before .before .before .before .loop .inv)
+          (c .before .before .before .loop-test .taken) (sym (c .before .is-marked .ensures) ∙ (c .if1 .left)),
+      (c .before .before .before .before .loop .inv .same),
+      length-set (start .args .out .now) 0 34,
+      (start .good),
+    )
 
--- src/quoting.rt:45:5
 loop-less-2 : tie.Need-loop-less-2 Inv-loop μ-loop
 loop-less-2 c = search needs
 
--- src/quoting.rt:45:5
 loop-again-2 : tie.Need-loop-again-2 Inv-loop μ-loop
-loop-again-2 c = quote-plain (c .before .before .before .before .loop .inv) (c .before .before .before .loop-test .taken) (sym (c .before .is-marked .ensures) ∙ (c .if1 .left))
+loop-again-2 c =
+    quote-plain (c .before .before .before .before .loop .inv) (c .before .before .before .loop-test .taken)
+    (sym (c .before .is-marked .ensures) ∙ (c .if1 .left))
 
--- src/quoting.rt:58:5
 slice-write-out-5 : tie.Need-slice-write-out-5 Inv-loop μ-loop
 slice-write-out-5 c = last-room (c .before .loop .inv) (c .loop-test .left)
 
--- src/quoting.rt:38:1
 same-length : tie.Need-same-length Inv-loop μ-loop
-same-length c = simp length-set ((c .before .loop .inv .same) ∙ length-set (c .before .before .before .before .args .out .now) 0 34)
+same-length c =
+    simp length-set ((c .before .loop .inv .same) ∙ length-set (c .before .before .before .before .args .out .now) 0 34)
 
--- src/quoting.rt:38:1
 returns : tie.Need-returns Inv-loop μ-loop
 returns c = quote-all (c .before .loop .inv) (c .loop-test .left)
 

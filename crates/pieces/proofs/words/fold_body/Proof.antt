@@ -1,24 +1,17 @@
-use Rattle.pieces.proofs.Made.{makes-same}
+-- `pieces::words::fold_body` meets its contract: a newline with @, and else nothing. Assumes nothing.
 use borrow.Author.Needs.{needs}
 use Rattle.pieces.proofs.words.fold_body.Statement.{statement}
 use Rattle.pieces.proofs.words.fold_body.Tie as tie
-use Rattle.pieces.proofs.words.fold_body.Reads as reads
-use Rattle.pieces.proofs.words.fold_body.Lts as lts
-use Rattle.pieces.proofs.words.run_body.Reads as run-body-reads
 
--- src/words.rt:158:9
 run-body-requires : tie.Need-run-body-requires
 run-body-requires c κs = search needs
 
--- src/words.rt:158:9
 returns : tie.Need-returns
 returns c = λ t. rw (c .before .if1 .taken) ((c .run-body .ensures) t)
 
--- src/words.rt:160:5
 run-body-requires-2 : tie.Need-run-body-requires-2
 run-body-requires-2 c κs = search needs
 
--- src/words.rt:154:1
 returns-2 : tie.Need-returns-2
 returns-2 c = λ t. rw (c .before .if1 .left) ((c .run-body2 .ensures) t)
 

@@ -1,50 +1,45 @@
+-- `pieces::words::glyph_body` meets its contract: the written form with @, the caret form with `:` below 32, and else
+-- the byte. Assumes nothing.
 use borrow.Author.Tests.{lt-ltb, le-ltb}
 use borrow.Author.Needs.{needs}
 use Rattle.pieces.proofs.words.glyph_body.Statement.{statement}
 use Rattle.pieces.proofs.words.glyph_body.Tie as tie
-use Rattle.pieces.proofs.words.glyph_body.Reads as reads
-use Rattle.pieces.proofs.words.glyph_body.Lts as lts
-use Rattle.pieces.proofs.words.run_body.Reads as run-body-reads
-use Rattle.pieces.proofs.words.word_body.Reads as word-body-reads
-use Rattle.pieces.proofs.words.written_body.Reads as written-body-reads
 
--- src/words.rt:114:9
 written-body-requires : tie.Need-written-body-requires
 written-body-requires c κs = search needs
 
--- src/words.rt:114:9
 returns : tie.Need-returns
 returns c = λ t. rw (c .before .if1 .taken) ((c .written-body .ensures) t)
 
--- src/words.rt:119:23
 add-word : tie.Need-add-word
 add-word c = search needs
 
--- src/words.rt:119:13
 array-write-word : tie.Need-array-write-word
 array-write-word c = search needs
 
--- src/words.rt:120:13
 word-body-requires : tie.Need-word-body-requires
 word-body-requires c κs = search needs
 
--- src/words.rt:120:13
 returns-2 : tie.Need-returns-2
-returns-2 c = λ t. rw ((c .before .before .before .if1 .left), (c .before .before .if2 .taken), lt-ltb _ _ (c .before .if3 .taken)) ((c .word-body .ensures) t)
+returns-2 c =
+    λ t. rw (
+      (c .before .before .before .if1 .left),
+      (c .before .before .if2 .taken),
+      lt-ltb _ _
+          (c .before .if3 .taken),
+    ) ((c .word-body .ensures) t)
 
--- src/words.rt:122:9
 run-body-requires : tie.Need-run-body-requires
 run-body-requires c κs = search needs
 
--- src/words.rt:122:9
 returns-3 : tie.Need-returns-3
-returns-3 c = λ t. rw ((c .before .before .before .if1 .left), (c .before .before .if2 .taken), le-ltb _ _ (c .before .if3 .left)) ((c .run-body .ensures) t)
+returns-3 c =
+    λ t. rw ((c .before .before .before .if1 .left), (c .before .before .if2 .taken), le-ltb _ _ (c .before .if3 .left))
+    ((c .run-body .ensures) t)
 
--- src/words.rt:124:5
 run-body-requires-2 : tie.Need-run-body-requires-2
 run-body-requires-2 c κs = search needs
 
--- src/words.rt:110:1
 returns-4 : tie.Need-returns-4
 returns-4 c = λ t. rw ((c .before .before .if1 .left), (c .before .if2 .left)) ((c .run-body2 .ensures) t)
 

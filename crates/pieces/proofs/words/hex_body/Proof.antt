@@ -1,52 +1,46 @@
-use Rattle.pieces.proofs.Spelled.{hex-one, hex-two}
-use Rattle.pieces.proofs.Made.{makes-same}
-use Prim.Native.Nat.{ℕ}
+-- `pieces::words::hex_body` meets its contract: one hex digit below 16, and else two. Assumes nothing.
 use mathlib.Core.List.{List, _∷_}
 use mathlib.Core.Path.{ap}
-use native.Mathlib.Omega.{arith}
+use Prim.Native.Nat.{ℕ}
 use borrow.Author.Needs.{needs}
+use Rattle.pieces.proofs.Spelled.{hex-one, hex-two}
+use Rattle.pieces.proofs.Made.{makes-same}
 use Rattle.pieces.proofs.words.hex_body.Statement.{statement}
 use Rattle.pieces.proofs.words.hex_body.Tie as tie
-use Rattle.pieces.proofs.words.hex_body.Reads as reads
-use Rattle.pieces.proofs.words.hex_body.Lts as lts
-use Rattle.pieces.proofs.words.hex_digit.Reads as hex-digit-reads
-use Rattle.pieces.proofs.words.word_body.Reads as word-body-reads
 
--- src/words.rt:68:9
 hex-digit-requires : tie.Need-hex-digit-requires
 hex-digit-requires c κs = search needs
 
--- src/words.rt:71:9
 array-write-word : tie.Need-array-write-word
 array-write-word c = search needs
 
--- src/words.rt:72:9
 word-body-requires : tie.Need-word-body-requires
 word-body-requires c κs = search needs
 
--- src/words.rt:72:9
 returns : tie.Need-returns
-returns c = λ t. makes-same (ap (λ (l : List ℕ). 35 ∷ 92 ∷ 120 ∷ l) (hex-one (c .before .before .before .args .code) _ (c .before .if1 .taken) (c .before .before .hex-digit .ensures))) ((c .word-body .ensures) t)
+returns c =
+    λ t. makes-same (ap (λ (l : List ℕ). 35 ∷ 92 ∷ 120 ∷ l)
+    (hex-one (c .before .before .before .args .code) _ (c .before .if1 .taken) (c .before .before .hex-digit .ensures)))
+    ((c .word-body .ensures) t)
 
--- src/words.rt:74:15
 add-word : tie.Need-add-word
 add-word c = search needs
 
--- src/words.rt:74:5
 array-write-word-2 : tie.Need-array-write-word-2
 array-write-word-2 c = search needs
 
--- src/words.rt:75:5
 array-write-word-3 : tie.Need-array-write-word-3
 array-write-word-3 c = search needs
 
--- src/words.rt:76:5
 word-body-requires-2 : tie.Need-word-body-requires-2
 word-body-requires-2 c κs = search needs
 
--- src/words.rt:63:1
 returns-2 : tie.Need-returns-2
-returns-2 c = λ t. makes-same (ap (λ (l : List ℕ). 35 ∷ 92 ∷ 120 ∷ l) (hex-two (c .before .before .before .args .code) _ (c .before .before .before .pre) (c .before .if1 .left) (c .before .before .hex-digit .ensures))) ((c .word-body2 .ensures) t)
+returns-2 c =
+    let start = c .before .before .before in
+    λ t. makes-same (ap (λ (l : List ℕ). 35 ∷ 92 ∷ 120 ∷ l)
+    (hex-two (start .args .code) _ (start .pre) (c .before .if1 .left) (c .before .before .hex-digit .ensures)))
+    ((c .word-body2 .ensures) t)
 
 pub hex-body-spec : {M : Type 1} → statement M
 hex-body-spec =

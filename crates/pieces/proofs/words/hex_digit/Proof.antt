@@ -1,23 +1,18 @@
+-- `pieces::words::hex_digit` meets its contract: its test is the definition's. Assumes nothing.
 use borrow.Author.Tests.{lt-ltb, le-ltb}
 use borrow.Author.Needs.{needs}
 use Rattle.pieces.proofs.words.hex_digit.Statement.{statement}
 use Rattle.pieces.proofs.words.hex_digit.Tie as tie
-use Rattle.pieces.proofs.words.hex_digit.Reads as reads
-use Rattle.pieces.proofs.words.hex_digit.Lts as lts
 
--- src/words.rt:59:21
 add-result : tie.Need-add-result
 add-result c = search needs
 
--- src/words.rt:59:41
 add-result-2 : tie.Need-add-result-2
 add-result-2 c = search needs
 
--- src/words.rt:55:1
 returns : tie.Need-returns
 returns c = rw (lt-ltb _ _ (c .if1 .taken))
 
--- src/words.rt:55:1
 returns-2 : tie.Need-returns-2
 returns-2 c = rw (le-ltb _ _ (c .if1 .left))
 

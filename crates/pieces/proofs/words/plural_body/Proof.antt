@@ -1,40 +1,29 @@
+-- `pieces::words::plural_body` meets its contract: each case has its ending. Assumes nothing.
 use borrow.Author.Needs.{needs}
 use Rattle.pieces.proofs.words.plural_body.Statement.{statement}
 use Rattle.pieces.proofs.words.plural_body.Tie as tie
-use Rattle.pieces.proofs.words.plural_body.Reads as reads
-use Rattle.pieces.proofs.words.plural_body.Lts as lts
-use Rattle.pieces.proofs.words.run_body.Reads as run-body-reads
-use Rattle.pieces.proofs.words.word_body.Reads as word-body-reads
 
--- src/words.rt:133:13
 run-body-requires : tie.Need-run-body-requires
 run-body-requires c κs = search needs
 
--- src/words.rt:133:13
 returns : tie.Need-returns
 returns c = λ t. rw ((c .before .before .if1 .taken), (c .before .if2 .taken)) ((c .run-body .ensures) t)
 
--- src/words.rt:135:9
 run-body-requires-2 : tie.Need-run-body-requires-2
 run-body-requires-2 c κs = search needs
 
--- src/words.rt:135:9
 returns-2 : tie.Need-returns-2
 returns-2 c = λ t. rw ((c .before .before .if1 .taken), (c .before .if2 .left)) ((c .run-body2 .ensures) t)
 
--- src/words.rt:138:9
 word-body-requires : tie.Need-word-body-requires
 word-body-requires c κs = search needs
 
--- src/words.rt:138:9
 returns-3 : tie.Need-returns-3
 returns-3 c = λ t. rw ((c .before .before .if1 .left), (c .before .if3 .taken)) ((c .word-body .ensures) t)
 
--- src/words.rt:140:5
 run-body-requires-3 : tie.Need-run-body-requires-3
 run-body-requires-3 c κs = search needs
 
--- src/words.rt:128:1
 returns-4 : tie.Need-returns-4
 returns-4 c = λ t. rw ((c .before .before .if1 .left), (c .before .if3 .left)) ((c .run-body3 .ensures) t)
 

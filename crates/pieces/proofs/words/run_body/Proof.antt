@@ -1,10 +1,8 @@
+-- `pieces::words::run_body` meets its contract: a run is a body. Assumes nothing.
 use Rattle.pieces.proofs.Made.{made-run}
 use Rattle.pieces.proofs.words.run_body.Statement.{statement}
 use Rattle.pieces.proofs.words.run_body.Tie as tie
-use Rattle.pieces.proofs.words.run_body.Reads as reads
-use Rattle.pieces.proofs.words.run_body.Lts as lts
 
--- src/words.rt:43:1
 returns : tie.Need-returns
 returns c = λ t. made-run t _ _ _ (c .pre)
 

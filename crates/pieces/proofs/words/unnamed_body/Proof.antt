@@ -1,29 +1,21 @@
+-- `pieces::words::unnamed_body` meets its contract: the hex form below 32, and else the byte. Assumes nothing.
 use borrow.Author.Tests.{lt-ltb, le-ltb}
 use borrow.Author.Needs.{needs}
 use Rattle.pieces.proofs.words.unnamed_body.Statement.{statement}
 use Rattle.pieces.proofs.words.unnamed_body.Tie as tie
-use Rattle.pieces.proofs.words.unnamed_body.Reads as reads
-use Rattle.pieces.proofs.words.unnamed_body.Lts as lts
-use Rattle.pieces.proofs.words.hex_body.Reads as hex-body-reads
-use Rattle.pieces.proofs.words.word_body.Reads as word-body-reads
 
--- src/words.rt:84:9
 hex-body-requires : tie.Need-hex-body-requires
 hex-body-requires c κs = search needs
 
--- src/words.rt:84:9
 returns : tie.Need-returns
 returns c = λ t. rw (lt-ltb _ _ (c .before .if1 .taken)) ((c .hex-body .ensures) t)
 
--- src/words.rt:87:5
 array-write-word : tie.Need-array-write-word
 array-write-word c = search needs
 
--- src/words.rt:88:5
 word-body-requires : tie.Need-word-body-requires
 word-body-requires c κs = search needs
 
--- src/words.rt:80:1
 returns-2 : tie.Need-returns-2
 returns-2 c = λ t. rw (le-ltb _ _ (c .before .if1 .left)) ((c .word-body .ensures) t)
 

@@ -1,11 +1,9 @@
-use Rattle.pieces.proofs.Made.{made-word}
+-- `pieces::words::word_body` meets its contract: the first bytes of a word are a body. Assumes nothing.
 use native.Mathlib.Omega.{arith}
+use Rattle.pieces.proofs.Made.{made-word}
 use Rattle.pieces.proofs.words.word_body.Statement.{statement}
 use Rattle.pieces.proofs.words.word_body.Tie as tie
-use Rattle.pieces.proofs.words.word_body.Reads as reads
-use Rattle.pieces.proofs.words.word_body.Lts as lts
 
--- src/words.rt:31:1
 returns : tie.Need-returns
 returns c = λ t. made-word t _ _ (c .pre) (omega arith)
 

@@ -1,135 +1,142 @@
-use Rattle.pieces.proofs.Parts.{part-fill}
-use Rattle.pieces.proofs.Bodies.{Is, is-run, is-copied, is-quoted, is-figures, is-word}
-use lib.ListN.{length}
-use mathlib.Core.Path.{sym, ap, _∙_}
-use native.Mathlib.Omega.{arith}
+-- `pieces::writing::body_part` meets its contract: each source has its own writer of a part. Assumes nothing.
+use mathlib.Core.Path.{sym, _∙_}
 use borrow.Author.Needs.{needs}
+use Rattle.pieces.proofs.Parts.{part-fill}
+use Rattle.pieces.proofs.Bodies.{is-run, is-copied, is-quoted, is-figures, is-word}
 use Rattle.pieces.proofs.writing.body_part.Statement.{statement}
 use Rattle.pieces.proofs.writing.body_part.Tie as tie
-use Rattle.pieces.proofs.writing.body_part.Reads as reads
-use Rattle.pieces.proofs.writing.body_part.Lts as lts
-use Rattle.pieces.proofs.copying.copy_part.Reads as copy-part-reads
-use Rattle.pieces.proofs.copying.fill.Reads as fill-reads
-use Rattle.pieces.proofs.figuring.figure_part.Reads as figure-part-reads
-use Rattle.pieces.proofs.quoting.quote_part.Reads as quote-part-reads
 
--- src/writing.rt:35:23
 enum-known-source : tie.Need-enum-known-source
 enum-known-source c = search needs
 
--- src/writing.rt:35:43
 fill-requires : tie.Need-fill-requires
 fill-requires c κs = search needs
 
--- src/writing.rt:36:26
 enum-known-source-2 : tie.Need-enum-known-source-2
 enum-known-source-2 c = search needs
 
--- src/writing.rt:36:52
 sub-copy-part : tie.Need-sub-copy-part
-sub-copy-part c = (is-copied (c .before .before .before .before .before .before .pre .0) _ _ (c .before .source2 .given .1)) .places .0
+sub-copy-part c =
+    (is-copied (c .before .before .before .before .before .before .pre .0) _ _
+    (c .before .source2 .given .1)) .places .0
 
--- src/writing.rt:36:52
 part-copy-part-start : tie.Need-part-copy-part-start
-part-copy-part-start c = (is-copied (c .before .before .before .before .before .before .pre .0) _ _ (c .before .source2 .given .1)) .places .0
+part-copy-part-start c =
+    (is-copied (c .before .before .before .before .before .before .pre .0) _ _
+    (c .before .source2 .given .1)) .places .0
 
--- src/writing.rt:36:52
 part-copy-part-end : tie.Need-part-copy-part-end
-part-copy-part-end c = (is-copied (c .before .before .before .before .before .before .pre .0) _ _ (c .before .source2 .given .1)) .places .1
+part-copy-part-end c =
+    (is-copied (c .before .before .before .before .before .before .pre .0) _ _
+    (c .before .source2 .given .1)) .places .1
 
--- src/writing.rt:36:42
 copy-part-requires : tie.Need-copy-part-requires
-copy-part-requires c κs = rw ((is-copied (c .before .before .before .before .before .before .before .before .pre .0) _ _ (c .before .before .before .source2 .given .1)) .size) at (c .before .before .before .before .before .before .before .before .pre .1)
+copy-part-requires c κs =
+    let start = c .before .before .before .before .before .before .before .before in
+    rw ((is-copied (start .pre .0) _ _ (c .before .before .before .source2 .given .1)) .size) at (start .pre .1)
 
--- src/writing.rt:37:26
 enum-known-source-3 : tie.Need-enum-known-source-3
 enum-known-source-3 c = search needs
 
--- src/writing.rt:37:53
 sub-quote-part : tie.Need-sub-quote-part
-sub-quote-part c = (is-quoted (c .before .before .before .before .before .before .pre .0) _ _ (c .before .source3 .given .1)) .places .0
+sub-quote-part c =
+    (is-quoted (c .before .before .before .before .before .before .pre .0) _ _
+    (c .before .source3 .given .1)) .places .0
 
--- src/writing.rt:37:53
 part-quote-part-start : tie.Need-part-quote-part-start
-part-quote-part-start c = (is-quoted (c .before .before .before .before .before .before .pre .0) _ _ (c .before .source3 .given .1)) .places .0
+part-quote-part-start c =
+    (is-quoted (c .before .before .before .before .before .before .pre .0) _ _
+    (c .before .source3 .given .1)) .places .0
 
--- src/writing.rt:37:53
 part-quote-part-end : tie.Need-part-quote-part-end
-part-quote-part-end c = (is-quoted (c .before .before .before .before .before .before .pre .0) _ _ (c .before .source3 .given .1)) .places .1
+part-quote-part-end c =
+    (is-quoted (c .before .before .before .before .before .before .pre .0) _ _
+    (c .before .source3 .given .1)) .places .1
 
--- src/writing.rt:37:42
 quote-part-requires : tie.Need-quote-part-requires
-quote-part-requires c κs = ((is-quoted (c .before .before .before .before .before .before .before .before .pre .0) _ _ (c .before .before .before .source3 .given .1)) .size, ((c .before .before .before .before .before .before .before .before .pre .0 .small), (c .before .before .before .before .before .before .before .before .pre .1)))
+quote-part-requires c κs =
+    let start = c .before .before .before .before .before .before .before .before in (
+      (is-quoted (start .pre .0) _ _ (c .before .before .before .source3 .given .1)) .size,
+      ((start .pre .0 .small), (start .pre .1)),
+    )
 
--- src/writing.rt:38:25
 enum-known-source-4 : tie.Need-enum-known-source-4
 enum-known-source-4 c = search needs
 
--- src/writing.rt:38:31
 figure-part-requires : tie.Need-figure-part-requires
-figure-part-requires c κs = ((is-figures (c .before .before .before .before .before .before .before .pre .0) _ (c .before .before .source4 .given .1)) .places, ((is-figures (c .before .before .before .before .before .before .before .pre .0) _ (c .before .before .source4 .given .1)) .size, (c .before .before .before .before .before .before .before .pre .1)))
+figure-part-requires c κs =
+    let start = c .before .before .before .before .before .before .before in (
+      (is-figures (start .pre .0) _ (c .before .before .source4 .given .1)) .places,
+      ((is-figures (start .pre .0) _ (c .before .before .source4 .given .1)) .size, (start .pre .1)),
+    )
 
--- src/writing.rt:39:22
 enum-known-source-5 : tie.Need-enum-known-source-5
 enum-known-source-5 c = search needs
 
--- src/writing.rt:39:38
 sub-copy-part-2 : tie.Need-sub-copy-part-2
 sub-copy-part-2 c = search needs
 
--- src/writing.rt:39:38
 part-copy-part-start-2 : tie.Need-part-copy-part-start-2
 part-copy-part-start-2 c = search needs
 
--- src/writing.rt:39:38
 part-copy-part-end-2 : tie.Need-part-copy-part-end-2
-part-copy-part-end-2 c = (is-word (c .before .before .before .before .before .before .before .pre .0) _ (c .before .before .source5 .given .1)) .places
+part-copy-part-end-2 c =
+    (is-word (c .before .before .before .before .before .before .before .pre .0) _
+    (c .before .before .source5 .given .1)) .places
 
--- src/writing.rt:39:28
 copy-part-requires-2 : tie.Need-copy-part-requires-2
-copy-part-requires-2 c κs = rw ((is-word (c .before .before .before .before .before .before .before .before .before .pre .0) _ (c .before .before .before .before .source5 .given .1)) .size) at (c .before .before .before .before .before .before .before .before .before .pre .1)
+copy-part-requires-2 c κs =
+    let start = c .before .before .before .before .before .before .before .before .before in
+    rw ((is-word (start .pre .0) _ (c .before .before .before .before .source5 .given .1)) .size) at (start .pre .1)
 
--- src/writing.rt:26:1
 same-length : tie.Need-same-length
 same-length c = search needs
 
--- src/writing.rt:26:1
 returns : tie.Need-returns
 returns c =
+    let start = c .before .before .before .before .before .before .before .before .before .before in
     (c .before .before .fill .ensures)
-    ∙ sym (rw ((is-run (c .before .before .before .before .before .before .before .before .before .before .pre .0) _ _ (c .before .before .before .before .before .source .given .1)) .text) (part-fill (c .before .before .before .before .before .before .before .before .before .before .args .from) _ _ _ (rw ((is-run (c .before .before .before .before .before .before .before .before .before .before .pre .0) _ _ (c .before .before .before .before .before .source .given .1)) .places) at (c .before .before .before .before .before .before .before .before .before .before .pre .1))))
+    ∙ sym (rw ((is-run (start .pre .0) _ _ (c .before .before .before .before .before .source .given .1)) .text)
+    (part-fill (start .args .from) _ _ _
+    (rw ((is-run (start .pre .0) _ _ (c .before .before .before .before .before .source .given .1)) .places)
+    at (start .pre .1))))
 
--- src/writing.rt:26:1
 same-length-2 : tie.Need-same-length-2
 same-length-2 c = search needs
 
--- src/writing.rt:26:1
 returns-2 : tie.Need-returns-2
-returns-2 c = rw ((is-copied (c .before .before .before .before .before .before .before .before .before .before .before .pre .0) _ _ (c .before .before .before .before .before .before .source2 .given .1)) .text) (c .before .before .copy-part .ensures)
+returns-2 c =
+    let start = c .before .before .before .before .before .before .before .before .before .before .before in
+    rw ((is-copied (start .pre .0) _ _ (c .before .before .before .before .before .before .source2 .given .1)) .text)
+    (c .before .before .copy-part .ensures)
 
--- src/writing.rt:26:1
 same-length-3 : tie.Need-same-length-3
 same-length-3 c = search needs
 
--- src/writing.rt:26:1
 returns-3 : tie.Need-returns-3
-returns-3 c = rw ((is-quoted (c .before .before .before .before .before .before .before .before .before .before .before .pre .0) _ _ (c .before .before .before .before .before .before .source3 .given .1)) .text) (c .before .before .quote-part .ensures)
+returns-3 c =
+    let start = c .before .before .before .before .before .before .before .before .before .before .before in
+    rw ((is-quoted (start .pre .0) _ _ (c .before .before .before .before .before .before .source3 .given .1)) .text)
+    (c .before .before .quote-part .ensures)
 
--- src/writing.rt:26:1
 same-length-4 : tie.Need-same-length-4
 same-length-4 c = search needs
 
--- src/writing.rt:26:1
 returns-4 : tie.Need-returns-4
-returns-4 c = rw ((is-figures (c .before .before .before .before .before .before .before .before .before .before .pre .0) _ (c .before .before .before .before .before .source4 .given .1)) .text) (c .before .before .figure-part .ensures)
+returns-4 c =
+    let start = c .before .before .before .before .before .before .before .before .before .before in
+    rw ((is-figures (start .pre .0) _ (c .before .before .before .before .before .source4 .given .1)) .text)
+    (c .before .before .figure-part .ensures)
 
--- src/writing.rt:26:1
 same-length-5 : tie.Need-same-length-5
 same-length-5 c = search needs
 
--- src/writing.rt:26:1
 returns-5 : tie.Need-returns-5
-returns-5 c = rw ((is-word (c .before .before .before .before .before .before .before .before .before .before .before .before .pre .0) _ (c .before .before .before .before .before .before .before .source5 .given .1)) .text) (c .before .before .copy-part2 .ensures)
+returns-5 c =
+    let start = c .before .before .before .before .before .before .before .before .before .before .before .before in
+    rw ((is-word (start .pre .0) _
+    (c .before .before .before .before .before .before .before .source5 .given .1)) .text)
+    (c .before .before .copy-part2 .ensures)
 
 pub body-part-spec : {M : Type 1} → statement M
 body-part-spec =

@@ -1,136 +1,149 @@
-use Rattle.pieces.proofs.Parts.{fill-same}
-use Rattle.pieces.specs.Bytes.{part}
-use Rattle.pieces.proofs.Parts.{part-all, lent-length}
-use Rattle.pieces.proofs.Bodies.{Is, is-run, is-copied, is-quoted, is-figures, is-word}
-use lib.ListN.{length, replicate, take}
-use Prim.Native.Nat.{ℕ}
-use mathlib.Core.Path.{sym, ap, _∙_}
+-- `pieces::writing::body_whole` meets its contract: each source has its own writer of the whole. Assumes nothing.
+use mathlib.Core.Path.{sym, _∙_}
 use native.Mathlib.Omega.{arith}
 use borrow.Author.Needs.{needs}
+use Rattle.pieces.proofs.Parts.{fill-same, part-all}
+use Rattle.pieces.proofs.Bodies.{is-run, is-copied, is-quoted, is-figures, is-word}
 use Rattle.pieces.proofs.writing.body_whole.Statement.{statement}
 use Rattle.pieces.proofs.writing.body_whole.Tie as tie
-use Rattle.pieces.proofs.writing.body_whole.Reads as reads
-use Rattle.pieces.proofs.writing.body_whole.Lts as lts
-use Rattle.pieces.proofs.copying.copy_part.Reads as copy-part-reads
-use Rattle.pieces.proofs.copying.fill.Reads as fill-reads
-use Rattle.pieces.proofs.figuring.figure_whole.Reads as figure-whole-reads
-use Rattle.pieces.proofs.quoting.quote_whole.Reads as quote-whole-reads
 
--- src/writing.rt:72:23
 enum-known-source : tie.Need-enum-known-source
 enum-known-source c = search needs
 
--- src/writing.rt:72:43
 fill-requires : tie.Need-fill-requires
 fill-requires c κs = search needs
 
--- src/writing.rt:73:26
 enum-known-source-2 : tie.Need-enum-known-source-2
 enum-known-source-2 c = search needs
 
--- src/writing.rt:73:52
 sub-copy-part : tie.Need-sub-copy-part
-sub-copy-part c = (is-copied (c .before .before .before .before .before .before .pre .0) _ _ (c .before .source2 .given .1)) .places .0
+sub-copy-part c =
+    (is-copied (c .before .before .before .before .before .before .pre .0) _ _
+    (c .before .source2 .given .1)) .places .0
 
--- src/writing.rt:73:52
 part-copy-part-start : tie.Need-part-copy-part-start
-part-copy-part-start c = (is-copied (c .before .before .before .before .before .before .pre .0) _ _ (c .before .source2 .given .1)) .places .0
+part-copy-part-start c =
+    (is-copied (c .before .before .before .before .before .before .pre .0) _ _
+    (c .before .source2 .given .1)) .places .0
 
--- src/writing.rt:73:52
 part-copy-part-end : tie.Need-part-copy-part-end
-part-copy-part-end c = (is-copied (c .before .before .before .before .before .before .pre .0) _ _ (c .before .source2 .given .1)) .places .1
+part-copy-part-end c =
+    (is-copied (c .before .before .before .before .before .before .pre .0) _ _
+    (c .before .source2 .given .1)) .places .1
 
--- src/writing.rt:73:42
 copy-part-requires : tie.Need-copy-part-requires
-copy-part-requires c κs = omega (arith, (c .before .before .before .before .before .before .before .before .pre .1), (is-copied (c .before .before .before .before .before .before .before .before .pre .0) _ _ (c .before .before .before .source2 .given .1)) .size)
+copy-part-requires c κs =
+    let start = c .before .before .before .before .before .before .before .before in
+    omega (arith, (start .pre .1), (is-copied (start .pre .0) _ _ (c .before .before .before .source2 .given .1)) .size)
 
--- src/writing.rt:74:26
 enum-known-source-3 : tie.Need-enum-known-source-3
 enum-known-source-3 c = search needs
 
--- src/writing.rt:74:54
 sub-quote-whole : tie.Need-sub-quote-whole
-sub-quote-whole c = (is-quoted (c .before .before .before .before .before .before .pre .0) _ _ (c .before .source3 .given .1)) .places .0
+sub-quote-whole c =
+    (is-quoted (c .before .before .before .before .before .before .pre .0) _ _
+    (c .before .source3 .given .1)) .places .0
 
--- src/writing.rt:74:54
 part-quote-whole-start : tie.Need-part-quote-whole-start
-part-quote-whole-start c = (is-quoted (c .before .before .before .before .before .before .pre .0) _ _ (c .before .source3 .given .1)) .places .0
+part-quote-whole-start c =
+    (is-quoted (c .before .before .before .before .before .before .pre .0) _ _
+    (c .before .source3 .given .1)) .places .0
 
--- src/writing.rt:74:54
 part-quote-whole-end : tie.Need-part-quote-whole-end
-part-quote-whole-end c = (is-quoted (c .before .before .before .before .before .before .pre .0) _ _ (c .before .source3 .given .1)) .places .1
+part-quote-whole-end c =
+    (is-quoted (c .before .before .before .before .before .before .pre .0) _ _
+    (c .before .source3 .given .1)) .places .1
 
--- src/writing.rt:74:42
 quote-whole-requires : tie.Need-quote-whole-requires
-quote-whole-requires c κs = (c .before .before .before .before .before .before .before .before .pre .1) ∙ (is-quoted (c .before .before .before .before .before .before .before .before .pre .0) _ _ (c .before .before .before .source3 .given .1)) .size
+quote-whole-requires c κs =
+    let start = c .before .before .before .before .before .before .before .before in
+    (start .pre .1) ∙ (is-quoted (start .pre .0) _ _ (c .before .before .before .source3 .given .1)) .size
 
--- src/writing.rt:75:25
 enum-known-source-4 : tie.Need-enum-known-source-4
 enum-known-source-4 c = search needs
 
--- src/writing.rt:75:31
 figure-whole-requires : tie.Need-figure-whole-requires
-figure-whole-requires c κs = ((is-figures (c .before .before .before .before .before .before .before .pre .0) _ (c .before .before .source4 .given .1)) .places, (c .before .before .before .before .before .before .before .pre .1) ∙ (is-figures (c .before .before .before .before .before .before .before .pre .0) _ (c .before .before .source4 .given .1)) .size)
+figure-whole-requires c κs =
+    let start = c .before .before .before .before .before .before .before in (
+      (is-figures (start .pre .0) _ (c .before .before .source4 .given .1)) .places,
+      (start .pre .1)
+          ∙ (is-figures (start .pre .0) _ (c .before .before .source4 .given .1)) .size,
+    )
 
--- src/writing.rt:76:22
 enum-known-source-5 : tie.Need-enum-known-source-5
 enum-known-source-5 c = search needs
 
--- src/writing.rt:76:38
 sub-copy-part-2 : tie.Need-sub-copy-part-2
 sub-copy-part-2 c = search needs
 
--- src/writing.rt:76:38
 part-copy-part-start-2 : tie.Need-part-copy-part-start-2
 part-copy-part-start-2 c = search needs
 
--- src/writing.rt:76:38
 part-copy-part-end-2 : tie.Need-part-copy-part-end-2
-part-copy-part-end-2 c = (is-word (c .before .before .before .before .before .before .before .pre .0) _ (c .before .before .source5 .given .1)) .places
+part-copy-part-end-2 c =
+    (is-word (c .before .before .before .before .before .before .before .pre .0) _
+    (c .before .before .source5 .given .1)) .places
 
--- src/writing.rt:76:28
 copy-part-requires-2 : tie.Need-copy-part-requires-2
-copy-part-requires-2 c κs = omega (arith, (c .before .before .before .before .before .before .before .before .before .pre .1), (is-word (c .before .before .before .before .before .before .before .before .before .pre .0) _ (c .before .before .before .before .source5 .given .1)) .size)
+copy-part-requires-2 c κs =
+    let start = c .before .before .before .before .before .before .before .before .before in
+    omega (
+      arith,
+      (start .pre .1),
+      (is-word (start .pre .0) _ (c .before .before .before .before .source5 .given .1)) .size,
+    )
 
--- src/writing.rt:64:1
 same-length : tie.Need-same-length
 same-length c = search needs
 
--- src/writing.rt:64:1
 returns : tie.Need-returns
-returns c = (c .before .before .fill .ensures) ∙ fill-same _ _ _ ((c .before .before .before .before .before .before .before .before .before .before .pre .1) ∙ (is-run (c .before .before .before .before .before .before .before .before .before .before .pre .0) _ _ (c .before .before .before .before .before .source .given .1)) .places) ∙ sym ((is-run (c .before .before .before .before .before .before .before .before .before .before .pre .0) _ _ (c .before .before .before .before .before .source .given .1)) .text)
+returns c =
+    let start = c .before .before .before .before .before .before .before .before .before .before in
+    (c .before .before .fill .ensures)
+    ∙ fill-same _ _ _ ((start .pre .1)
+    ∙ (is-run (start .pre .0) _ _ (c .before .before .before .before .before .source .given .1)) .places)
+    ∙ sym ((is-run (start .pre .0) _ _ (c .before .before .before .before .before .source .given .1)) .text)
 
--- src/writing.rt:64:1
 same-length-2 : tie.Need-same-length-2
 same-length-2 c = search needs
 
--- src/writing.rt:64:1
 returns-2 : tie.Need-returns-2
-returns-2 c = (c .before .before .copy-part .ensures) ∙ part-all _ _ ((c .before .before .before .before .before .before .before .before .before .before .before .pre .1) ∙ (is-copied (c .before .before .before .before .before .before .before .before .before .before .before .pre .0) _ _ (c .before .before .before .before .before .before .source2 .given .1)) .size) ∙ sym ((is-copied (c .before .before .before .before .before .before .before .before .before .before .before .pre .0) _ _ (c .before .before .before .before .before .before .source2 .given .1)) .text)
+returns-2 c =
+    let start = c .before .before .before .before .before .before .before .before .before .before .before in
+    (c .before .before .copy-part .ensures)
+    ∙ part-all _ _ ((start .pre .1)
+    ∙ (is-copied (start .pre .0) _ _ (c .before .before .before .before .before .before .source2 .given .1)) .size)
+    ∙ sym ((is-copied (start .pre .0) _ _ (c .before .before .before .before .before .before .source2 .given .1)) .text)
 
--- src/writing.rt:64:1
 same-length-3 : tie.Need-same-length-3
 same-length-3 c = search needs
 
--- src/writing.rt:64:1
 returns-3 : tie.Need-returns-3
-returns-3 c = (c .before .before .quote-whole .ensures) ∙ sym ((is-quoted (c .before .before .before .before .before .before .before .before .before .before .before .pre .0) _ _ (c .before .before .before .before .before .before .source3 .given .1)) .text)
+returns-3 c =
+    let start = c .before .before .before .before .before .before .before .before .before .before .before in
+    (c .before .before .quote-whole .ensures)
+    ∙ sym ((is-quoted (start .pre .0) _ _ (c .before .before .before .before .before .before .source3 .given .1)) .text)
 
--- src/writing.rt:64:1
 same-length-4 : tie.Need-same-length-4
 same-length-4 c = search needs
 
--- src/writing.rt:64:1
 returns-4 : tie.Need-returns-4
-returns-4 c = (c .before .before .figure-whole .ensures) ∙ sym ((is-figures (c .before .before .before .before .before .before .before .before .before .before .pre .0) _ (c .before .before .before .before .before .source4 .given .1)) .text)
+returns-4 c =
+    let start = c .before .before .before .before .before .before .before .before .before .before in
+    (c .before .before .figure-whole .ensures)
+    ∙ sym ((is-figures (start .pre .0) _ (c .before .before .before .before .before .source4 .given .1)) .text)
 
--- src/writing.rt:64:1
 same-length-5 : tie.Need-same-length-5
 same-length-5 c = search needs
 
--- src/writing.rt:64:1
 returns-5 : tie.Need-returns-5
-returns-5 c = (c .before .before .copy-part2 .ensures) ∙ part-all _ _ ((c .before .before .before .before .before .before .before .before .before .before .before .before .pre .1) ∙ (is-word (c .before .before .before .before .before .before .before .before .before .before .before .before .pre .0) _ (c .before .before .before .before .before .before .before .source5 .given .1)) .size) ∙ sym ((is-word (c .before .before .before .before .before .before .before .before .before .before .before .before .pre .0) _ (c .before .before .before .before .before .before .before .source5 .given .1)) .text)
+returns-5 c =
+    let start = c .before .before .before .before .before .before .before .before .before .before .before .before in
+    (c .before .before .copy-part2 .ensures)
+    ∙ part-all _ _ ((start .pre .1)
+    ∙ (is-word (start .pre .0) _ (c .before .before .before .before .before .before .before .source5 .given .1)) .size)
+    ∙ sym ((is-word (start .pre .0) _
+    (c .before .before .before .before .before .before .before .source5 .given .1)) .text)
 
 pub body-whole-spec : {M : Type 1} → statement M
 body-whole-spec =
