@@ -1,6 +1,8 @@
-//! The proved calls against the same work in Rust, as ratios of times measured in one run.
+//! The proved calls against the same work in Rust or in the C library, as ratios of times measured in one run.
 
+mod calls;
 mod plain;
+mod whole;
 
 use probe::random::Random;
 use std::hint::black_box;
@@ -8,26 +10,49 @@ use std::time::Instant;
 
 const SEED: u64 = 3;
 const NUMBERS: usize = 4096;
-/// Each side is timed this often, by turns, and its best time counts.
+/// Each side is timed this often, by turns.
 const ROUNDS: usize = 301;
 
 /// A call that writes digits: base, number, buffer, and the count as its answer.
 type Digits = fn(u64, u64, &mut [u8]) -> usize;
 
 fn main() {
-    title("digits, against the same loops in Rust");
+    whole::measure();
+    title("digits, against the same loops in Rust", "proved", "Rust");
     digits(plain::digits);
-    title("digits, against a loop over the places in Rust");
+    title(
+        "digits, against a loop over the places in Rust",
+        "proved",
+        "Rust",
+    );
     digits(plain::digits_by_place);
-    title("check of a table, against a plain check in Rust");
+    title(
+        "check of a table, against a plain check in Rust",
+        "proved",
+        "Rust",
+    );
     tables();
 }
 
-fn title(what: &str) {
-    println!("{what:<50} {:>11} {:>11} {:>6}", "proved", "Rust", "ratio");
+fn title(what: &str, ours: &str, theirs: &str) {
+    println!("{what:<50} {ours:>11} {theirs:>11} {:>6}", "ratio");
 }
 
-/// Nanoseconds for each of `count` items, of the best round of each side.
+/// Nanoseconds for each of `count` items, in each round of each side.
+fn rounds(
+    count: usize,
+    ours: &mut dyn FnMut() -> usize,
+    theirs: &mut dyn FnMut() -> usize,
+) -> (Vec<f64>, Vec<f64>) {
+    let time = |work: &mut dyn FnMut() -> usize| {
+        let start = Instant::now();
+        black_box(work());
+        start.elapsed().as_nanos() as f64 / count as f64
+    };
+    (0..ROUNDS).map(|_| (time(ours), time(theirs))).unzip()
+}
+
+/// The best round of each side.
 fn race(
     name: &str,
     count: usize,
@@ -35,16 +60,9 @@ fn race(
     mut rust: impl FnMut() -> usize,
 ) {
     assert_eq!(proved(), rust(), "{name}: the two sides do the same work");
-    let time = |work: &mut dyn FnMut() -> usize| {
-        let start = Instant::now();
-        black_box(work());
-        start.elapsed().as_nanos() as f64 / count as f64
-    };
-    let (mut ours, mut theirs) = (f64::MAX, f64::MAX);
-    for _ in 0..ROUNDS {
-        ours = ours.min(time(&mut proved));
-        theirs = theirs.min(time(&mut rust));
-    }
+    let (ours, theirs) = rounds(count, &mut proved, &mut rust);
+    let best = |times: Vec<f64>| times.into_iter().fold(f64::MAX, f64::min);
+    let (ours, theirs) = (best(ours), best(theirs));
     println!(
         "  {name:<48} {ours:>8.1} ns {theirs:>8.1} ns {:>6.2}",
         ours / theirs

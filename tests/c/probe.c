@@ -1,64 +1,9 @@
-/* The exported calls of the crate probe as a program in C makes them. Each case is run on a heap block of exactly its
-   size, so that valgrind sees a byte read or written outside it, and on one that ends where a page without access
-   begins, so that such a byte stops the program without valgrind too. */
+/* The exported calls of the crate probe as a program in C makes them. Each case is run on both sorts of block. */
 #define _GNU_SOURCE
-#include <stddef.h>
-#include <stdint.h>
-#include <stdio.h>
-#include <stdlib.h>
-#include <string.h>
-#include <sys/mman.h>
-#include <unistd.h>
+#include "blocks.h"
 
 uint32_t probe_check_table(const uint8_t *table, size_t table_length, size_t *position);
 size_t probe_digits(uint64_t base, uint64_t n, uint8_t *out, size_t out_length);
-
-static size_t checks = 0;
-
-static void expect(int holds, const char *what, size_t of)
-{
-    checks++;
-    if (!holds) {
-        fprintf(stderr, "tests/c/probe.c: %s (case %zu)\n", what, of);
-        exit(1);
-    }
-}
-
-/* A block of exactly size bytes, on the heap or before a page without access; no bytes are a null pointer. */
-struct block {
-    uint8_t *bytes;
-    uint8_t *pages;
-    size_t mapped;
-};
-
-static struct block take(size_t size, int fenced)
-{
-    struct block block = {NULL, NULL, 0};
-    if (size == 0)
-        return block;
-    if (fenced) {
-        size_t page = (size_t)sysconf(_SC_PAGESIZE);
-        size_t room = (size + page - 1) / page * page;
-        block.mapped = room + page;
-        block.pages = mmap(NULL, block.mapped, PROT_READ | PROT_WRITE, MAP_PRIVATE | MAP_ANONYMOUS, -1, 0);
-        if (block.pages == MAP_FAILED || mprotect(block.pages + room, page, PROT_NONE) != 0)
-            exit(2);
-        block.bytes = block.pages + room - size;
-    } else {
-        block.bytes = malloc(size);
-        if (block.bytes == NULL)
-            exit(2);
-    }
-    return block;
-}
-
-static void give_back(struct block block)
-{
-    if (block.pages != NULL)
-        munmap(block.pages, block.mapped);
-    else
-        free(block.bytes);
-}
 
 static void table_case(const uint8_t *bytes, size_t size, uint32_t code, size_t position, size_t of)
 {

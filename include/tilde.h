@@ -1,0 +1,127 @@
+/* Formats and vets tilde format strings over byte slices. Link with libtilde.a. */
+#ifndef TILDE_H
+#define TILDE_H
+
+#include <stddef.h>
+#include <stdint.h>
+
+#ifdef __cplusplus
+extern "C" {
+#endif
+
+/* What both calls answer. A position is an offset in the format, for TILDE_BAD_TABLE in the table. */
+enum tilde_code {
+    /* Done. Position 0. */
+    TILDE_DONE = 0,
+    /* Bad table. The first fault in this order, with its position: shorter than 8 bytes (0), entries above 1,024 (0),
+       arguments above entries (2), pool above 65,536 (4), another total length (4), a bad entry i (8 + 12i). */
+    TILDE_BAD_TABLE = 1,
+    /* Format above 4,096 bytes. Position 4,096. */
+    TILDE_LONG_FORMAT = 2,
+    /* Unknown code, or format ends inside a directive. Position of its tilde. */
+    TILDE_UNKNOWN_CODE = 3,
+    /* Block unclosed, wrong closer, stray separator or one after ~:;, ~:; under ~:[ or ~@[, wrong clause count,
+       iteration body of no bytes, ninth level. Position of the opener for unclosed, count and empty body, else of the
+       tilde met. */
+    TILDE_BAD_BLOCK = 4,
+    /* Wrong parameter or modifier, seen in the text. Position of the tilde. */
+    TILDE_BAD_PARAMETER = 5,
+    /* No such argument, or a jump outside. Position of the tilde. */
+    TILDE_NO_ARGUMENT = 6,
+    /* Wrong kind of argument. Position of the tilde. */
+    TILDE_WRONG_KIND = 7,
+    /* Value of v or # outside its place's range. Position of the tilde. */
+    TILDE_OUT_OF_RANGE = 8,
+    /* Step 65,537 needed. Position of its byte or tilde, or of the ~{ for a pass. */
+    TILDE_STEP_LIMIT = 9,
+    /* Piece doesn't fit. Position of its byte or tilde. */
+    TILDE_NO_ROOM = 10,
+    /* Vet: not plain, that is one of ~* ~[ ~{ ~^ or a parameter v. Position of the first such tilde. */
+    TILDE_NOT_PLAIN = 11,
+    /* Vet: more than 1,024 kinds, unknown tag, or longest above 4,096. Position 0. */
+    TILDE_BAD_KINDS = 12
+};
+
+/* The tag of an entry in a table, and a kind given to a vet. */
+enum tilde_tag {
+    /* The eight bytes are 0 or 1. */
+    TILDE_BOOLEAN = 0,
+    /* Signed 64 bits, two's complement. */
+    TILDE_INTEGER = 1,
+    /* 0 to 127. */
+    TILDE_CHARACTER = 2,
+    /* Offset in the pool and length, 4 bytes each, ending within the pool. */
+    TILDE_STRING = 3,
+    /* First entry and count, 4 bytes each; first is above the entry's own number, first + count at most the entries. */
+    TILDE_LIST = 4
+};
+
+/* The table: a header, entries and a pool, with nothing after it. All its numbers are big-endian. The header is the
+   number of entries (2 bytes), the number of arguments (2 bytes, at most the entries: the arguments are the first ones)
+   and the length of the pool (4 bytes). An entry is its tag, three zero bytes and eight bytes. */
+#define TILDE_HEADER_BYTES 8
+#define TILDE_ENTRY_BYTES 12
+#define TILDE_MOST_ENTRIES 1024
+#define TILDE_MOST_POOL 65536
+
+/* Limits of a format, of the steps of a call, and of what a vet is asked. */
+#define TILDE_MOST_FORMAT 4096
+#define TILDE_MOST_STEPS 65536
+#define TILDE_MOST_KINDS 1024
+#define TILDE_MOST_LONGEST 4096
+
+/* Writes the text of a format over the arguments of a table at the start of a buffer, and answers a tilde_code: one of
+   0 to 10.
+
+   format, format_length   the format; only read
+   table, table_length     the argument table; only read
+   buffer, buffer_length   room for the text; no byte is added to end it
+   position                set to the position that goes with the code
+   steps                   set to the steps done: literal bytes, directives and passes begun
+   written                 set to the number of bytes of the text in the buffer
+
+   Every format and every table is answered, good or bad: nothing is asked of the caller but that each pointer is valid
+   for its length, and each of the last three for a size_t. With length 0 a pointer may be null; the last three may not.
+   The buffer and the three results must not overlap each other, the format or the table; format and table may overlap.
+   The three results are set whatever the code.
+
+   The bytes of the buffer from written on are as they came, after TILDE_DONE too.
+   - TILDE_DONE: the whole text was written. Arguments left over are ignored.
+   - Codes 1 to 5: nothing was written, and steps is 0.
+   - Codes 6 to 10: every piece before the refused one is kept. A piece is a literal byte or one directive's own text,
+     written whole or not at all. Steps include the refused directive or byte, except that TILDE_STEP_LIMIT answers
+     TILDE_MOST_STEPS.
+
+   No memory is taken, nothing is kept between calls, and calls from several threads do not disturb each other. */
+uint32_t tilde_format(const uint8_t *format, size_t format_length, const uint8_t *table, size_t table_length,
+                      uint8_t *buffer, size_t buffer_length, size_t *position, size_t *steps, size_t *written);
+
+/* Judges a plain format once for all tables whose arguments are of the given kinds, and answers a tilde_code: one of
+   0, 2 to 8, 11 and 12.
+
+   format, format_length   the format; only read
+   kinds, kinds_length     one byte for each argument in order, a tilde_tag; only read
+   longest                 no string argument has more bytes than this
+   position                set to the position that goes with the code
+   count                   set to the byte count; 0 after a refusal
+
+   As above, nothing is asked of the caller but valid pointers, null only with length 0, and results that overlap
+   neither each other nor the format or the kinds.
+
+   A table suits the kinds when tilde_format finds no fault in it, it has as many arguments as there are kinds, each
+   with the tag of its kind, and no string argument is above longest. Other entries, those of list arguments among them,
+   may be any.
+   - TILDE_DONE: every table that suits is formatted with TILDE_DONE in every buffer of count bytes or more, and some
+     table that suits fills count to the last byte, so that no smaller count would do.
+   - Codes 6 to 8: every table that suits is refused with the same code and position, or with TILDE_NO_ROOM where the
+     buffer is too small for the pieces before that position.
+   - Codes 2 to 5: tilde_format refuses the format with the same code and position over every good table.
+   - TILDE_NOT_PLAIN, TILDE_BAD_KINDS: nothing is said of tilde_format. */
+uint32_t tilde_vet(const uint8_t *format, size_t format_length, const uint8_t *kinds, size_t kinds_length,
+                   size_t longest, size_t *position, size_t *count);
+
+#ifdef __cplusplus
+}
+#endif
+
+#endif

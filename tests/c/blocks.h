@@ -1,0 +1,62 @@
+/* What the tests in C share: counted checks, and blocks of exactly their size. A heap block lets valgrind see a byte
+   read or written outside it; one that ends where a page without access begins stops the program there without valgrind
+   too. Define _GNU_SOURCE before the first include. */
+#ifndef BLOCKS_H
+#define BLOCKS_H
+
+#include <stddef.h>
+#include <stdint.h>
+#include <stdio.h>
+#include <stdlib.h>
+#include <string.h>
+#include <sys/mman.h>
+#include <unistd.h>
+
+static size_t checks = 0;
+
+static void expect(int holds, const char *what, size_t of)
+{
+    checks++;
+    if (!holds) {
+        fprintf(stderr, "%s: %s (case %zu)\n", __BASE_FILE__, what, of);
+        exit(1);
+    }
+}
+
+/* A block of exactly size bytes, on the heap or before a page without access; no bytes are a null pointer. */
+struct block {
+    uint8_t *bytes;
+    uint8_t *pages;
+    size_t mapped;
+};
+
+static struct block take(size_t size, int fenced)
+{
+    struct block block = {NULL, NULL, 0};
+    if (size == 0)
+        return block;
+    if (fenced) {
+        size_t page = (size_t)sysconf(_SC_PAGESIZE);
+        size_t room = (size + page - 1) / page * page;
+        block.mapped = room + page;
+        block.pages = mmap(NULL, block.mapped, PROT_READ | PROT_WRITE, MAP_PRIVATE | MAP_ANONYMOUS, -1, 0);
+        if (block.pages == MAP_FAILED || mprotect(block.pages + room, page, PROT_NONE) != 0)
+            exit(2);
+        block.bytes = block.pages + room - size;
+    } else {
+        block.bytes = malloc(size);
+        if (block.bytes == NULL)
+            exit(2);
+    }
+    return block;
+}
+
+static void give_back(struct block block)
+{
+    if (block.pages != NULL)
+        munmap(block.pages, block.mapped);
+    else
+        free(block.bytes);
+}
+
+#endif
