@@ -4,7 +4,7 @@ mod calls;
 mod plain;
 mod whole;
 
-use probe::random::Random;
+use random::Random;
 use std::hint::black_box;
 use std::time::Instant;
 
