@@ -1,7 +1,7 @@
 //! The proved calls against the same work in Rust or in the C library, as ratios of times measured in one run.
 
-mod calls;
 mod plain;
+mod printing;
 mod whole;
 
 use random::Random;

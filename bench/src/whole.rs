@@ -1,8 +1,8 @@
 //! Whole calls: a format against the C library's snprintf writing the same bytes, and a vet against a format.
 
-use crate::calls::{self, snprintf};
+use crate::printing::snprintf;
 use crate::{plain, rounds, title, SEED};
-use probe::random::Random;
+use random::Random;
 use std::ffi::{c_longlong, CStr, CString};
 use std::hint::black_box;
 
@@ -108,7 +108,7 @@ fn numbers(number: impl Fn(&Random) -> i64) -> Vec<Given> {
 
 /// The bytes written, after a call that must not be refused.
 fn formatted(format: &[u8], given: &Given, out: &mut [u8]) -> usize {
-    let (code, _, _, written) = calls::format(format, &given.table, out);
+    let (code, _, _, written) = tilde::format(format, &given.table, out);
     assert_eq!(code, 0);
     written
 }
@@ -194,7 +194,7 @@ fn vets() {
     let format = black_box(BULLETIN);
     let kinds = black_box([3, 1, 1, 1, 1]);
     let mut out = [0; 512];
-    let (code, _, count) = calls::vet(format, &kinds, 4);
+    let (code, _, count) = tilde::vet(format, &kinds, 4);
     assert_eq!(
         (code, count),
         (0, 4 + 1 + 20 + 1 + 20 + 1 + 20 + 6 + 20 + 4)
@@ -203,7 +203,7 @@ fn vets() {
         "bulletin line",
         &mut || {
             (0..LINES)
-                .map(|_| calls::vet(format, black_box(&kinds), 4).2)
+                .map(|_| tilde::vet(format, black_box(&kinds), 4).2)
                 .sum()
         },
         &mut || {
