@@ -2,7 +2,7 @@
 
 mod plain;
 
-use probe::random::Random;
+use random::Random;
 use std::hint::black_box;
 use std::time::Instant;
 

@@ -1,6 +1,4 @@
-//! The calls of the proved crate probe, and what its tests share.
-
-pub mod random;
+//! The calls of the proved crate probe.
 
 mod calls {
     extern "C" {

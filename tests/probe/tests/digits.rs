@@ -1,6 +1,6 @@
 //! The proved digits against a plain loop and against Rust's own formatting.
 
-use probe::random::Random;
+use random::Random;
 
 const SEED: u64 = 2;
 const RANDOM_NUMBERS: usize = 100_000;

@@ -1,7 +1,7 @@
 //! The proved table check against the cases, and against the reference check
 //! on damaged tables.
 
-use probe::random::Random;
+use random::Random;
 use std::collections::BTreeMap;
 
 const HEADER: usize = 8;

@@ -1,5 +1,7 @@
 //! Numbers that look random and are the same at each run.
 
+#![forbid(unsafe_code)]
+
 use std::cell::Cell;
 
 /// The generator splitmix64.

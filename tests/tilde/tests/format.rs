@@ -1,0 +1,175 @@
+//! The proved format against the reference formatter on random calls: formats of every directive, damaged ones and
+//! random bytes, over sound and damaged tables, in buffers of every size.
+
+mod drawing;
+
+use drawing::{damage, hex, tables, texts, Tally};
+use random::Random;
+use reference::{Answer, Value};
+
+const SEED: u64 = 3;
+const CALLS: usize = 250_000;
+/// Untouched bytes before and after the buffer that is lent.
+const MARGIN: usize = 16;
+/// More than most texts need; a run that never ends goes on until a buffer of this size is full, or its steps are done.
+const AMPLE: usize = 2000;
+/// A run of as many steps as there may be fits, if it writes a byte at each.
+const VAST: usize = 65_536;
+
+#[test]
+fn random_calls() {
+    let random = Random::new(SEED);
+    let mut field = Field::new();
+    let mut tally = Tally::default();
+    for _ in 0..CALLS {
+        let (format, arguments) = next_format(&random);
+        let table = next_table(&random, arguments);
+        let room = next_room(&random, &format, &table);
+        tally.add(compare(&mut field, &format, &table, room));
+    }
+    println!("{CALLS} calls of the proved format agree with the reference:{tally}");
+    tally.assert_each(&[0, 1, 2, 3, 4, 5, 6, 7, 8, 9, 10], 300);
+}
+
+/// Every length of the buffer, up to one more than the text needs.
+#[test]
+fn every_room() {
+    let random = Random::new(SEED + 1);
+    let mut field = Field::new();
+    let mut compared = 0;
+    for _ in 0..2000 {
+        let (format, arguments) = texts::format(&random, random.below(4), false);
+        let table = tables::table(&random, &arguments);
+        let most = reference::format(&format, &table, 60).text.len() + 1;
+        for room in 0..=most {
+            compare(&mut field, &format, &table, room);
+            compared += 1;
+        }
+    }
+    println!("{compared} calls in buffers of every length agree");
+}
+
+// ---- comparing ------------------------------------------------------------
+
+/// Where buffers are lent from: a byte at each place that is known again.
+struct Field(Vec<u8>);
+
+impl Field {
+    fn new() -> Field {
+        Field((0..MARGIN + VAST + MARGIN).map(Field::byte).collect())
+    }
+
+    fn byte(at: usize) -> u8 {
+        (at * 37 + 101) as u8
+    }
+
+    /// Whether all is as it came from `from` up to `upto`.
+    fn untouched(&self, from: usize, upto: usize) -> bool {
+        (from..upto).all(|at| self.0[at] == Field::byte(at))
+    }
+
+    fn mend(&mut self, from: usize, upto: usize) {
+        (from..upto).for_each(|at| self.0[at] = Field::byte(at));
+    }
+}
+
+/// The code on which both agree.
+fn compare(field: &mut Field, format: &[u8], table: &[u8], room: usize) -> u32 {
+    let expected = reference::format(format, table, room);
+    let end = MARGIN + room;
+    let lent = &mut field.0[MARGIN..end];
+    let (code, position, steps, written) = tilde::format(format, table, lent);
+    let text = lent.get(..written).unwrap_or_default().to_vec();
+    let answer = Answer {
+        code,
+        position,
+        steps,
+        text,
+    };
+    let wrong = if answer != expected || written != answer.text.len() {
+        Some("another answer")
+    } else if !field.untouched(MARGIN + written, end + MARGIN) {
+        Some("bytes touched beyond the text")
+    } else if !field.untouched(0, MARGIN) {
+        Some("bytes touched before the buffer")
+    } else {
+        None
+    };
+    if let Some(wrong) = wrong {
+        panic!(
+            "{wrong}: format {} table {} room {room}\nproved {answer:?} written {written}\nreference {expected:?}",
+            hex(format),
+            hex(table)
+        );
+    }
+    field.mend(MARGIN, MARGIN + written);
+    code
+}
+
+// ---- calls ----------------------------------------------------------------
+
+/// A format, and arguments that most of the sound ones take.
+fn next_format(random: &Random) -> (Vec<u8>, Vec<Value>) {
+    if random.once_in(200) {
+        return endless(random);
+    }
+    let deep = random.once_in(20);
+    let levels = random.below(if deep { 10 } else { 5 });
+    let (mut text, arguments) = texts::format(random, levels, deep);
+    match random.below(20) {
+        0..=4 => (0..=random.below(3)).for_each(|_| damage::damage(random, &mut text)),
+        5 | 6 => text = damage::pieced(random),
+        7 => text = damage::shapeless(random),
+        _ => {}
+    }
+    if random.once_in(150) {
+        damage::lengthen(random, &mut text);
+    }
+    (text, arguments)
+}
+
+/// An iteration whose body takes nothing, so that only steps or room end it.
+fn endless(random: &Random) -> (Vec<u8>, Vec<Value>) {
+    let body = random.pick(&[
+        "x",
+        "~_",
+        "~0_",
+        "~a~:*",
+        "~:[~;~]~:*",
+        "~a~0@*",
+        "~@[~]",
+        "ab~\n c",
+        "~4096@{x~}",
+    ]);
+    let (mut text, mut arguments) = texts::format(random, 1, false);
+    text.extend_from_slice(format!("~@{{{body}~}}").as_bytes());
+    arguments.push(Value::Int(random.below(3) as i64));
+    (text, arguments)
+}
+
+fn next_table(random: &Random, mut arguments: Vec<Value>) -> Vec<u8> {
+    tables::unsettle(random, &mut arguments);
+    let mut table = tables::table(random, &arguments);
+    if random.once_in(12) {
+        (0..=random.below(2)).for_each(|_| tables::damage(random, &mut table));
+    }
+    table
+}
+
+/// None, just enough, one too few, less or more than that.
+fn next_room(random: &Random, format: &[u8], table: &[u8]) -> usize {
+    let ample = if random.once_in(20) { VAST } else { AMPLE };
+    let answer = reference::format(format, table, ample);
+    let needed = answer.text.len();
+    if answer.code == 9 {
+        return needed;
+    }
+    match random.below(10) {
+        0 => 0,
+        1 | 2 => needed,
+        3 => needed.saturating_sub(1),
+        4 => random.below(needed + 1),
+        5 => (needed + random.below(20)).min(VAST),
+        _ => ample,
+    }
+}
