@@ -47,11 +47,10 @@ fn loosened(random: &Random, table: &[u8]) -> Vec<u8> {
     loose.extend(((pool + junk) as u32).to_be_bytes());
     loose.extend_from_slice(&table[HEADER..HEADER + ENTRY * n]);
     for own in n..n + more {
-        let list = [4, 0, 0, 0, 0, 0, 0, 0, 0, 0, 0, 0];
         let mut entry = [1, 0, 0, 0, 0, 0, 0, 0, 0, 0, 0, 7];
         if random.once_in(2) {
             // A list of no entries just above its own number.
-            entry = list;
+            entry = [4, 0, 0, 0, 0, 0, 0, 0, 0, 0, 0, 0];
             entry[4..8].copy_from_slice(&(own as u32 + 1).to_be_bytes());
         }
         loose.extend(entry);
