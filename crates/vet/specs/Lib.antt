@@ -1,6 +1,7 @@
 pub mod Demand
 pub mod Encode
 pub mod Examples
+pub mod Facts
 pub mod Plain
 pub mod Use
 pub mod Vet
