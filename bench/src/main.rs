@@ -2,6 +2,7 @@
 
 mod plain;
 mod printing;
+mod stations;
 mod whole;
 
 use random::Random;
@@ -17,6 +18,7 @@ const ROUNDS: usize = 301;
 type Digits = fn(u64, u64, &mut [u8]) -> usize;
 
 fn main() {
+    stations::measure();
     whole::measure();
     title("digits, against the same loops in Rust", "proved", "Rust");
     digits(plain::digits);
