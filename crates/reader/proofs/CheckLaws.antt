@@ -25,6 +25,7 @@ use Rattle.reader.specs.declared.text.Met.{Met}
 use Rattle.reader.specs.declared.text.Met.the-variants.{Wrong, Stays, Opens, Parts, Closes}
 use Rattle.reader.specs.declared.text.Checked.{Checked}
 use Rattle.reader.specs.declared.text.Checked.the-variants.{Ended, Closed}
+use Rattle.reader.specs.Shorts.{Skips}
 use Rattle.reader.specs.Checks.{blockOf, blocks, unless, metPlain, metOpener, metSeparator, metEndConditional, metEndIteration, metOf, onward, Room, Goes, Checks}
 
 -- 1. What a directive does, as the definition has it.
@@ -160,6 +161,14 @@ pub record Checking (t : List ℕ) (start room : ℕ) (a : Around) (p n : ℕ) (
 
 pub check-start : (t : List ℕ) (start room : ℕ) (a : Around) → Checking t start room a start 0 false
 check-start t start room a = record { same = λ os h. refl; from = omega arith; few = omega arith }
+
+pub check-skips : {t : List ℕ} {start room : ℕ} {a : Around} {p n : ℕ} {f : Bool} {q : ℕ} → Checking t start room a p n f → Skips t p q
+    → Checking t start room a q n f
+check-skips {a = a} {n = n} {f = f} k s = record {
+  same = λ os r. k .same os r ∙ s .same (blocks a n f os);
+  from = omega (arith, k .from, s .least);
+  few = omega (arith, k .few, s .least);
+}
 
 end-same : (a : Around) (n : ℕ) (f : Bool) (os : List Block) → atEnd (blocks a n f os) ≡ atEnd (blocks a 0 false [])
 end-same Top n f os = refl

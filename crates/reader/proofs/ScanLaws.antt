@@ -31,7 +31,7 @@ use Rattle.reader.specs.declared.directive.NumberRead.the-variants.{Bad 
 use Rattle.reader.specs.declared.directive.ParameterRead.{ParameterRead}
 use Rattle.reader.specs.declared.directive.ParameterRead.the-variants.{Bad, Cut, Whole}
 
-no-both : _≡_ {A = Bool} false true → ⊥
+pub no-both : _≡_ {A = Bool} false true → ⊥
 no-both e = let z : _≡_ {A = ℕ} 0 1 = cc in omega arith
 
 both-first : (a b : Bool) → both a b ≡ true → a ≡ true
@@ -50,7 +50,7 @@ module _ (t : List ℕ) (p : ℕ) where
   pub test-true : (f : Bool) → both (ltb p (length t)) f ≡ true → f ≡ true
   test-true f e = both-second (ltb p (length t)) f e
 
-  test-false : (f : Bool) → p < length t → both (ltb p (length t)) f ≡ false → f ≡ false
+  pub test-false : (f : Bool) → p < length t → both (ltb p (length t)) f ≡ false → f ≡ false
   test-false f h e = rw (lt-ltb p (length t) h) at e
 
   pub digit-least : digitAt t p ≡ true → 48 ≤ getD t p 0
@@ -261,12 +261,13 @@ number-first t p m = record {
 
 module _ {t : List ℕ} {first : ℕ} {m : Bool} {n i : ℕ} (s : Numbering t first m n i) where
   pub number-none : digitAt t i ≡ false → i ≡ first → Numbers t first m BadOne
-  number-none e z = record { is = λ d. signed-none t first m d (rw z at e); advances = tt }
+  number-none e z = record { is = λ d. signed-none t first m d (rw z at e); advances = tt; few = tt }
 
   pub number-whole : digitAt t i ≡ false → (i ≡ first → ⊥) → Numbers t first m (WholeOne n i)
   number-whole e z = record {
     is = λ d. s .same (s .begun z) d ∙ digits-end t i m n d e;
     advances = record { on = s .forth; within = s .within z; empty = refl };
+    few = s .small;
   }
 
   -- b is the digit at i
@@ -290,7 +291,7 @@ module _ {t : List ℕ} {first : ℕ} {m : Bool} {n i : ℕ} (s : Numbering t fi
     pub number-out : most < n * 10 + (b - 48) → Numbers t first m BadOne
     number-out k =
         let high : greatestOf m < oneMore n (getD t i 0) = omega (arith, is, top .0) in
-        record { is = λ d. s .same begins d ∙ digits-out t i m n d e high; advances = tt }
+        record { is = λ d. s .same begins d ∙ digits-out t i m n d e high; advances = tt; few = tt }
 
 -- a number that begins at i or after it, where a parameter begins at i
 later : (t : List ℕ) (i j : ℕ) → i ≤ j → (r : NumberRead) → Advances t j (numberParameter r)

@@ -1,3 +1,4 @@
 pub mod Checks
 pub mod Ends
 pub mod Scans
+pub mod Shorts

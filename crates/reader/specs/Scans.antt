@@ -66,10 +66,15 @@ Advances t i Bad = Unit {0}
 Advances t i Cut = Unit {0}
 Advances t i (Whole x written next) = Ends t i x written next
 
+abbrev pub Few : NumberRead → Type 0
+Few BadOne = Unit {0}
+Few (WholeOne n next) = n ≤ 4096
+
 -- r is the number whose digits begin at i
 pub record Numbers (t : List ℕ) (i : ℕ) (minus : Bool) (r : NumberRead) : Type 0 where
   pub is : (d : Directive) → scan (signed minus) d (drop i t) i ≡ onParameter t d (numberParameter r)
   pub advances : Advances t i (numberParameter r)
+  pub few : Few r
 
 -- r is the parameter that begins at i
 pub record Parametrises (t : List ℕ) (i : ℕ) (r : ParameterRead) : Type 0 where

@@ -4,7 +4,7 @@ use rules::Form;
 ghost use mathlib.Core.Path.{_≡_};
 ghost use Rattle.rules.specs.Directive.{lowerCase, codeNamed, codeOf};
 
-fn lower_case(b: u8) -> u8
+pub fn lower_case(b: u8) -> u8
     ensures { λ r. ⌜ r ≡ lowerCase b ⌝ }
 {
     if b < 65 {

@@ -19,7 +19,7 @@ ghost use Rattle.reader.specs.Scans.{digitAt, commaAt, greatestOf, Numbe
 ghost use Rattle.reader.specs.Scans.{reading, skippedBy};
 
 // A number that is read: its value and the position after it, or a number that is refused.
-enum NumberRead {
+pub enum NumberRead {
     Bad,
     Whole { value: usize, next: usize },
 }
@@ -86,7 +86,7 @@ fn is_digit(b: u8) -> bool
     if b < 48 { false } else { b <= 57 }
 }
 
-fn digit_at(text: &[u8], i: usize) -> bool
+pub fn digit_at(text: &[u8], i: usize) -> bool
     ensures { λ r. ⌜ r ≡ digitAt (now (text .entry)) i ⌝ }
 {
     if i < text.len() {
@@ -97,7 +97,7 @@ fn digit_at(text: &[u8], i: usize) -> bool
     }
 }
 
-fn wide(b: u8) -> usize
+pub fn wide(b: u8) -> usize
     ensures { λ r. ⌜ (r ≡ b) × (r < 256) ⌝ }
 {
     b as usize
@@ -112,7 +112,7 @@ fn greatest(minus: bool) -> usize
 
 // The number whose digits begin at start, after a sign or none. It is refused as soon as it leaves the range, and where
 // there is no digit.
-fn read_number(text: &[u8], start: usize, minus: bool) -> NumberRead
+pub fn read_number(text: &[u8], start: usize, minus: bool) -> NumberRead
     ensures { λ r. ⌜ Numbers (now (text .entry)) start minus r ⌝ }
 {
     let most = greatest(minus);

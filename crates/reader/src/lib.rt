@@ -2,4 +2,5 @@
 pub mod codes;
 pub mod directive;
 pub mod places;
+pub mod short;
 pub mod text;

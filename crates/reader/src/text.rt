@@ -4,6 +4,7 @@ use crate::places::both;
 use crate::places::either;
 use crate::places::is_well_written;
 use crate::places::not;
+use crate::short::skip_short;
 use rules::Code;
 use rules::Directive;
 use rules::Item;
@@ -196,6 +197,7 @@ fn check_from(text: &[u8], start: usize, room: usize, around: Around) -> Checked
     let mut separators: usize = 0;
     let mut fallback = false;
     loop {
+        p = skip_short(text, p);
         let i = item_at(text, p);
         match i {
             Item::End => {
