@@ -73,8 +73,8 @@ module _ (v : View) (p m : ℕ) (d : Directive) (c : Context) where
 
   module _ (f : Form) (s : Settings) (on : ℕ → Flow) where
     -- the piece of a value of a kind that the form takes, and of another
-    pub write-yes : (x : Value) (next : ℕ) → accepts f (kindOf x) ≡ true → write v p m f d s x next on ≡ put p m (textOf f (d .colon) (d .at) s x) (on next)
-    write-yes x next h = choose-yes _ _ h
+    pub write-yes : {colon at : Bool} (x : Value) (next : ℕ) → d .colon ≡ colon → d .at ≡ at → accepts f (kindOf x) ≡ true → write v p m f d s x next on ≡ put p m (textOf f colon at s x) (on next)
+    write-yes x next q r h = choose-yes _ _ h ∙ rw (q, r)
 
     pub write-no : (x : Value) (next : ℕ) → accepts f (kindOf x) ≡ false → write v p m f d s x next on ≡ refused 7 p m
     write-no x next h = choose-no _ _ h

@@ -18,7 +18,7 @@ use Rattle.engine.specs.declared.state.Stop.{Stop}
 use Rattle.engine.specs.declared.state.Stop.the-variants.{Ended, Left, Refused}
 use Rattle.engine.specs.declared.state.Ran.{Ran}
 use Rattle.engine.specs.Ran.{refusedRan, onward, Same, Does, hand, Acts, ActsAt, EscapesAt, EndsAt, After, restAt, leaving, RunsTo, Runs, Steps, Blocks}
-use Rattle.engine.proofs.Joining.{stays, here, joined, said, from, then-on, renamed, onward-left, onward-refused}
+use Rattle.engine.proofs.Joining.{stays, here, said, from}
 use Rattle.engine.proofs.Buffer.{Put, put-byte, put-fits, put-full}
 
 pub no-end : {o : Stop} {code x : ℕ} → o ≡ Refused code x → o ≡ Ended → ⊥
@@ -151,27 +151,3 @@ module _ (s : ℕ → List Level) (n : ℕ) (v : View) (first count level p i le
         least = λ y. omega (arith, u .after y .least);
         most = λ y. u .after y .most;
       }
-
-  -- the run that goes on after a directive, and one that stops with it
-  module _ {e : List ℕ} {r : Ran} (u : Steps s n v (hand first count) level p i left at b e r) where
-    pub runs-on : {e′ : List ℕ} {r′ : Ran} → r .stop ≡ Ended → Runs s n v (hand first count) level (r .place) (r .next .0) (r .left) (r .at) e e′ r′
-        → Runs s n v (hand first count) level p i left at b e′ r′
-    runs-on q k =
-        record {
-          does = joined (u .does) (omega arith) (k .does) (λ ks m. then-on (u .does .same ks m) q (u .does .size) refl (k .does .same ks m));
-          ends = λ y. let w = k .ends y in record { stop = w .stop; around = w .around ∙ u .around q; least = omega (arith, w .least, u .least q); most = w .most };
-        }
-
-    pub runs-left : r .stop ≡ Left → Runs s n v (hand first count) level p i left at b e r
-    runs-left q =
-        record {
-          does = said r (u .does) refl refl (omega arith) (u .does .inside) (λ ks m. renamed (u .does .same ks m) r refl (onward-left _ _ (r .left) (r .next .0) q ∙ sym (onward-left _ _ (r .left) (r .next .0) q)));
-          ends = λ y. absurd (no-end-left q y);
-        }
-
-    pub runs-refused : (code x : ℕ) → r .stop ≡ Refused code x → Runs s n v (hand first count) level p i left at b e r
-    runs-refused code x q =
-        record {
-          does = said r (u .does) refl refl (omega arith) (u .does .inside) (λ ks m. renamed (u .does .same ks m) r refl (onward-refused _ _ _ _ (r .left) (r .next .0) code x q));
-          ends = λ y. absurd (no-end q y);
-        }

@@ -8,7 +8,7 @@ use native.Mathlib.Decide.{decLe}
 use borrow.Author.Tests.{le-leb, lt-leb}
 use denote.Enum.Declared.{tagOf}
 use types.Run.{OneOf, miss}
-use lib.ListN.{length, set}
+use lib.ListN.{length, getD, set}
 use Rattle.rules.specs.Directive.{itemAt}
 use Rattle.rules.specs.Table.{View}
 use Rattle.rules.specs.Text.{levelsAt}
@@ -20,13 +20,15 @@ use Rattle.rules.specs.declared.Item.{Item}
 use Rattle.rules.specs.declared.Item.the-variants.{Literal, Written}
 use Rattle.rules.specs.Run.{itemActs}
 use Rattle.rules.proofs.Code as code-declared
+use Rattle.rules.proofs.Reading.{item-literal}
 use Rattle.rules.proofs.TextLaws.{next-inside, stands}
 use Rattle.engine.specs.declared.state.Ran.{Ran}
 use Rattle.engine.specs.declared.state.Spot.{Spot}
 use Rattle.engine.specs.Acting.{Performed}
 use Rattle.engine.specs.Ran.{refusedRan, endedRan, hand, Acts, ActsAt, Steps}
-use Rattle.engine.specs.Running.{ActsAlone, leftRan, escaped}
+use Rattle.engine.specs.Running.{ActsAlone, PutsLiterals, leftRan, escaped}
 use Rattle.engine.proofs.Arms.{literal-acts, literal-full, steps-acts-none, steps-acts, steps-escape-none, steps-escape-left, steps-escape-on}
+use Rattle.engine.proofs.Strides.{strides, strides-none, strides-on}
 use Rattle.engine.proofs.Places.{literal-at, writes-at, jump-at, escape-at}
 
 -- a literal byte
@@ -47,6 +49,36 @@ module _ (t : List ℕ) (v : View) (first count level p byte i left at : ℕ) (b
   literal-put z h q k =
       subst (Steps (levelsAt t) (length t) v (hand first count) level p i left at b (set b at byte)) (sym q)
       (steps-acts (levelsAt t) (length t) v first count level p i left at b (literal-at t p byte e) z (literal-acts v first count p byte i (left - 1) at (p + 1) b k h) (omega arith) (omega (arith, stands t p (Literal byte) e)))
+
+-- literal bytes one after another
+ended-is : {i l l₂ a a₂ q q₂ : ℕ} → l ≡ l₂ → a ≡ a₂ → q ≡ q₂ → endedRan i l a q ≡ endedRan i l₂ a₂ q₂
+ended-is x y z = rw (x, y, z)
+
+module _ (t : List ℕ) (p left at : ℕ) (b : List ℕ) where
+  pub literals-none : p ≤ length t → at ≤ length b → PutsLiterals t p left at b b 0
+  literals-none h l =
+      record {
+        steps = omega arith;
+        inside = omega arith;
+        room = omega arith;
+        runs = λ v first count level i k. strides-none (levelsAt t) (length t) v first count level p i left at b _ (ended-is (omega arith) (omega arith) (omega arith)) h l k;
+      }
+
+  pub literals-more : {e : List ℕ} {k : ℕ} → PutsLiterals t p left at b e k → p + k < length t → (getD t (p + k) 0 ≡ 126 → ⊥) → k < left → at + k < length b
+      → PutsLiterals t p left at b (set e (at + k) (getD t (p + k) 0)) (k + 1)
+  literals-more {e} {k} u h n s r =
+      record {
+        steps = omega arith;
+        inside = omega arith;
+        room = omega arith;
+        runs =
+            λ v first count level i c.
+            let w = u .runs v first count level i c in
+            strides-on (levelsAt t) (length t) v first count level p i left at b w refl
+            (strides (levelsAt t) (length t) v first count level (p + k) i (left - k) (at + k) e
+            (literal-put t v first count level (p + k) (getD t (p + k) 0) i (left - k) (at + k) e _ (item-literal t (p + k) h n) (λ z. omega arith) (omega (arith, w .does .size))
+            (ended-is (omega arith) (omega arith) (omega arith)) c));
+      }
 
 -- a directive that acts alone is one of three
 pub only-escape : (keys : List ℕ) (c : Code) → keys ≡ 2 ∷ 3 ∷ 4 ∷ 5 ∷ 6 ∷ 7 ∷ 8 ∷ [] → ActsAlone c → OneOf keys (tagOf code-declared.the-type c) → c ≡ Escape

@@ -7,6 +7,7 @@ pub mod ClauseLaws
 pub mod Joining
 pub mod Places
 pub mod Sources
+pub mod Strides
 pub mod ItemLaws
 pub mod RunnerLaws
 pub mod WholeLaws

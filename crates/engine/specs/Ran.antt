@@ -110,6 +110,13 @@ pub record Steps (s : ℕ → List Level) (n : ℕ) (v : View) (c : ℕ → Cont
   pub least : r .stop ≡ Ended → p < r .place
   pub most : r .stop ≡ Ended → r .place ≤ n
 
+-- any number of items from p on, none perhaps, after which the text goes on at r's place
+pub record Strides (s : ℕ → List Level) (n : ℕ) (v : View) (c : ℕ → Context) (level p i left at : ℕ) (b e : List ℕ) (r : Ran) : Type 0 where
+  pub does : Does (RunsTo v c level (λ ks. run v left (restAt s p) ks (c i)) (λ ks l j. run v l (restAt s (r .place)) ks (c j)) at b e r) (c 0 .count) left at b e r
+  pub around : r .stop ≡ Ended → outer (s (r .place)) ≡ outer (s p)
+  pub least : r .stop ≡ Ended → p ≤ r .place
+  pub most : r .stop ≡ Ended → r .place ≤ n
+
 -- a block whose inside is at q and which does f once it is begun, with `level` levels left inside it
 pub record Blocks (s : ℕ → List Level) (n : ℕ) (v : View) (c : ℕ → Context) (level q : ℕ) (f : List Frame → Flow) (left at : ℕ) (b e : List ℕ) (r : Ran) : Type 0 where
   pub does : Does (RunsTo v c (level + 1) f (λ ks l j. run v l (restAt s (r .place)) ks (c j)) at b e r) (c 0 .count) left at b e r

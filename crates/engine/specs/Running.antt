@@ -1,10 +1,12 @@
 -- What the smaller parts of the runners answer. Assumes nothing: these are definitions.
-use Prim.Native.Nat.{ℕ, _+_, _≤_, _<_}
+use Prim.Native.Nat.{ℕ, _+_, _-_, _≤_, _<_}
 use mathlib.Core.Path.{_≡_}
 use mathlib.Core.Bool.{Bool, true, false, cond}
 use mathlib.Core.List.{List}
 use lib.Dec.{leb}
-use Rattle.rules.specs.Table.{Value, boolean, integer, character, string, list, meant, entryCount, Holds}
+use lib.ListN.{length}
+use Rattle.rules.specs.Table.{Value, boolean, integer, character, string, list, View, meant, entryCount, Holds}
+use Rattle.rules.specs.Text.{levelsAt}
 use Rattle.rules.specs.declared.Argument.{Argument}
 use Rattle.rules.specs.declared.Code.{Code}
 use Rattle.rules.specs.declared.Code.the-variants.{Writes, Jump, Escape, Conditional, Separator, EndConditional, Iteration, EndIteration, Unknown}
@@ -17,7 +19,7 @@ use Rattle.engine.specs.declared.state.Ran.{Ran}
 use Rattle.engine.specs.declared.state.Spot.{Spot}
 use Rattle.engine.specs.declared.state.Stop.the-variants.{Left}
 use Rattle.engine.specs.Acting.{FormRight}
-use Rattle.engine.specs.Ran.{endedRan}
+use Rattle.engine.specs.Ran.{endedRan, hand, Strides}
 
 -- whether a code, or an item, ends the sequence in which it stands
 abbrev pub endsSequence : Code → Bool
@@ -49,6 +51,15 @@ ActsAlone EndConditional = ⊥
 ActsAlone Iteration = ⊥
 ActsAlone EndIteration = ⊥
 ActsAlone Unknown = ⊥
+
+-- k literal bytes of the text t from p on, put one after another: within the steps, the text and the buffer, and the
+-- same whatever arguments are in hand
+pub record PutsLiterals (t : List ℕ) (p left at : ℕ) (b e : List ℕ) (k : ℕ) : Type 0 where
+  pub steps : k ≤ left
+  pub inside : p + k ≤ length t
+  pub room : at + k ≤ length b
+  pub runs : (v : View) (first count level i : ℕ) → i ≤ count
+      → Strides (levelsAt t) (length t) v (hand first count) level p i left at b e (endedRan i (left - k) (at + k) (p + k))
 
 -- what an escape answers: it leaves its sequence where no argument remains, and else goes on
 abbrev pub leftRan : ℕ → ℕ → ℕ → ℕ → Ran

@@ -27,7 +27,7 @@ ghost use Prim.Native.Nat.{ℕ, _≤_, _<_};
 ghost use lib.ListN.{length};
 ghost use Rattle.rules.specs.Table.{View, meant, viewOf};
 ghost use Rattle.rules.specs.Piece.{kindOf, accepts};
-ghost use Rattle.rules.specs.Working.{glyphSource, own, back};
+ghost use Rattle.rules.specs.Working.{glyphSource};
 ghost use Rattle.rules.specs.Working.{sourceOf as sourceIn};
 ghost use Rattle.rules.specs.Run.{put, write, writeFrom, jumpTo, itemActs};
 ghost use Rattle.rules.specs.Run.{jump as jumping};
@@ -36,7 +36,7 @@ ghost use Rattle.pieces.specs.Bytes.{Good, bytesOf};
 ghost use Rattle.pieces.specs.Given.{Worked, Reachable};
 ghost use Rattle.working.specs.Settling.{InHand, handAt};
 ghost use Rattle.engine.specs.Ran.{hand};
-ghost use Rattle.engine.specs.Acting.{FormRight, sourceAs, SourceReachable, Coded, JumpSet, Performed};
+ghost use Rattle.engine.specs.Acting.{FormRight, sourceAs, SourceReachable, Takes, Coded, JumpSet, Performed};
 
 // Where the argument of a directive comes from: the next one, the one before it, or none is taken and this stands in.
 enum Source {
@@ -99,7 +99,8 @@ fn takes_kind(form: Form, kind: usize) -> bool
 fn write_value(
     spot: Spot,
     form: Form,
-    d: Directive,
+    colon: bool,
+    at: bool,
     settings: Settings,
     argument: Argument,
     table: &[u8],
@@ -112,86 +113,13 @@ fn write_value(
     requires { ⌜ Reachable (now table) argument ⌝ }
     requires { ⌜ spot .at ≤ length (now out) ⌝ }
     requires { ⌜ (before .0 ≤ count) × (next .0 ≤ count) ⌝ }
-    ensures { λ r. ⌜ Performed (λ on. write (viewOf (now (table .entry))) (spot .position) (spot .left) form d settings (meant (now (table .entry)) argument) (next .0) on) count spot (now (out .entry)) (now (out .exit)) r ⌝ }
+    ensures { λ r. ⌜ ((d : Directive) → d .colon ≡ colon → d .at ≡ at → Performed (λ on. write (viewOf (now (table .entry))) (spot .position) (spot .left) form d settings (meant (now (table .entry)) argument) (next .0) on) count spot (now (out .entry)) (now (out .exit)) r) ⌝ }
 {
     if takes_kind(form, kind_of(argument)) {
-        let piece = make_piece(form, d.colon, d.at, settings, argument, table);
+        let piece = make_piece(form, colon, at, settings, argument, table);
         return put_piece(spot, piece, table, count, before, next, out);
     }
     refuse(spot, 7, before)
-}
-
-// The piece of the next argument.
-fn write_own(
-    spot: Spot,
-    form: Form,
-    d: Directive,
-    settings: Settings,
-    table: &[u8],
-    hand: Hand,
-    i: ArgumentPosition,
-    out: &mut [u8],
-) -> Ran
-    requires { ⌜ Worked form settings ⌝ }
-    requires { ⌜ InHand (now table) hand ⌝ }
-    requires { ⌜ spot .at ≤ length (now out) ⌝ }
-    requires { ⌜ i .0 ≤ hand .count ⌝ }
-    ensures { λ r. ⌜ Performed (λ on. writeFrom (viewOf (now (table .entry))) (spot .position) (spot .left) form d (handAt hand 0) settings (i .0) on own) (hand .count) spot (now (out .entry)) (now (out .exit)) r ⌝ }
-{
-    let count = hand.count;
-    let k = i.0;
-    if count <= k {
-        return refuse(spot, 6, i);
-    }
-    let argument = argument_at(table, hand, i);
-    write_value(
-        spot,
-        form,
-        d,
-        settings,
-        argument,
-        table,
-        count,
-        i,
-        ArgumentPosition(k + 1),
-        out,
-    )
-}
-
-// The piece of the argument before the next one, which stays the next.
-fn write_back(
-    spot: Spot,
-    form: Form,
-    d: Directive,
-    settings: Settings,
-    table: &[u8],
-    hand: Hand,
-    i: ArgumentPosition,
-    out: &mut [u8],
-) -> Ran
-    requires { ⌜ Worked form settings ⌝ }
-    requires { ⌜ InHand (now table) hand ⌝ }
-    requires { ⌜ spot .at ≤ length (now out) ⌝ }
-    requires { ⌜ i .0 ≤ hand .count ⌝ }
-    ensures { λ r. ⌜ Performed (λ on. writeFrom (viewOf (now (table .entry))) (spot .position) (spot .left) form d (handAt hand 0) settings (i .0) on back) (hand .count) spot (now (out .entry)) (now (out .exit)) r ⌝ }
-{
-    let k = i.0;
-    if k == 0 {
-        return refuse(spot, 6, i);
-    }
-    let argument = argument_at(table, hand, ArgumentPosition(k - 1));
-    write_value(
-        spot,
-        form,
-        d,
-        settings,
-        argument,
-        table,
-        hand.count,
-        i,
-        i,
-        out,
-    )
 }
 
 fn glyph_source(setting: Setting) -> Source
@@ -228,11 +156,51 @@ fn source_of(form: Form, colon: bool, settings: Settings) -> Source
     }
 }
 
+// The argument that a directive takes, with the next one after it; none where 01 gives code 6.
+pub enum Taken {
+    None,
+    Is {
+        argument: Argument,
+        next: ArgumentPosition,
+    },
+}
+
+fn take_argument(source: Source, table: &[u8], hand: Hand, i: ArgumentPosition) -> Taken
+    requires { ⌜ InHand (now table) hand ⌝ }
+    requires { ⌜ SourceReachable (now table) source ⌝ }
+    requires { ⌜ i .0 ≤ hand .count ⌝ }
+    ensures { λ r. ⌜ Takes (now (table .entry)) hand source (i .0) r ⌝ }
+{
+    let k = i.0;
+    match source {
+        Source::Own => {
+            if hand.count <= k {
+                return Taken::None;
+            }
+            Taken::Is {
+                argument: argument_at(table, hand, i),
+                next: ArgumentPosition(k + 1),
+            }
+        }
+        Source::Back => {
+            if k == 0 {
+                return Taken::None;
+            }
+            Taken::Is {
+                argument: argument_at(table, hand, ArgumentPosition(k - 1)),
+                next: i,
+            }
+        }
+        Source::Given(argument) => Taken::Is { argument, next: i },
+    }
+}
+
 // The piece of a directive whose parameters are worked out.
 fn write_form(
     spot: Spot,
     form: Form,
-    d: Directive,
+    colon: bool,
+    at: bool,
     settings: Settings,
     table: &[u8],
     hand: Hand,
@@ -243,22 +211,23 @@ fn write_form(
     requires { ⌜ InHand (now table) hand ⌝ }
     requires { ⌜ spot .at ≤ length (now out) ⌝ }
     requires { ⌜ i .0 ≤ hand .count ⌝ }
-    ensures { λ r. ⌜ Performed (λ on. writeFrom (viewOf (now (table .entry))) (spot .position) (spot .left) form d (handAt hand 0) settings (i .0) on (sourceIn form (d .colon) settings)) (hand .count) spot (now (out .entry)) (now (out .exit)) r ⌝ }
+    ensures { λ r. ⌜ ((d : Directive) → d .colon ≡ colon → d .at ≡ at → Performed (λ on. writeFrom (viewOf (now (table .entry))) (spot .position) (spot .left) form d (handAt hand 0) settings (i .0) on (sourceIn form colon settings)) (hand .count) spot (now (out .entry)) (now (out .exit)) r) ⌝ }
 {
-    let source = source_of(form, d.colon, settings);
-    match source {
-        Source::Own => write_own(spot, form, d, settings, table, hand, i, out),
-        Source::Back => write_back(spot, form, d, settings, table, hand, i, out),
-        Source::Given(argument) => write_value(
+    let source = source_of(form, colon, settings);
+    let taken = take_argument(source, table, hand, i);
+    match taken {
+        Taken::None => refuse(spot, 6, i),
+        Taken::Is { argument, next } => write_value(
             spot,
             form,
-            d,
+            colon,
+            at,
             settings,
             argument,
             table,
             hand.count,
             i,
-            i,
+            next,
             out,
         ),
     }
@@ -319,7 +288,8 @@ pub fn act_form(
             SettledOut::Is { settings, next: i } => write_form(
                 spot,
                 form,
-                d,
+                d.colon,
+                d.at,
                 settings,
                 table,
                 hand,

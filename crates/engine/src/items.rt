@@ -37,7 +37,7 @@ ghost use Rattle.rules.specs.declared.Item.the-variants.{Literal, Written};
 ghost use Rattle.working.specs.Settling.{InHand, handAt};
 ghost use Rattle.reader.specs.Ends.{AfterBlock};
 ghost use Rattle.engine.specs.Ran.{Runs, Steps, Blocks, Passes, choosing, iterating, restAt};
-ghost use Rattle.engine.specs.Running.{endsSequence, endsAt, opensBlock, iterates, escaped, ActsAlone, ListsTo};
+ghost use Rattle.engine.specs.Running.{endsSequence, endsAt, opensBlock, iterates, escaped, ActsAlone, ListsTo, PutsLiterals};
 
 // Whether a code ends the sequence in which it stands.
 fn is_end(code: Code) -> bool
@@ -177,6 +177,35 @@ pub fn put_literal(
     }
     out[at] = byte;
     go_on(spot, next, at + 1)
+}
+
+fn smaller(a: usize, b: usize) -> usize
+    ensures { λ r. ⌜ (r ≤ a) × (r ≤ b) ⌝ }
+{
+    if a <= b {
+        return a;
+    }
+    b
+}
+
+// Literal bytes from p on, as many as stand there and as steps and room allow. Answers how many.
+pub fn put_literals(text: &[u8], p: usize, left: usize, out: &mut [u8], at: usize) -> usize
+    requires { ⌜ p ≤ length (now text) ⌝ }
+    requires { ⌜ at ≤ length (now out) ⌝ }
+    ensures { λ r. ⌜ PutsLiterals (now (text .entry)) p left at (now (out .entry)) (now (out .exit)) r ⌝ }
+{
+    // the least bound first, so that a turn of the loop asks it and the byte alone
+    let most = smaller(left, smaller(text.len() - p, out.len() - at));
+    let mut k: usize = 0;
+    while k < most {
+        let byte = text[p + k];
+        if byte == 126 {
+            return k;
+        }
+        out[at + k] = byte;
+        k += 1;
+    }
+    k
 }
 
 // An escape that is begun.

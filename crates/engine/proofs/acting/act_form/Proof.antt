@@ -4,7 +4,6 @@ use Rattle.engine.proofs.ActLaws.{performed-as, performed-refused, acts
 use Rattle.working.proofs.Ranges.{form-in-range}
 use Rattle.working.proofs.Answers.{next-reaches, run-settled, run-refused}
 use Rattle.engine.proofs.Sources.{worked-in}
-use Rattle.engine.proofs.ActLaws.{performed-as, performed-refused, acts-writes, settings-ill}
 use Rattle.working.specs.Settling.{handAt}
 use Rattle.rules.specs.Run.{Flow}
 use Rattle.rules.specs.declared.Code.{Code}
@@ -50,7 +49,7 @@ returns c =
     (λ on. acts-writes v (a .spot .position) (a .spot .left) (a .d) (handAt (a .hand) (a .next .0)) on (a .form) (c .before .before .before .before .before .before .before .before .before .before .before .before .pre .0)
     ∙ run-settled (c .before .before .before .before .before .before .before .settle-directive .ensures) well (a .spot .position) (a .spot .left) _ (c .before .before .before .before .before .settled .given .1)
     ∙ write-anywhere v (a .spot .position) (a .spot .left) (a .form) (a .d) (a .hand .first .0) (a .hand .count) (a .next .0) ((c .before .before .before .before .before .settled .given .0 .0)) ((c .before .before .before .before .before .settled .given .0 .1 .0 .0)) on (sourceOf (a .form) (a .d .colon) ((c .before .before .before .before .before .settled .given .0 .0))))
-    (c .before .before .write-form .ensures)
+    ((c .before .before .write-form .ensures) (a .d) refl refl)
 
 returns-2 : tie.Need-returns-2
 returns-2 c =

@@ -30,8 +30,8 @@ returns : tie.Need-returns
 returns c =
     let a = (c .before .before .before .before .before .before .before .before .before .before .args) in
     let t = a .table .now in
-    performed-as _
-    (λ on. write-yes (viewOf t) (a .spot .position) (a .spot .left) (a .d) (hand 0 0 0) (a .form) (a .settings) on (meant t (a .argument)) (a .next .0)
+    λ d q r. performed-as _
+    (λ on. write-yes (viewOf t) (a .spot .position) (a .spot .left) d (hand 0 0 0) (a .form) (a .settings) on (meant t (a .argument)) (a .next .0) q r
     (sym (ap (accepts (a .form)) ((c .before .before .before .before .before .before .before .kind-of .ensures) t)) ∙ sym (c .before .before .before .before .before .before .takes-kind .ensures) ∙ (c .before .before .before .before .before .if1 .taken))
     ∙ ap (λ (w : List ℕ). put (a .spot .position) (a .spot .left) w (on (a .next .0))) (sym ((c .before .before .before .before .make-piece .ensures .is))))
     (c .before .before .put-piece .ensures)
@@ -43,8 +43,8 @@ returns-2 : tie.Need-returns-2
 returns-2 c =
     let a = (c .before .before .before .before .before .before .args) in
     let t = a .table .now in
-    performed-refused _ 7 (a .before .0) (c .refuse .ensures)
-    (λ on. write-no (viewOf t) (a .spot .position) (a .spot .left) (a .d) (hand 0 0 0) (a .form) (a .settings) on (meant t (a .argument)) (a .next .0)
+    λ d q r. performed-refused _ 7 (a .before .0) (c .refuse .ensures)
+    (λ on. write-no (viewOf t) (a .spot .position) (a .spot .left) d (hand 0 0 0) (a .form) (a .settings) on (meant t (a .argument)) (a .next .0)
     (sym (ap (accepts (a .form)) ((c .before .before .before .kind-of .ensures) t)) ∙ sym (c .before .before .takes-kind .ensures) ∙ (c .before .if1 .left)))
     (c .before .before .before .before .before .before .pre .1 .1 .0) (c .before .before .before .before .before .before .pre .1 .1 .1 .0)
 
