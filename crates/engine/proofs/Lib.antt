@@ -6,6 +6,7 @@ pub mod Buffer
 pub mod ClauseLaws
 pub mod Joining
 pub mod Places
+pub mod ShortRuns
 pub mod Sources
 pub mod Strides
 pub mod ItemLaws

@@ -25,12 +25,14 @@ use Rattle.rules.proofs.RunLaws.{choose-yes, choose-no}
 use Rattle.rules.proofs.TextLaws.{next-inside, stands}
 use Rattle.reader.specs.Ends.{AfterBlock}
 use Rattle.engine.specs.declared.state.Ran.{Ran}
+use Rattle.engine.specs.declared.state.Stop.{Stop}
 use Rattle.engine.specs.declared.state.Stop.the-variants.{Ended, Left, Refused}
 use Rattle.engine.specs.Acting.{CodeRight}
-use Rattle.engine.specs.Ran.{refusedRan, endedRan, hand, EndsAt, After, restAt, Runs, Steps, Blocks, Passes, choosing, iterating, overListed}
-use Rattle.engine.specs.Running.{endsSequence, endsAt, opensBlock, iterates, ActsAlone, isListValue}
+use Rattle.engine.specs.Ran.{refusedRan, endedRan, hand, EndsAt, After, restAt, Runs, Steps, Strides, Blocks, Passes, choosing, iterating, overListed}
+use Rattle.engine.specs.Running.{isEnded, endsSequence, endsAt, opensBlock, iterates, ActsAlone, isListValue}
 use Rattle.engine.proofs.Arms.{runs-end, steps-deep, steps-block-none, steps-block}
 use Rattle.engine.proofs.BlockArms.{chooses-run, iterates-run, blocks-refused, passes-none, passes-on}
+use Rattle.engine.proofs.Strides.{strides-runs-left, strides-runs-refused}
 use Rattle.engine.proofs.Places.{end-at, bad-at, unfinished-at, separator-at, end-iteration-at, end-conditional-at, unknown-at, iteration-at, conditional-at}
 
 not-both : {b : Bool} → b ≡ true → b ≡ false → ⊥
@@ -72,6 +74,24 @@ module _ (t : List ℕ) (p : ℕ) where
 
   pub literal-inside : {x : Item} {b : ℕ} → itemAt t p ≡ x → x ≡ Literal b → p < length t
   literal-inside {x} {b} e q = stands t p (Literal b) (e ∙ q)
+
+-- how a run over any number of items stopped
+pub is-ended : (x : Stop) → isEnded x ≡ true → x ≡ Ended
+is-ended Ended h = refl
+is-ended Left h = absurd (not-both h refl)
+is-ended (Refused code p) h = absurd (not-both h refl)
+
+pub ended-as : (r : Ran) → r .stop ≡ Ended → r ≡ endedRan (r .next .0) (r .left) (r .at) (r .place)
+ended-as r q = ap (λ (x : Stop). record { stop = x; next = r .next; left = r .left; at = r .at; place = r .place }) q
+
+pub runs-stopped : (s : ℕ → List Level) (n : ℕ) (v : View) (first count level p i left at : ℕ) (b : List ℕ) {e : List ℕ} {r : Ran}
+    → Strides s n v (hand first count) level p i left at b e r → isEnded (r .stop) ≡ false → Runs s n v (hand first count) level p i left at b e r
+runs-stopped s n v first count level p i left at b {e} {r} u h = by (r .stop) refl h
+  where
+    by : (x : Stop) → r .stop ≡ x → isEnded x ≡ false → Runs s n v (hand first count) level p i left at b e r
+    by Ended q h = absurd (not-both refl h)
+    by Left q h = strides-runs-left s n v first count level p i left at b u q
+    by (Refused code x) q h = strides-runs-refused s n v first count level p i left at b u code x q
 
 -- the items of the arm for all others end their sequences
 pub no-other : (keys : List ℕ) (x : Item) → keys ≡ 0 ∷ 3 ∷ 4 ∷ [] → endsAt x ≡ false → OneOf keys (tagOf item-declared.the-type x) → ⊥

@@ -17,7 +17,8 @@ use Rattle.engine.specs.declared.items.Listed.{Listed}
 use Rattle.engine.specs.declared.items.Listed.the-variants.{Is, Not}
 use Rattle.engine.specs.declared.state.Ran.{Ran}
 use Rattle.engine.specs.declared.state.Spot.{Spot}
-use Rattle.engine.specs.declared.state.Stop.the-variants.{Left}
+use Rattle.engine.specs.declared.state.Stop.{Stop}
+use Rattle.engine.specs.declared.state.Stop.the-variants.{Ended, Left, Refused}
 use Rattle.engine.specs.Acting.{FormRight}
 use Rattle.engine.specs.Ran.{endedRan, hand, Strides}
 
@@ -68,6 +69,11 @@ leftRan i left at place = record { stop = Left; next = record { 0 = i }; left = 
 abbrev pub escaped : Spot → ℕ → ℕ → Ran
 escaped spot count i =
     cond (leb count i) (leftRan i (spot .left) (spot .at) (spot .place)) (endedRan i (spot .left) (spot .at) (spot .place))
+
+abbrev pub isEnded : Stop → Bool
+isEnded Ended = true
+isEnded Left = false
+isEnded (Refused code p) = false
 
 abbrev pub isListValue : Value → Bool
 isListValue (boolean b) = false

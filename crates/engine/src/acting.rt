@@ -196,7 +196,7 @@ fn take_argument(source: Source, table: &[u8], hand: Hand, i: ArgumentPosition) 
 }
 
 // The piece of a directive whose parameters are worked out.
-fn write_form(
+pub fn write_form(
     spot: Spot,
     form: Form,
     colon: bool,

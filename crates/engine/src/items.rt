@@ -37,7 +37,7 @@ ghost use Rattle.rules.specs.declared.Item.the-variants.{Literal, Written};
 ghost use Rattle.working.specs.Settling.{InHand, handAt};
 ghost use Rattle.reader.specs.Ends.{AfterBlock};
 ghost use Rattle.engine.specs.Ran.{Runs, Steps, Blocks, Passes, choosing, iterating, restAt};
-ghost use Rattle.engine.specs.Running.{endsSequence, endsAt, opensBlock, iterates, escaped, ActsAlone, ListsTo, PutsLiterals};
+ghost use Rattle.engine.specs.Running.{isEnded, endsSequence, endsAt, opensBlock, iterates, escaped, ActsAlone, ListsTo, PutsLiterals};
 
 // Whether a code ends the sequence in which it stands.
 fn is_end(code: Code) -> bool
@@ -265,6 +265,20 @@ pub fn act(
         Code::Writes(form) => act_form(spot, form, d, table, hand, next, out),
         Code::Jump => act_jump(spot, d, table, hand, next),
         _ => escape(spot, hand, next),
+    }
+}
+
+// Whether a run stopped at its end.
+pub fn is_ended(stop: Stop) -> bool
+    ensures { λ r. ⌜ r ≡ isEnded stop ⌝ }
+{
+    match stop {
+        Stop::Ended => true,
+        Stop::Left => false,
+        Stop::Refused {
+            code: _,
+            position: _,
+        } => false,
     }
 }
 

@@ -4,4 +4,5 @@ pub mod clauses;
 pub mod formatting;
 pub mod items;
 pub mod runners;
+pub mod short;
 pub mod state;

@@ -6,16 +6,17 @@ use crate::items::Listed;
 use crate::items::act;
 use crate::items::close_from;
 use crate::items::ends_here;
+use crate::items::is_ended;
 use crate::items::is_iteration;
 use crate::items::is_over;
 use crate::items::list_of;
 use crate::items::one_less;
 use crate::items::opens_block;
 use crate::items::put_literal;
+use crate::short::run_short;
 use crate::state::Ran;
 use crate::state::Spot;
 use crate::state::Stop;
-use crate::state::go_on;
 use crate::state::refuse;
 use reader::directive::item_at;
 use reader::places::is_well_written;
@@ -63,20 +64,28 @@ pub fn run_sequence(
     let mut left = most;
     let mut at = from;
     loop {
-        let item = item_at(text, p);
-        if ends_here(item) {
-            return go_on(
-                Spot {
-                    position: p,
-                    place: p,
-                    left,
-                    at,
-                },
-                next,
-                at,
-            );
+        let s = run_short(text, table, p, hand, next, left, out, at);
+        let halt = s.stop;
+        if !is_ended(halt) {
+            return s;
         }
-        let r = run_item(text, table, level, p, item, hand, next, left, out, at);
+        let item = item_at(text, s.place);
+        if ends_here(item) {
+            return s;
+        }
+        let onto = s.next;
+        let r = run_item(
+            text,
+            table,
+            level,
+            s.place,
+            item,
+            hand,
+            onto,
+            s.left,
+            out,
+            s.at,
+        );
         let stop = r.stop;
         let after = r.next;
         match stop {

@@ -1,0 +1,164 @@
+// Literal bytes and short directives, of which most texts are made, done one after another without an item for each.
+use crate::acting::write_form;
+use crate::items::put_literals;
+use crate::state::Ran;
+use crate::state::Spot;
+use crate::state::Stop;
+use crate::state::refuse;
+use reader::short::NO_BYTE;
+use reader::short::NO_NUMBER;
+use reader::short::Short;
+use reader::short::read_short;
+use reader::short::short_form;
+use rules::ArgumentPosition;
+use rules::Setting;
+use rules::Settings;
+use working::Hand;
+ghost use mathlib.Core.Path.{_≡_};
+ghost use mathlib.Core.List.{List};
+ghost use Prim.Native.Nat.{ℕ, _≤_};
+ghost use lib.ListN.{length};
+ghost use Rattle.rules.specs.Table.{viewOf};
+ghost use Rattle.rules.specs.Text.{levelsAt};
+ghost use Rattle.reader.specs.Shorts.{settingOf, shortForm, ShortIn, IsShort};
+ghost use Rattle.working.specs.Settling.{InHand, handAt};
+ghost use Rattle.engine.specs.Acting.{FormRight};
+ghost use Rattle.engine.specs.Ran.{Steps, Strides};
+
+// A parameter as its setting, where none stands for one that is not written.
+fn setting_of(n: usize, none: usize) -> Setting
+    ensures { λ r. ⌜ r ≡ settingOf none n ⌝ }
+{
+    if n == none {
+        return Setting::Absent;
+    }
+    Setting::Is(n)
+}
+
+// The short directive at p, after which the text goes on at place.
+fn act_short(
+    p: usize,
+    kind: u8,
+    detail: u8,
+    number: usize,
+    byte: usize,
+    place: usize,
+    table: &[u8],
+    hand: Hand,
+    next: ArgumentPosition,
+    left: usize,
+    out: &mut [u8],
+    at: usize,
+) -> Ran
+    requires { ⌜ FormRight (shortForm kind detail) ⌝ }
+    requires { ⌜ ShortIn (shortForm kind detail) (settingOf 4097 number) (settingOf 256 byte) ⌝ }
+    requires { ⌜ InHand (now table) hand ⌝ }
+    requires { ⌜ next .0 ≤ hand .count ⌝ }
+    requires { ⌜ at ≤ length (now out) ⌝ }
+    ensures { λ r. ⌜ ((t : List ℕ) (level : ℕ) → IsShort t p (shortForm kind detail) (settingOf 4097 number) (settingOf 256 byte) place → Steps (levelsAt t) (length t) (viewOf (now (table .entry))) (handAt hand) level p (next .0) left at (now (out .entry)) (now (out .exit)) r) ⌝ }
+{
+    if left == 0 {
+        return refuse(
+            Spot {
+                position: p,
+                place,
+                left,
+                at,
+            },
+            9,
+            next,
+        );
+    }
+    let spot = Spot {
+        position: p,
+        place,
+        left: left - 1,
+        at,
+    };
+    let first = setting_of(number, NO_NUMBER);
+    let second = setting_of(byte, NO_BYTE);
+    let settings = Settings {
+        first,
+        second,
+        third: Setting::Absent,
+        fourth: Setting::Absent,
+    };
+    let form = short_form(kind, detail);
+    write_form(spot, form, false, false, settings, table, hand, next, out)
+}
+
+// The literal bytes and the short directives that stand from start on.
+pub fn run_short(
+    text: &[u8],
+    table: &[u8],
+    start: usize,
+    hand: Hand,
+    first: ArgumentPosition,
+    most: usize,
+    out: &mut [u8],
+    from: usize,
+) -> Ran
+    requires { ⌜ InHand (now table) hand ⌝ }
+    requires { ⌜ first .0 ≤ hand .count ⌝ }
+    requires { ⌜ start ≤ length (now text) ⌝ }
+    requires { ⌜ from ≤ length (now out) ⌝ }
+    ensures { λ r. ⌜ ((level : ℕ) → Strides (levelsAt (now (text .entry))) (length (now (text .entry))) (viewOf (now (table .entry))) (handAt hand) level start (first .0) most from (now (out .entry)) (now (out .exit)) r) ⌝ }
+{
+    let mut p = start;
+    let mut next = first;
+    let mut left = most;
+    let mut at = from;
+    loop {
+        let k = put_literals(text, p, left, out, at);
+        p += k;
+        left -= k;
+        at += k;
+        let short = read_short(text, p);
+        match short {
+            Short::Other => {
+                return Ran {
+                    stop: Stop::Ended,
+                    next,
+                    left,
+                    at,
+                    place: p,
+                };
+            }
+            Short::Is {
+                kind,
+                detail,
+                number,
+                byte,
+                next: place,
+            } => {
+                let r = act_short(
+                    p,
+                    kind,
+                    detail,
+                    number,
+                    byte,
+                    place,
+                    table,
+                    hand,
+                    next,
+                    left,
+                    out,
+                    at,
+                );
+                let stop = r.stop;
+                let after = r.next;
+                match stop {
+                    Stop::Ended => {
+                        next = after;
+                        left = r.left;
+                        at = r.at;
+                        p = r.place;
+                    }
+                    _ => {
+                        return r;
+                    }
+                }
+            }
+        }
+    }
+}
