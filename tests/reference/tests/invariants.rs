@@ -2,69 +2,8 @@
 
 mod common;
 use common::*;
-use random::Random;
+use random::{pieced, Random};
 use reference::{check_format, check_table, encode, format, vet, Value};
-
-const PARTS: &[&str] = &[
-    "~",
-    "a",
-    "s",
-    "d",
-    "x",
-    "c",
-    "p",
-    "*",
-    "%",
-    "_",
-    "[",
-    "]",
-    ";",
-    "{",
-    "}",
-    "^",
-    "\n",
-    ":",
-    "@",
-    ",",
-    "v",
-    "#",
-    "'",
-    "0",
-    "1",
-    "5",
-    "-",
-    " ",
-    "q",
-    "~a",
-    "~d",
-    "~s",
-    "~p",
-    "~:p",
-    "~[",
-    "~]",
-    "~;",
-    "~:;",
-    "~{",
-    "~@{",
-    "~}",
-    "~^",
-    "~:[",
-    "~@[",
-    "~*",
-    "~:*",
-    "~@*",
-    "~2{",
-    "~v,va",
-    "~vc",
-    "~#_",
-    "~{~a~}",
-    "~@{~a~^,~}",
-    "~[x~;y~:;z~]",
-];
-
-fn text(random: &Random) -> String {
-    (0..random.below(9)).map(|_| random.pick(PARTS)).collect()
-}
 
 fn value(random: &Random, depth: usize) -> Value {
     match random.below(if depth == 0 { 4 } else { 6 }) {
@@ -84,8 +23,8 @@ fn value(random: &Random, depth: usize) -> Value {
 fn answers_hold_together() {
     let random = Random::new(3);
     let mut seen = [0; 11];
-    for _ in 0..200_000 {
-        let text = text(&random);
+    for _ in 0..400_000 {
+        let text = pieced(&random);
         let args: Vec<Value> = (0..random.below(5)).map(|_| value(&random, 2)).collect();
         let table = encode(&args);
         assert_eq!(check_table(&table), Ok(()));
@@ -137,7 +76,7 @@ fn answers_hold_together() {
         }
     }
     for code in [0, 3, 4, 5, 6, 7, 8, 9] {
-        assert!(seen[code] > 20, "code {code}: {}", seen[code]);
+        assert!(seen[code] > 50, "code {code}: {}", seen[code]);
     }
 }
 

@@ -4,7 +4,7 @@
 mod drawing;
 
 use drawing::{damage, hex, tables, texts, values, Tally};
-use random::Random;
+use random::{pieced, Random};
 use reference::{encode, Value, MOST_ENTRIES, MOST_LONGEST, MOST_POOL};
 
 const SEED: u64 = 4;
@@ -117,7 +117,7 @@ fn next_format(random: &Random) -> (Vec<u8>, Vec<Value>) {
     };
     match random.below(20) {
         0..=2 => damage::damage(random, &mut format),
-        3 => format = damage::pieced(random),
+        3 => format = pieced(random).into_bytes(),
         4 if random.once_in(4) => format = damage::shapeless(random),
         5 if random.once_in(5) => damage::lengthen(random, &mut format),
         _ => {}
