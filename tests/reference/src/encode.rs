@@ -10,6 +10,19 @@ pub enum Value {
     List(Vec<Value>),
 }
 
+impl Value {
+    /// The tag of its kind.
+    pub fn tag(&self) -> u8 {
+        match self {
+            Value::Bool(_) => 0,
+            Value::Int(_) => 1,
+            Value::Char(_) => 2,
+            Value::Str(_) => 3,
+            Value::List(_) => 4,
+        }
+    }
+}
+
 /// The table of these arguments: they are entries 0 to m-1, list members
 /// come after them, and strings are appended to the pool. Panics only if a
 /// number does not fit its header field.
@@ -19,22 +32,23 @@ pub fn encode(args: &[Value]) -> Vec<u8> {
     let mut pool: Vec<u8> = Vec::new();
     let mut own = 0;
     while own < waiting.len() {
-        let (tag, eight): (u8, [u8; 8]) = match waiting[own] {
-            Value::Bool(value) => (0, u64::from(*value).to_be_bytes()),
-            Value::Int(value) => (1, value.to_be_bytes()),
-            Value::Char(c) => (2, u64::from(*c).to_be_bytes()),
+        let value = waiting[own];
+        let eight = match value {
+            Value::Bool(value) => u64::from(*value).to_be_bytes(),
+            Value::Int(value) => value.to_be_bytes(),
+            Value::Char(c) => u64::from(*c).to_be_bytes(),
             Value::Str(bytes) => {
                 let offset = pool.len();
                 pool.extend_from_slice(bytes);
-                (3, pair(offset, bytes.len()))
+                pair(offset, bytes.len())
             }
             Value::List(members) => {
                 let first = waiting.len();
                 waiting.extend(members);
-                (4, pair(first, members.len()))
+                pair(first, members.len())
             }
         };
-        entries.extend_from_slice(&[tag, 0, 0, 0]);
+        entries.extend_from_slice(&[value.tag(), 0, 0, 0]);
         entries.extend_from_slice(&eight);
         own += 1;
     }

@@ -60,7 +60,7 @@ fn answers_hold_together() {
             }
         }
         // Vet agrees with this table about its kinds.
-        let kinds: Vec<u8> = args.iter().map(tag).collect();
+        let kinds: Vec<u8> = args.iter().map(Value::tag).collect();
         let vetted = vet(text.as_bytes(), &kinds, 4);
         match vetted.code {
             0 => assert!(
@@ -77,16 +77,6 @@ fn answers_hold_together() {
     }
     for code in [0, 3, 4, 5, 6, 7, 8, 9] {
         assert!(seen[code] > 50, "code {code}: {}", seen[code]);
-    }
-}
-
-fn tag(value: &Value) -> u8 {
-    match value {
-        Value::Bool(_) => 0,
-        Value::Int(_) => 1,
-        Value::Char(_) => 2,
-        Value::Str(_) => 3,
-        Value::List(_) => 4,
     }
 }
 

@@ -88,7 +88,7 @@ impl std::fmt::Display for Case {
 fn next_case(random: &Random) -> Case {
     let (format, mut arguments) = next_format(random);
     tables::unsettle(random, &mut arguments);
-    let mut kinds: Vec<u8> = arguments.iter().map(values::tag).collect();
+    let mut kinds: Vec<u8> = arguments.iter().map(Value::tag).collect();
     let longest = match random.below(100) {
         0 => random.pick(&[MOST_LONGEST + 1, MOST_LONGEST + 2, 1 << 32, usize::MAX]),
         1 => random.pick(&[MOST_LONGEST, MOST_LONGEST - 1]),
