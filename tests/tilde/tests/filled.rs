@@ -2,9 +2,9 @@
 
 mod drawing;
 
-use drawing::{hex, texts};
+use drawing::texts;
 use random::Random;
-use reference::{encode, Value};
+use reference::{encode, hex, Value};
 
 const SEED: u64 = 5;
 /// Each worker has a seed of its own, so that the cases do not depend on the machine.

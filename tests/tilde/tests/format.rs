@@ -3,9 +3,9 @@
 
 mod drawing;
 
-use drawing::{damage, hex, tables, texts, Tally};
+use drawing::{damage, tables, texts, Tally};
 use random::{pieced, Random};
-use reference::{Answer, Value};
+use reference::{hex, Answer, Value};
 
 const SEED: u64 = 3;
 /// So many calls, unless the environment's TILDE_CALLS asks for another number of them.

@@ -3,9 +3,9 @@
 
 mod drawing;
 
-use drawing::{damage, hex, tables, texts, values, Tally};
+use drawing::{damage, tables, texts, values, Tally};
 use random::{pieced, Random};
-use reference::{encode, Value, MOST_ENTRIES, MOST_LONGEST, MOST_POOL};
+use reference::{encode, hex, Value, MOST_ENTRIES, MOST_LONGEST, MOST_POOL};
 
 const SEED: u64 = 4;
 const VETS: usize = 250_000;
