@@ -5,26 +5,6 @@ use common::*;
 use random::Random;
 use reference::{brute_tables, encode, format, vet, vet_brute, Value, Vetted};
 
-fn accepts(text: &str, kinds: &[u8], longest: usize, count: usize) {
-    let expected = Vetted {
-        code: 0,
-        position: 0,
-        count,
-    };
-    assert_eq!(
-        vet(text.as_bytes(), kinds, longest),
-        expected,
-        "{text:?} {kinds:?} {longest}"
-    );
-    if brute_tables(kinds, longest) <= 50_000 {
-        assert_eq!(
-            vet_brute(text.as_bytes(), kinds, longest),
-            expected,
-            "{text:?} by trying"
-        );
-    }
-}
-
 fn refuses(text: &[u8], kinds: &[u8], longest: usize, code: u32, position: usize) {
     let expected = Vetted {
         code,
