@@ -2,12 +2,9 @@
 //! on damaged tables.
 
 use random::Random;
+use reference::{entry, hex, table_of, ENTRY, HEADER, MOST_ENTRIES, MOST_POOL};
 use std::collections::BTreeMap;
 
-const HEADER: usize = 8;
-const ENTRY: usize = 12;
-const MOST_ENTRIES: usize = 1024;
-const MOST_POOL: usize = 65_536;
 const SEED: u64 = 1;
 const TABLES: usize = 300_000;
 
@@ -58,7 +55,7 @@ fn every_byte_of_an_entry() {
         for index in 0..3 {
             let mut entries = [entry(1, 0, 0); 3];
             entries[index] = entry(tag, high, low);
-            let table = build(3, 3, 3, &entries, b"abc");
+            let table = table_of(3, 3, 3, &entries, b"abc");
             for at in 0..table.len() {
                 for value in 0..=255 {
                     let mut damaged = table.clone();
@@ -76,7 +73,7 @@ fn every_byte_of_an_entry() {
 fn every_length() {
     // A table cut or extended to each length: only its own is right.
     let entries: Vec<_> = (0..20).map(|i| entry(3, i, 1)).collect();
-    let table = build(20, 20, 21, &entries, &[b'p'; 21]);
+    let table = table_of(20, 20, 21, &entries, &[b'p'; 21]);
     let mut longer = table.clone();
     longer.extend([0; 40]);
     for length in 0..longer.len() {
@@ -189,10 +186,6 @@ fn without_entries(table: &[u8], first: usize, count: usize) -> Vec<u8> {
     bytes
 }
 
-fn hex(bytes: &[u8]) -> String {
-    bytes.iter().map(|byte| format!("{byte:02x}")).collect()
-}
-
 /// Which of the ways to end this table takes, for the count of each.
 fn kind_of_end(table: &[u8]) -> &'static str {
     match reference_check(table) {
@@ -207,23 +200,6 @@ fn kind_of_end(table: &[u8]) -> &'static str {
 }
 
 // ---- tables ---------------------------------------------------------------
-
-fn entry(tag: u8, high: u32, low: u32) -> [u8; ENTRY] {
-    let mut bytes = [0; ENTRY];
-    bytes[0] = tag;
-    bytes[4..8].copy_from_slice(&high.to_be_bytes());
-    bytes[8..12].copy_from_slice(&low.to_be_bytes());
-    bytes
-}
-
-fn build(n: u16, m: u16, pool: u32, entries: &[[u8; ENTRY]], pool_bytes: &[u8]) -> Vec<u8> {
-    let mut table = n.to_be_bytes().to_vec();
-    table.extend(m.to_be_bytes());
-    table.extend(pool.to_be_bytes());
-    table.extend(entries.concat());
-    table.extend(pool_bytes);
-    table
-}
 
 /// A sound table with none to three damages, or bytes of no shape.
 fn next_table(random: &Random) -> Vec<u8> {
@@ -296,7 +272,7 @@ fn sound(random: &Random) -> Vec<u8> {
         })
         .collect();
     let pool_bytes: Vec<u8> = (0..pool).map(|_| random.byte()).collect();
-    build(n as u16, m as u16, pool as u32, &entries, &pool_bytes)
+    table_of(n as u16, m as u16, pool as u32, &entries, &pool_bytes)
 }
 
 /// A start and a count within `length`, often up to its end.

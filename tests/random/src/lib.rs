@@ -1,7 +1,10 @@
-//! Numbers that look random and are the same at each run.
+//! Numbers that look random and are the same at each run, and format texts made by them.
 
 #![forbid(unsafe_code)]
 
+mod parts;
+
+pub use parts::{pieced, PARTS};
 use std::cell::Cell;
 
 /// The generator splitmix64.

@@ -27,7 +27,7 @@ fn answer(line: &[u8]) -> Option<Vec<u8>> {
         bytes.extend_from_slice(&(number as u32).to_be_bytes());
     }
     bytes.extend_from_slice(&answer.text);
-    Some(hex(&bytes))
+    Some(hex(&bytes).into_bytes())
 }
 
 fn unhex(line: &[u8]) -> Option<Vec<u8>> {
@@ -40,8 +40,9 @@ fn unhex(line: &[u8]) -> Option<Vec<u8>> {
         .collect()
 }
 
-fn hex(bytes: &[u8]) -> Vec<u8> {
-    let digit = |d: u8| b"0123456789abcdef"[usize::from(d)];
+/// Bytes in hexadecimal, lower case.
+pub fn hex(bytes: &[u8]) -> String {
+    let digit = |d: u8| char::from(b"0123456789abcdef"[usize::from(d)]);
     bytes
         .iter()
         .flat_map(|&b| [digit(b >> 4), digit(b & 15)])

@@ -13,10 +13,10 @@ mod table;
 mod tree;
 mod vet;
 
-pub use encode::{encode, Value};
-pub use job::job_line;
+pub use encode::{encode, entry, table_of, Value};
+pub use job::{hex, job_line};
 pub use run::{format, Answer};
-pub use table::check_table;
+pub use table::{check_table, ENTRY, HEADER};
 pub use tree::check_format;
 pub use vet::{brute_tables, vet, vet_brute, Vetted};
 

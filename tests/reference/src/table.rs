@@ -2,7 +2,9 @@
 
 use crate::{MOST_ENTRIES, MOST_POOL};
 
+/// The bytes of the header.
 pub const HEADER: usize = 8;
+/// The bytes of an entry.
 pub const ENTRY: usize = 12;
 
 /// One entry, read.

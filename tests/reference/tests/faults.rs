@@ -2,29 +2,16 @@
 
 mod common;
 use common::*;
-use reference::{check_format, check_table, encode, format, Answer, Value};
+use reference::{check_format, check_table, encode, entry, format, table_of, Answer, Value, ENTRY};
 
 // ---- code 1 -------------------------------------------------------------
 
-/// A table from its parts.
-fn table(n: u16, m: u16, pool: u32, entries: &[[u8; 12]], pool_bytes: usize) -> Vec<u8> {
-    let mut bytes = n.to_be_bytes().to_vec();
-    bytes.extend(m.to_be_bytes());
-    bytes.extend(pool.to_be_bytes());
-    bytes.extend(entries.concat());
-    bytes.extend(vec![b'p'; pool_bytes]);
-    bytes
+/// With a pool of so many bytes.
+fn table(n: u16, m: u16, pool: u32, entries: &[[u8; ENTRY]], pool_bytes: usize) -> Vec<u8> {
+    table_of(n, m, pool, entries, &vec![b'p'; pool_bytes])
 }
 
-fn entry(tag: u8, high: u32, low: u32) -> [u8; 12] {
-    let mut bytes = [0; 12];
-    bytes[0] = tag;
-    bytes[4..8].copy_from_slice(&high.to_be_bytes());
-    bytes[8..12].copy_from_slice(&low.to_be_bytes());
-    bytes
-}
-
-fn entry_ok(bytes: [u8; 12]) -> bool {
+fn entry_ok(bytes: [u8; ENTRY]) -> bool {
     // As entry 1 of 3, with a pool of 5 bytes.
     let fill = entry(0, 0, 0);
     match check_table(&table(3, 2, 5, &[fill, bytes, fill], 5)) {

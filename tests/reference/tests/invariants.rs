@@ -2,89 +2,15 @@
 
 mod common;
 use common::*;
+use random::{pieced, Random};
 use reference::{check_format, check_table, encode, format, vet, Value};
 
-struct Random(u64);
-
-impl Random {
-    fn below(&mut self, bound: usize) -> usize {
-        self.0 = self
-            .0
-            .wrapping_mul(6364136223846793005)
-            .wrapping_add(1442695040888963407);
-        (self.0 >> 33) as usize % bound
-    }
-}
-
-const PARTS: &[&str] = &[
-    "~",
-    "a",
-    "s",
-    "d",
-    "x",
-    "c",
-    "p",
-    "*",
-    "%",
-    "_",
-    "[",
-    "]",
-    ";",
-    "{",
-    "}",
-    "^",
-    "\n",
-    ":",
-    "@",
-    ",",
-    "v",
-    "#",
-    "'",
-    "0",
-    "1",
-    "5",
-    "-",
-    " ",
-    "q",
-    "~a",
-    "~d",
-    "~s",
-    "~p",
-    "~:p",
-    "~[",
-    "~]",
-    "~;",
-    "~:;",
-    "~{",
-    "~@{",
-    "~}",
-    "~^",
-    "~:[",
-    "~@[",
-    "~*",
-    "~:*",
-    "~@*",
-    "~2{",
-    "~v,va",
-    "~vc",
-    "~#_",
-    "~{~a~}",
-    "~@{~a~^,~}",
-    "~[x~;y~:;z~]",
-];
-
-fn text(random: &mut Random) -> String {
-    (0..random.below(9))
-        .map(|_| PARTS[random.below(PARTS.len())])
-        .collect()
-}
-
-fn value(random: &mut Random, depth: usize) -> Value {
+fn value(random: &Random, depth: usize) -> Value {
     match random.below(if depth == 0 { 4 } else { 6 }) {
-        0 => boolean(random.below(2) == 1),
+        0 => boolean(random.once_in(2)),
         1 => int(random.below(6) as i64 - 1),
         2 => character(random.below(128) as u8),
-        3 => string(["", "ab", "\"q\\"][random.below(3)]),
+        3 => string(random.pick(&["", "ab", "\"q\\"])),
         _ => Value::List(
             (0..random.below(4))
                 .map(|_| value(random, depth - 1))
@@ -95,13 +21,11 @@ fn value(random: &mut Random, depth: usize) -> Value {
 
 #[test]
 fn answers_hold_together() {
-    let mut random = Random(3);
+    let random = Random::new(3);
     let mut seen = [0; 11];
-    for _ in 0..200_000 {
-        let text = text(&mut random);
-        let args: Vec<Value> = (0..random.below(5))
-            .map(|_| value(&mut random, 2))
-            .collect();
+    for _ in 0..400_000 {
+        let text = pieced(&random);
+        let args: Vec<Value> = (0..random.below(5)).map(|_| value(&random, 2)).collect();
         let table = encode(&args);
         assert_eq!(check_table(&table), Ok(()));
         let whole = format(text.as_bytes(), &table, ROOM);
@@ -136,7 +60,7 @@ fn answers_hold_together() {
             }
         }
         // Vet agrees with this table about its kinds.
-        let kinds: Vec<u8> = args.iter().map(tag).collect();
+        let kinds: Vec<u8> = args.iter().map(Value::tag).collect();
         let vetted = vet(text.as_bytes(), &kinds, 4);
         match vetted.code {
             0 => assert!(
@@ -152,31 +76,19 @@ fn answers_hold_together() {
         }
     }
     for code in [0, 3, 4, 5, 6, 7, 8, 9] {
-        assert!(seen[code] > 20, "code {code}: {}", seen[code]);
-    }
-}
-
-fn tag(value: &Value) -> u8 {
-    match value {
-        Value::Bool(_) => 0,
-        Value::Int(_) => 1,
-        Value::Char(_) => 2,
-        Value::Str(_) => 3,
-        Value::List(_) => 4,
+        assert!(seen[code] > 50, "code {code}: {}", seen[code]);
     }
 }
 
 #[test]
 fn any_bytes_are_answered() {
-    let mut random = Random(5);
+    let random = Random::new(5);
     for _ in 0..100_000 {
-        let text: Vec<u8> = (0..random.below(12))
-            .map(|_| random.below(256) as u8)
-            .collect();
-        let mut table = encode(&[value(&mut random, 1), value(&mut random, 1)]);
+        let text: Vec<u8> = (0..random.below(12)).map(|_| random.byte()).collect();
+        let mut table = encode(&[value(&random, 1), value(&random, 1)]);
         for _ in 0..random.below(3) {
             let at = random.below(table.len());
-            table[at] = random.below(256) as u8;
+            table[at] = random.byte();
         }
         table.truncate(table.len() - random.below(2));
         let answer = format(&text, &table, 64);

@@ -2,19 +2,7 @@
 
 mod common;
 use common::*;
-use reference::{encode, format, job_line, vet, Vetted};
-
-fn vetted(text: &str, kinds: &[u8], longest: usize) -> Vetted {
-    vet(text.as_bytes(), kinds, longest)
-}
-
-fn accepted(count: usize) -> Vetted {
-    Vetted {
-        code: 0,
-        position: 0,
-        count,
-    }
-}
+use reference::{encode, format, job_line};
 
 #[test]
 fn padding_on_the_right_and_left() {
@@ -66,9 +54,9 @@ fn the_step_limit() {
 
 #[test]
 fn vet_lines() {
-    assert_eq!(vetted("~5,4a", &[3], 5), accepted(8));
-    assert_eq!(vetted("~20,10a~:p", &[1], 0), accepted(30));
-    assert_eq!(vetted("~d item~:p", &[1], 0), accepted(26));
+    accepts("~5,4a", &[3], 5, 8);
+    accepts("~20,10a~:p", &[1], 0, 30);
+    accepts("~d item~:p", &[1], 0, 26);
 }
 
 #[test]
@@ -84,7 +72,7 @@ fn the_whole_job_case() {
 #[test]
 fn the_tempting_errors() {
     // The longest string is not the worst.
-    assert_ne!(vetted("~5,4a", &[3], 5).count, 5);
+    accepts("~5,4a", &[3], 5, 8);
     // Minpad is not cut to minwidth.
     gives("~3,1,4a", &[string("abc")], "abc    ");
     // `:@` is no absolute jump.

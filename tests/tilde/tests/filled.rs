@@ -2,9 +2,9 @@
 
 mod drawing;
 
-use drawing::{hex, texts, values};
+use drawing::texts;
 use random::Random;
-use reference::{encode, Value};
+use reference::{encode, hex, Value};
 
 const SEED: u64 = 5;
 /// Each worker has a seed of its own, so that the cases do not depend on the machine.
@@ -27,7 +27,7 @@ fn fill_many(random: &Random, cases: usize) {
     let mut filled = 0;
     while filled < cases {
         let (format, arguments) = texts::plain(random);
-        let kinds: Vec<u8> = arguments.iter().map(values::tag).collect();
+        let kinds: Vec<u8> = arguments.iter().map(Value::tag).collect();
         let longest = random.below(LONGEST + 1);
         let (code, _, count) = tilde::vet(&format, &kinds, longest);
         if code == 0 {

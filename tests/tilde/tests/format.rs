@@ -3,9 +3,9 @@
 
 mod drawing;
 
-use drawing::{damage, hex, tables, texts, Tally};
-use random::Random;
-use reference::{Answer, Value};
+use drawing::{damage, tables, texts, Tally};
+use random::{pieced, Random};
+use reference::{hex, Answer, Value};
 
 const SEED: u64 = 3;
 /// So many calls, unless the environment's TILDE_CALLS asks for another number of them.
@@ -168,7 +168,7 @@ fn next_format(random: &Random) -> (Vec<u8>, Vec<Value>) {
     let (mut text, arguments) = texts::format(random, levels, deep);
     match random.below(20) {
         0..=4 => (0..=random.below(3)).for_each(|_| damage::damage(random, &mut text)),
-        5 | 6 => text = damage::pieced(random),
+        5 | 6 => text = pieced(random).into_bytes(),
         7 => text = damage::shapeless(random),
         _ => {}
     }

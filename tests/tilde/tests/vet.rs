@@ -3,9 +3,9 @@
 
 mod drawing;
 
-use drawing::{damage, hex, tables, texts, values, Tally};
-use random::Random;
-use reference::{encode, Value, MOST_ENTRIES, MOST_LONGEST, MOST_POOL};
+use drawing::{damage, tables, texts, values, Tally};
+use random::{pieced, Random};
+use reference::{encode, hex, Value, MOST_ENTRIES, MOST_LONGEST, MOST_POOL};
 
 const SEED: u64 = 4;
 const VETS: usize = 250_000;
@@ -88,7 +88,7 @@ impl std::fmt::Display for Case {
 fn next_case(random: &Random) -> Case {
     let (format, mut arguments) = next_format(random);
     tables::unsettle(random, &mut arguments);
-    let mut kinds: Vec<u8> = arguments.iter().map(values::tag).collect();
+    let mut kinds: Vec<u8> = arguments.iter().map(Value::tag).collect();
     let longest = match random.below(100) {
         0 => random.pick(&[MOST_LONGEST + 1, MOST_LONGEST + 2, 1 << 32, usize::MAX]),
         1 => random.pick(&[MOST_LONGEST, MOST_LONGEST - 1]),
@@ -117,7 +117,7 @@ fn next_format(random: &Random) -> (Vec<u8>, Vec<Value>) {
     };
     match random.below(20) {
         0..=2 => damage::damage(random, &mut format),
-        3 => format = damage::pieced(random),
+        3 => format = pieced(random).into_bytes(),
         4 if random.once_in(4) => format = damage::shapeless(random),
         5 if random.once_in(5) => damage::lengthen(random, &mut format),
         _ => {}

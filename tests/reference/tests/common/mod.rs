@@ -1,7 +1,7 @@
 //! Short names for building cases.
 #![allow(dead_code)]
 
-use reference::{encode, format, Answer, Value};
+use reference::{brute_tables, encode, format, vet, vet_brute, Answer, Value, Vetted};
 
 pub const ROOM: usize = 100_000;
 
@@ -81,4 +81,25 @@ pub fn faulty(text: &str, code: u32, position: usize) {
 /// The text has no fault.
 pub fn sound(text: &str) {
     assert_eq!(reference::check_format(text.as_bytes()), Ok(()), "{text:?}");
+}
+
+/// Vet accepts the format with this count, and so does trying where the tables are not too many.
+pub fn accepts(text: &str, kinds: &[u8], longest: usize, count: usize) {
+    let expected = Vetted {
+        code: 0,
+        position: 0,
+        count,
+    };
+    assert_eq!(
+        vet(text.as_bytes(), kinds, longest),
+        expected,
+        "{text:?} {kinds:?} {longest}"
+    );
+    if brute_tables(kinds, longest) <= 50_000 {
+        assert_eq!(
+            vet_brute(text.as_bytes(), kinds, longest),
+            expected,
+            "{text:?} by trying"
+        );
+    }
 }

@@ -31,7 +31,3 @@ impl std::fmt::Display for Tally {
         Ok(())
     }
 }
-
-pub fn hex(bytes: &[u8]) -> String {
-    bytes.iter().map(|byte| format!("{byte:02x}")).collect()
-}

@@ -2,10 +2,7 @@
 
 use super::values;
 use random::Random;
-use reference::{encode, Value};
-
-const HEADER: usize = 8;
-const ENTRY: usize = 12;
+use reference::{encode, entry, Value, ENTRY, HEADER};
 
 /// Now and then the arguments are fewer, more, or others than a format wants.
 pub fn unsettle(random: &Random, arguments: &mut Vec<Value>) {
@@ -47,13 +44,13 @@ fn loosened(random: &Random, table: &[u8]) -> Vec<u8> {
     loose.extend(((pool + junk) as u32).to_be_bytes());
     loose.extend_from_slice(&table[HEADER..HEADER + ENTRY * n]);
     for own in n..n + more {
-        let mut entry = [1, 0, 0, 0, 0, 0, 0, 0, 0, 0, 0, 7];
-        if random.once_in(2) {
-            // A list of no entries just above its own number.
-            entry = [4, 0, 0, 0, 0, 0, 0, 0, 0, 0, 0, 0];
-            entry[4..8].copy_from_slice(&(own as u32 + 1).to_be_bytes());
-        }
-        loose.extend(entry);
+        // An integer, or a list of no entries just above its own number.
+        let list = random.once_in(2);
+        loose.extend(if list {
+            entry(4, own as u32 + 1, 0)
+        } else {
+            entry(1, 0, 7)
+        });
     }
     loose.extend_from_slice(&table[HEADER + ENTRY * n..]);
     loose.extend((0..junk).map(|_| random.byte()));

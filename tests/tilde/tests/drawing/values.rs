@@ -35,17 +35,7 @@ pub fn like(random: &Random, value: &Value) -> Value {
             Value::List(members.iter().map(|member| like(random, member)).collect())
         }
         _ if random.once_in(2) => value.clone(),
-        _ => of_kind(random, tag(value), 12, 0),
-    }
-}
-
-pub fn tag(value: &Value) -> u8 {
-    match value {
-        Value::Bool(_) => 0,
-        Value::Int(_) => 1,
-        Value::Char(_) => 2,
-        Value::Str(_) => 3,
-        Value::List(_) => 4,
+        _ => of_kind(random, value.tag(), 12, 0),
     }
 }
 
