@@ -1,5 +1,3 @@
-pub mod CheckLaws
-pub mod EndLaws
 pub mod ScanLaws
 pub mod ShortLaws
 pub mod SkipLaws

@@ -1,4 +1,2 @@
-pub mod Checks
-pub mod Ends
 pub mod Scans
 pub mod Shorts

@@ -1,6 +1,5 @@
-// The reader of format texts: one directive, the first fault of a whole text, the ends of clauses and blocks.
+// The reader of format texts: one directive, read into its parts or, if it is short, into a few words.
 pub mod codes;
 pub mod directive;
 pub mod places;
 pub mod short;
-pub mod text;

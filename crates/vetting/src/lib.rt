@@ -9,7 +9,7 @@ pub mod turns;
 use asking::may_ask;
 use counting::count_items;
 use plainness::check_plain;
-use reader::text::check_text;
+use checking::text::check_text;
 use rules::Verdict;
 use vet::Vetted;
 ghost use mathlib.Core.Path.{_≡_};

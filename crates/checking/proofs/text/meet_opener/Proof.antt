@@ -1,0 +1,20 @@
+-- `meet_opener` meets its contract: room first, then what is written. Assumes nothing.
+use borrow.Author.Needs.{needs}
+use Rattle.checking.proofs.text.meet_opener.Statement.{statement}
+use Rattle.checking.proofs.text.meet_opener.Tie as tie
+
+is-well-written-requires : tie.Need-is-well-written-requires
+is-well-written-requires c κs = search needs
+
+unless-requires : tie.Need-unless-requires
+unless-requires c κs = search needs
+
+unless-requires-2 : tie.Need-unless-requires-2
+unless-requires-2 c κs = search needs
+
+returns : tie.Need-returns
+returns c = cc
+
+pub meet-opener-spec : {M : Type 1} → statement M
+meet-opener-spec =
+    tie.close (tie.spec is-well-written-requires unless-requires unless-requires-2 returns)

@@ -1,0 +1,67 @@
+-- Where the clauses and blocks of a text end, in terms of the sequences that are open at a place.
+-- Assumes nothing: these are definitions.
+use Prim.Native.Nat.{ℕ, _+_, _≤_}
+use mathlib.Core.Path.{_≡_}
+use mathlib.Core.Bool.{Bool}
+use mathlib.Core.List.{List}
+use lib.ListN.{length}
+use Rattle.rules.specs.Text.{end, none, innermost, outer, asClauses, levelsAt}
+use Rattle.rules.specs.declared.Code.{Code}
+use Rattle.rules.specs.declared.Code.the-variants.{Writes, Jump, Escape, Conditional, Separator, EndConditional, Iteration, EndIteration, Unknown}
+use Rattle.rules.specs.declared.Item.{Item}
+use Rattle.rules.specs.declared.Item.the-variants.{End, Literal, Written, BadNumber, Unfinished}
+use Rattle.checking.specs.declared.text.Shape.{Shape}
+use Rattle.checking.specs.declared.text.Shape.the-variants.{Stops, Passes, Begins, Splits, Finishes}
+use Rattle.checking.specs.declared.text.ClauseEnd.{ClauseEnd}
+use Rattle.checking.specs.declared.text.ClauseEnd.the-variants.{Last, Another}
+
+abbrev pub shapeOfCode : Code → Bool → ℕ → Shape
+shapeOfCode (Writes f) colon next = Passes next
+shapeOfCode Jump colon next = Passes next
+shapeOfCode Escape colon next = Passes next
+shapeOfCode Conditional colon next = Begins next
+shapeOfCode Separator colon next = Splits colon next
+shapeOfCode EndConditional colon next = Finishes next
+shapeOfCode Iteration colon next = Begins next
+shapeOfCode EndIteration colon next = Finishes next
+shapeOfCode Unknown colon next = Stops
+
+abbrev pub shapeOf : ℕ → Item → Shape
+shapeOf p End = Stops
+shapeOf p (Literal b) = Passes (p + 1)
+shapeOf p (Written d) = shapeOfCode (d .code) (d .colon) (d .next)
+shapeOf p BadNumber = Stops
+shapeOf p Unfinished = Stops
+
+-- at r the text goes on after the block that start stands in
+pub record AfterBlock (t : List ℕ) (start r : ℕ) : Type 0 where
+  pub is : levelsAt t r ≡ outer (levelsAt t start)
+  pub least : start ≤ r
+  pub most : r ≤ length t
+
+-- at q the clause ends that start stands in
+pub record ClauseAt (t : List ℕ) (start q : ℕ) : Type 0 where
+  pub rest : innermost (levelsAt t q) .rest ≡ end
+  pub more : innermost (levelsAt t q) .more ≡ innermost (levelsAt t start) .more
+  pub outside : outer (levelsAt t q) ≡ outer (levelsAt t start)
+  pub least : start ≤ q
+
+-- the clause that start stands in is the last, it ends at q, and the text goes on after its block at next
+pub record LastClause (t : List ℕ) (start q next : ℕ) : Type 0 where
+  pub here : ClauseAt t start q
+  pub more : innermost (levelsAt t start) .more ≡ none
+  pub on : levelsAt t next ≡ outer (levelsAt t start)
+  pub least : q ≤ next
+  pub most : next ≤ length t
+
+-- the clause that start stands in ends at q, and another begins at next, after a `~:;` or not
+pub record AnotherClause (t : List ℕ) (start q : ℕ) (colon : Bool) (next : ℕ) : Type 0 where
+  pub here : ClauseAt t start q
+  pub more : innermost (levelsAt t start) .more ≡ asClauses colon (levelsAt t next)
+  pub on : outer (levelsAt t next) ≡ outer (levelsAt t start)
+  pub least : q ≤ next
+  pub most : next ≤ length t
+
+abbrev pub EndsClause : List ℕ → ℕ → ClauseEnd → Type 0
+EndsClause t start (Last q next) = LastClause t start q next
+EndsClause t start (Another q colon next) = AnotherClause t start q colon next
