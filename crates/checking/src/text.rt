@@ -1,9 +1,9 @@
 // A whole text: its first fault, and where its clauses and blocks end.
+use fitting::places::both;
+use fitting::places::either;
+use fitting::places::is_well_written;
+use fitting::places::not;
 use reader::directive::item_at;
-use reader::places::both;
-use reader::places::either;
-use reader::places::is_well_written;
-use reader::places::not;
 use reader::short::skip_short;
 use rules::Code;
 use rules::Directive;

@@ -1,4 +1,3 @@
 pub mod ScanLaws
 pub mod ShortLaws
 pub mod SkipLaws
-pub mod Tests

@@ -1,5 +1,4 @@
 // The reader of format texts: one directive, read into its parts or, if it is short, into a few words.
 pub mod codes;
 pub mod directive;
-pub mod places;
 pub mod short;

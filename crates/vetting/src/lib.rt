@@ -7,9 +7,9 @@ pub mod settings;
 pub mod turns;
 
 use asking::may_ask;
+use checking::text::check_text;
 use counting::count_items;
 use plainness::check_plain;
-use checking::text::check_text;
 use rules::Verdict;
 use vet::Vetted;
 ghost use mathlib.Core.Path.{_≡_};

@@ -1,6 +1,6 @@
 // Which formats are plain.
+use fitting::places::both;
 use reader::directive::item_at;
-use reader::places::both;
 use rules::Code;
 use rules::Directive;
 use rules::Item;

@@ -1,6 +1,6 @@
 -- `may_separate` meets its contract: the same tests. Assumes nothing.
 use borrow.Author.Needs.{needs}
-use Rattle.reader.proofs.Tests.{either-cond}
+use Rattle.fitting.proofs.Tests.{either-cond}
 use Rattle.checking.proofs.text.may_separate.Statement.{statement}
 use Rattle.checking.proofs.text.may_separate.Tie as tie
 

@@ -1,8 +1,8 @@
 -- `fits_none` meets its contract: no place is met by no parameter. Assumes nothing.
 use mathlib.Core.Path.{sym}
-use Rattle.reader.proofs.Tests.{both-true}
-use Rattle.reader.proofs.places.fits_none.Statement.{statement}
-use Rattle.reader.proofs.places.fits_none.Tie as tie
+use Rattle.fitting.proofs.Tests.{both-true}
+use Rattle.fitting.proofs.places.fits_none.Statement.{statement}
+use Rattle.fitting.proofs.places.fits_none.Tie as tie
 
 returns : tie.Need-returns
 returns c = sym (both-true _)

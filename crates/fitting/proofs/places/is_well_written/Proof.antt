@@ -1,8 +1,8 @@
 -- `is_well_written` meets its contract, row by row of the table. Assumes nothing.
 use borrow.Author.Needs.{needs}
 use Rattle.rules.specs.Directive.{wellWritten}
-use Rattle.reader.proofs.places.is_well_written.Statement.{statement}
-use Rattle.reader.proofs.places.is_well_written.Tie as tie
+use Rattle.fitting.proofs.places.is_well_written.Statement.{statement}
+use Rattle.fitting.proofs.places.is_well_written.Tie as tie
 
 enum-known-code : tie.Need-enum-known-code
 enum-known-code c = search needs

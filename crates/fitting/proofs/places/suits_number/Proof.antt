@@ -1,7 +1,7 @@
 -- `suits_number` meets its contract, by what the parameter is. Assumes nothing.
 use borrow.Author.Needs.{needs}
-use Rattle.reader.proofs.places.suits_number.Statement.{statement}
-use Rattle.reader.proofs.places.suits_number.Tie as tie
+use Rattle.fitting.proofs.places.suits_number.Statement.{statement}
+use Rattle.fitting.proofs.places.suits_number.Tie as tie
 
 enum-told : tie.Need-enum-told
 enum-told c = search needs

@@ -1,8 +1,8 @@
 -- `fits_number` meets its contract: the count, and the one place. Assumes nothing.
 use borrow.Author.Needs.{needs}
-use Rattle.reader.proofs.Tests.{both-true}
-use Rattle.reader.proofs.places.fits_number.Statement.{statement}
-use Rattle.reader.proofs.places.fits_number.Tie as tie
+use Rattle.fitting.proofs.Tests.{both-true}
+use Rattle.fitting.proofs.places.fits_number.Statement.{statement}
+use Rattle.fitting.proofs.places.fits_number.Tie as tie
 
 suits-number-requires : tie.Need-suits-number-requires
 suits-number-requires c κs = search needs

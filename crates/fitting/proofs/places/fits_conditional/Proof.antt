@@ -1,7 +1,7 @@
 -- `fits_conditional` meets its contract, by whether there is a modifier. Assumes nothing.
 use borrow.Author.Needs.{needs}
-use Rattle.reader.proofs.places.fits_conditional.Statement.{statement}
-use Rattle.reader.proofs.places.fits_conditional.Tie as tie
+use Rattle.fitting.proofs.places.fits_conditional.Statement.{statement}
+use Rattle.fitting.proofs.places.fits_conditional.Tie as tie
 
 fits-none-requires : tie.Need-fits-none-requires
 fits-none-requires c κs = search needs

@@ -1,7 +1,7 @@
 -- `is_form_well_written` meets its contract, row by row of the table. Assumes nothing.
 use borrow.Author.Needs.{needs}
-use Rattle.reader.proofs.places.is_form_well_written.Statement.{statement}
-use Rattle.reader.proofs.places.is_form_well_written.Tie as tie
+use Rattle.fitting.proofs.places.is_form_well_written.Statement.{statement}
+use Rattle.fitting.proofs.places.is_form_well_written.Tie as tie
 
 enum-told : tie.Need-enum-told
 enum-told c = search needs
