@@ -200,12 +200,8 @@ fn check_from(text: &[u8], start: usize, room: usize, around: Around) -> Checked
         p = skip_short(text, p);
         let i = item_at(text, p);
         match i {
-            Item::End => {
-                return Checked::Ended(end_inside(around));
-            }
-            Item::Literal(_) => {
-                p += 1;
-            }
+            Item::End => return Checked::Ended(end_inside(around)),
+            Item::Literal(_) => p += 1,
             Item::BadNumber => {
                 return Checked::Ended(Verdict::Refused {
                     code: 5,
@@ -224,17 +220,13 @@ fn check_from(text: &[u8], start: usize, room: usize, around: Around) -> Checked
                     Met::Wrong { code, position } => {
                         return Checked::Ended(Verdict::Refused { code, position });
                     }
-                    Met::Stays => {
-                        p = d.next;
-                    }
+                    Met::Stays => p = d.next,
                     Met::Parts => {
                         separators += 1;
                         fallback = d.colon;
                         p = d.next;
                     }
-                    Met::Closes => {
-                        return Checked::Closed(d.next);
-                    }
+                    Met::Closes => return Checked::Closed(d.next),
                     Met::Opens => {
                         let r = check_from(
                             text,
@@ -243,12 +235,8 @@ fn check_from(text: &[u8], start: usize, room: usize, around: Around) -> Checked
                             Around::Inside { at: p, opener: d },
                         );
                         match r {
-                            Checked::Ended(v) => {
-                                return Checked::Ended(v);
-                            }
-                            Checked::Closed(q) => {
-                                p = q;
-                            }
+                            Checked::Ended(v) => return Checked::Ended(v),
+                            Checked::Closed(q) => p = q,
                         }
                     }
                 }
@@ -324,15 +312,9 @@ pub fn after_block(text: &[u8], start: usize) -> usize
     loop {
         let s = shape_at(text, p);
         match s {
-            Shape::Stops => {
-                return p;
-            }
-            Shape::Passes(q) => {
-                p = q;
-            }
-            Shape::Splits { colon: _, next } => {
-                p = next;
-            }
+            Shape::Stops => return p,
+            Shape::Passes(q) => p = q,
+            Shape::Splits { colon: _, next } => p = next,
             Shape::Begins(q) => {
                 depth += 1;
                 p = q;
@@ -366,15 +348,11 @@ pub fn next_clause(text: &[u8], start: usize) -> ClauseEnd
             Shape::Stops => {
                 return ClauseEnd::Last { at: p, next: p };
             }
-            Shape::Passes(q) => {
-                p = q;
-            }
+            Shape::Passes(q) => p = q,
             Shape::Splits { colon, next } => {
                 return ClauseEnd::Another { at: p, colon, next };
             }
-            Shape::Begins(q) => {
-                p = after_block(text, q);
-            }
+            Shape::Begins(q) => p = after_block(text, q),
             Shape::Finishes(q) => {
                 return ClauseEnd::Last { at: p, next: q };
             }

@@ -195,9 +195,7 @@ pub fn skip_short(text: &[u8], start: usize) -> usize
         if text[p] == 126 {
             let s = read_short(text, p);
             match s {
-                Short::Other => {
-                    return p;
-                }
+                Short::Other => return p,
                 Short::Is {
                     kind: _,
                     detail: _,
