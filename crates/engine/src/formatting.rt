@@ -1,7 +1,7 @@
 // A whole call of format: the table is checked, then the text, and then the text is run.
 use crate::runners::run_sequence;
-use crate::state::Ran;
-use crate::state::Stop;
+use acting::state::Ran;
+use acting::state::Stop;
 use reader::text::check_text;
 use rules::ArgumentPosition;
 use rules::EntryIndex;
