@@ -14,12 +14,13 @@ use Rattle.rules.specs.Answer.{fit}
 use Rattle.rules.specs.declared.Item.{Item}
 use Rattle.rules.specs.declared.Item.the-variants.{Literal}
 use Rattle.rules.proofs.RunLaws.{begin-yes, begin-no, choose-yes, choose-no, run-acts, run-escapes, nested-yes, nested-no}
-use Rattle.engine.specs.declared.state.Stop.{Stop}
-use Rattle.engine.specs.declared.state.Stop.the-variants.{Ended, Left, Refused}
-use Rattle.engine.specs.declared.state.Ran.{Ran}
-use Rattle.engine.specs.Ran.{refusedRan, onward, Same, Does, hand, Acts, ActsAt, EscapesAt, EndsAt, After, restAt, leaving, RunsTo, Runs, Steps, Blocks}
-use Rattle.engine.proofs.Joining.{stays, here, said, from}
-use Rattle.engine.proofs.Buffer.{Put, put-byte, put-fits, put-full}
+use Rattle.acting.specs.declared.state.Stop.{Stop}
+use Rattle.acting.specs.declared.state.Stop.the-variants.{Ended, Left, Refused}
+use Rattle.acting.specs.declared.state.Ran.{Ran}
+use Rattle.acting.specs.Ran.{refusedRan, onward, Same, Does, hand, Acts}
+use Rattle.acting.proofs.Joining.{stays, here, said, from}
+use Rattle.acting.proofs.Buffer.{Put, put-byte, put-fits, put-full}
+use Rattle.engine.specs.Runs.{ActsAt, EscapesAt, EndsAt, After, restAt, leaving, RunsTo, Runs, Steps, Blocks}
 
 pub no-end : {o : Stop} {code x : ℕ} → o ≡ Refused code x → o ≡ Ended → ⊥
 no-end q r = let z : _≡_ {A = ℕ} 0 1 = cc in omega arith

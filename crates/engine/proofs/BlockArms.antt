@@ -13,11 +13,12 @@ use Rattle.rules.specs.Run.{Flow, refused, begin, nested, Frame, iteration, con
 use Rattle.rules.specs.declared.Directive.{Directive}
 use Rattle.rules.specs.declared.Setting.{Setting}
 use Rattle.rules.proofs.RunLaws.{begin-yes, begin-no, run-clause-end, run-passes-over, run-pass, run-chooses, run-iterates}
-use Rattle.engine.specs.declared.state.Stop.{Stop}
-use Rattle.engine.specs.declared.state.Stop.the-variants.{Ended, Left, Refused}
-use Rattle.engine.specs.declared.state.Ran.{Ran}
-use Rattle.engine.specs.Ran.{refusedRan, onward, Same, Does, hand, ChoosesAt, IteratesAt, After, restAt, leaving, Runs, Blocks, Passes, choosing, iterating}
-use Rattle.engine.proofs.Joining.{stays, here, joined, said, from, then-on, renamed, onward-ended, onward-left, onward-refused}
+use Rattle.acting.specs.declared.state.Stop.{Stop}
+use Rattle.acting.specs.declared.state.Stop.the-variants.{Ended, Left, Refused}
+use Rattle.acting.specs.declared.state.Ran.{Ran}
+use Rattle.acting.specs.Ran.{refusedRan, onward, Same, Does, hand}
+use Rattle.acting.proofs.Joining.{stays, here, joined, said, from, then-on, renamed, onward-ended, onward-left, onward-refused}
+use Rattle.engine.specs.Runs.{ChoosesAt, IteratesAt, After, restAt, leaving, Runs, Blocks, Passes, choosing, iterating}
 use Rattle.engine.proofs.Arms.{no-end, no-end-left}
 
 -- what follows a block, by the place after it

@@ -19,7 +19,7 @@ use Rattle.rules.specs.declared.Argument.the-variants.{Integer}
 use Rattle.rules.specs.declared.ArgumentPosition.{ArgumentPosition}
 use Rattle.rules.proofs.RunLaws.{choose-yes, choose-no}
 use Rattle.rules.proofs.Tests.{not-both-ways}
-use Rattle.reader.specs.Ends.{LastClause, AnotherClause}
+use Rattle.checking.specs.Ends.{LastClause, AnotherClause}
 use Rattle.working.specs.Settling.{handAt}
 use Rattle.working.specs.declared.Hand.{Hand}
 use Rattle.engine.specs.declared.clauses.Found.{Found}

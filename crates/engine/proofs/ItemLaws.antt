@@ -22,10 +22,11 @@ use Rattle.rules.specs.Run.{itemActs}
 use Rattle.rules.proofs.Code as code-declared
 use Rattle.rules.proofs.Reading.{item-literal}
 use Rattle.rules.proofs.TextLaws.{next-inside, stands}
-use Rattle.engine.specs.declared.state.Ran.{Ran}
-use Rattle.engine.specs.declared.state.Spot.{Spot}
-use Rattle.engine.specs.Acting.{Performed}
-use Rattle.engine.specs.Ran.{refusedRan, endedRan, hand, Acts, ActsAt, Steps}
+use Rattle.acting.specs.declared.state.Ran.{Ran}
+use Rattle.acting.specs.declared.state.Spot.{Spot}
+use Rattle.acting.specs.Acting.{Performed}
+use Rattle.acting.specs.Ran.{refusedRan, endedRan, hand, Acts}
+use Rattle.engine.specs.Runs.{ActsAt, Steps}
 use Rattle.engine.specs.Running.{ActsAlone, PutsLiterals, leftRan, escaped}
 use Rattle.engine.proofs.Arms.{literal-acts, literal-full, steps-acts-none, steps-acts, steps-escape-none, steps-escape-left, steps-escape-on}
 use Rattle.engine.proofs.Strides.{strides, strides-none, strides-on}

@@ -1,13 +1,9 @@
-pub mod ActLaws
 pub mod Arms
 pub mod Bases
 pub mod BlockArms
-pub mod Buffer
 pub mod ClauseLaws
-pub mod Joining
 pub mod Places
 pub mod ShortRuns
-pub mod Sources
 pub mod Strides
 pub mod ItemLaws
 pub mod RunnerLaws

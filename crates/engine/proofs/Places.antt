@@ -11,7 +11,7 @@ use Rattle.rules.specs.declared.Directive.{Directive}
 use Rattle.rules.specs.declared.Form.{Form}
 use Rattle.rules.specs.declared.Item.the-variants.{End, Literal, Written, BadNumber, Unfinished}
 use Rattle.rules.proofs.TextLaws.{levels-end, levels-literal, levels-bad, levels-unfinished, levels-writes, levels-jump, levels-escape, levels-iteration, levels-conditional, levels-separator, levels-end-iteration, levels-end-conditional, levels-unknown}
-use Rattle.engine.specs.Ran.{ActsAt, EscapesAt, IteratesAt, ChoosesAt, restAt}
+use Rattle.engine.specs.Runs.{ActsAt, EscapesAt, IteratesAt, ChoosesAt, restAt}
 
 module _ (t : List ℕ) (p : ℕ) where
   pub literal-at : (b : ℕ) → itemAt t p ≡ Literal b → ActsAt (levelsAt t) p p (Literal b) (p + 1)

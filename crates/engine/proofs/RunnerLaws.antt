@@ -23,12 +23,13 @@ use Rattle.rules.specs.declared.Setting.{Setting}
 use Rattle.rules.proofs.Item as item-declared
 use Rattle.rules.proofs.RunLaws.{choose-yes, choose-no}
 use Rattle.rules.proofs.TextLaws.{next-inside, stands}
-use Rattle.reader.specs.Ends.{AfterBlock}
-use Rattle.engine.specs.declared.state.Ran.{Ran}
-use Rattle.engine.specs.declared.state.Stop.{Stop}
-use Rattle.engine.specs.declared.state.Stop.the-variants.{Ended, Left, Refused}
-use Rattle.engine.specs.Acting.{CodeRight}
-use Rattle.engine.specs.Ran.{refusedRan, endedRan, hand, EndsAt, After, restAt, Runs, Steps, Strides, Blocks, Passes, choosing, iterating, overListed}
+use Rattle.checking.specs.Ends.{AfterBlock}
+use Rattle.acting.specs.declared.state.Ran.{Ran}
+use Rattle.acting.specs.declared.state.Stop.{Stop}
+use Rattle.acting.specs.declared.state.Stop.the-variants.{Ended, Left, Refused}
+use Rattle.acting.specs.Acting.{CodeRight}
+use Rattle.acting.specs.Ran.{refusedRan, endedRan, hand}
+use Rattle.engine.specs.Runs.{EndsAt, After, restAt, Runs, Steps, Strides, Blocks, Passes, choosing, iterating, overListed}
 use Rattle.engine.specs.Running.{isEnded, endsSequence, endsAt, opensBlock, iterates, ActsAlone, isListValue}
 use Rattle.engine.proofs.Arms.{runs-end, steps-deep, steps-block-none, steps-block}
 use Rattle.engine.proofs.BlockArms.{chooses-run, iterates-run, blocks-refused, passes-none, passes-on}

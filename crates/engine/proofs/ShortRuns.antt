@@ -20,14 +20,15 @@ use Rattle.reader.specs.Shorts.{shortParameters, shortDirective, NumberIn, Char
 use Rattle.reader.proofs.ShortLaws.{short-well}
 use Rattle.working.specs.Settling.{InPlace, InRange}
 use Rattle.pieces.specs.Given.{Worked}
-use Rattle.engine.specs.declared.state.Ran.{Ran}
-use Rattle.engine.specs.declared.state.Spot.{Spot}
-use Rattle.engine.specs.Acting.{FormRight, Performed}
-use Rattle.engine.specs.Ran.{refusedRan, hand, Steps}
-use Rattle.engine.proofs.ActLaws.{performed-as, acts-writes, settings-well, write-anywhere}
+use Rattle.acting.specs.declared.state.Ran.{Ran}
+use Rattle.acting.specs.declared.state.Spot.{Spot}
+use Rattle.acting.specs.Acting.{FormRight, Performed}
+use Rattle.acting.specs.Ran.{refusedRan, hand}
+use Rattle.acting.proofs.ActLaws.{performed-as, acts-writes, settings-well, write-anywhere}
+use Rattle.acting.proofs.Sources.{worked-in}
+use Rattle.engine.specs.Runs.{Steps}
 use Rattle.engine.proofs.ItemLaws.{alone-none, alone-acts}
 use Rattle.engine.proofs.Places.{writes-at}
-use Rattle.engine.proofs.Sources.{worked-in}
 
 -- a number x and a character y as settings
 abbrev pub shortSettings : Setting → Setting → Settings

@@ -6,11 +6,12 @@ use native.Mathlib.Omega.{arith}
 use lib.ListN.{length}
 use Rattle.rules.specs.Table.{View}
 use Rattle.rules.specs.Text.{Level}
-use Rattle.engine.specs.declared.state.Stop.the-variants.{Ended, Left, Refused}
-use Rattle.engine.specs.declared.state.Ran.{Ran}
-use Rattle.engine.specs.Ran.{endedRan, hand, Runs, Steps, Strides}
+use Rattle.acting.specs.declared.state.Stop.the-variants.{Ended, Left, Refused}
+use Rattle.acting.specs.declared.state.Ran.{Ran}
+use Rattle.acting.specs.Ran.{endedRan, hand}
+use Rattle.acting.proofs.Joining.{stays, here, joined, said, then-on, renamed, onward-left, onward-refused}
+use Rattle.engine.specs.Runs.{Runs, Steps, Strides}
 use Rattle.engine.proofs.Arms.{no-end, no-end-left}
-use Rattle.engine.proofs.Joining.{stays, here, joined, said, then-on, renamed, onward-left, onward-refused}
 
 module _ (s : ℕ → List Level) (n : ℕ) (v : View) (first count level p i left at : ℕ) (b : List ℕ) where
   -- one item

@@ -14,11 +14,12 @@ use Rattle.rules.specs.declared.Verdict.{Verdict}
 use Rattle.rules.specs.declared.Verdict.the-variants.{Accepted, Refused}
 use Rattle.rules.proofs.RunLaws.{run-done}
 use Rattle.rules.proofs.ViewLaws.{view-arguments}
+use Rattle.acting.specs.declared.state.Ran.{Ran}
+use Rattle.acting.specs.declared.state.Stop.{Stop}
+use Rattle.acting.specs.declared.state.Stop.the-variants.{Ended, Left, Refused as RefusedAt}
+use Rattle.acting.specs.Ran.{hand, onward}
 use Rattle.engine.specs.declared.formatting.Outcome.{Outcome}
-use Rattle.engine.specs.declared.state.Ran.{Ran}
-use Rattle.engine.specs.declared.state.Stop.{Stop}
-use Rattle.engine.specs.declared.state.Stop.the-variants.{Ended, Left, Refused as RefusedAt}
-use Rattle.engine.specs.Ran.{hand, leaving, restAt, onward, Runs}
+use Rattle.engine.specs.Runs.{leaving, restAt, Runs}
 use Rattle.engine.specs.Whole.{codeOf, positionOf, outcomeOf}
 
 -- the answer of a call whose table and text are accepted

@@ -1,5 +1,4 @@
-pub mod Acting
 pub mod Clauses
-pub mod Ran
+pub mod Runs
 pub mod Running
 pub mod Whole

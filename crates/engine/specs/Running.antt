@@ -13,14 +13,15 @@ use Rattle.rules.specs.declared.Code.the-variants.{Writes, Jump, Escape, Condit
 use Rattle.rules.specs.declared.Item.{Item}
 use Rattle.rules.specs.declared.Item.the-variants.{End, Literal, Written, BadNumber, Unfinished}
 use Rattle.working.specs.declared.Hand.{Hand}
+use Rattle.acting.specs.declared.state.Ran.{Ran}
+use Rattle.acting.specs.declared.state.Spot.{Spot}
+use Rattle.acting.specs.declared.state.Stop.{Stop}
+use Rattle.acting.specs.declared.state.Stop.the-variants.{Ended, Left, Refused}
+use Rattle.acting.specs.Acting.{FormRight}
+use Rattle.acting.specs.Ran.{endedRan, hand}
 use Rattle.engine.specs.declared.items.Listed.{Listed}
 use Rattle.engine.specs.declared.items.Listed.the-variants.{Is, Not}
-use Rattle.engine.specs.declared.state.Ran.{Ran}
-use Rattle.engine.specs.declared.state.Spot.{Spot}
-use Rattle.engine.specs.declared.state.Stop.{Stop}
-use Rattle.engine.specs.declared.state.Stop.the-variants.{Ended, Left, Refused}
-use Rattle.engine.specs.Acting.{FormRight}
-use Rattle.engine.specs.Ran.{endedRan, hand, Strides}
+use Rattle.engine.specs.Runs.{Strides}
 
 -- whether a code, or an item, ends the sequence in which it stands
 abbrev pub endsSequence : Code → Bool

@@ -1,10 +1,10 @@
 -- The outcome of a whole call, by how its run stopped. Assumes nothing: these are definitions.
 use Prim.Native.Nat.{ℕ, _-_}
 use Rattle.rules.specs.Answer.{limit}
+use Rattle.acting.specs.declared.state.Ran.{Ran}
+use Rattle.acting.specs.declared.state.Stop.{Stop}
+use Rattle.acting.specs.declared.state.Stop.the-variants.{Ended, Left, Refused}
 use Rattle.engine.specs.declared.formatting.Outcome.{Outcome}
-use Rattle.engine.specs.declared.state.Ran.{Ran}
-use Rattle.engine.specs.declared.state.Stop.{Stop}
-use Rattle.engine.specs.declared.state.Stop.the-variants.{Ended, Left, Refused}
 
 abbrev pub codeOf : Stop → ℕ
 codeOf Ended = 0

@@ -1,10 +1,10 @@
 // Which clause a conditional runs.
 use numbers::is_negative;
 use numbers::magnitude;
-use reader::places::both;
-use reader::places::not;
-use reader::text::ClauseEnd;
-use reader::text::next_clause;
+use fitting::places::both;
+use fitting::places::not;
+use checking::text::ClauseEnd;
+use checking::text::next_clause;
 use rules::Argument;
 use rules::ArgumentPosition;
 use rules::Directive;

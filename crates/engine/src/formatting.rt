@@ -1,8 +1,8 @@
 // A whole call of format: the table is checked, then the text, and then the text is run.
 use crate::runners::run_sequence;
-use crate::state::Ran;
-use crate::state::Stop;
-use reader::text::check_text;
+use acting::state::Ran;
+use acting::state::Stop;
+use checking::text::check_text;
 use rules::ArgumentPosition;
 use rules::EntryIndex;
 use rules::Verdict;

@@ -1,16 +1,16 @@
 // The parts of a run that open no block: a literal byte, a directive that acts alone, the ends of sequences and passes.
-use crate::acting::act_form;
-use crate::acting::act_jump;
-use crate::state::Ran;
-use crate::state::Spot;
-use crate::state::Stop;
-use crate::state::go_on;
-use crate::state::refuse;
+use acting::acting::act_form;
+use acting::acting::act_jump;
+use acting::state::Ran;
+use acting::state::Spot;
+use acting::state::Stop;
+use acting::state::go_on;
+use acting::state::refuse;
 use reader::directive::item_at;
-use reader::places::is_well_written;
-use reader::text::ClauseEnd;
-use reader::text::after_block;
-use reader::text::next_clause;
+use fitting::places::is_well_written;
+use checking::text::ClauseEnd;
+use checking::text::after_block;
+use checking::text::next_clause;
 use rules::Argument;
 use rules::ArgumentPosition;
 use rules::Code;
@@ -35,8 +35,8 @@ ghost use Rattle.rules.specs.Working.{noneRemain};
 ghost use Rattle.rules.specs.Run.{Flow, Frame, conditional, usedUp, oneLess, overList, run};
 ghost use Rattle.rules.specs.declared.Item.the-variants.{Literal, Written};
 ghost use Rattle.working.specs.Settling.{InHand, handAt};
-ghost use Rattle.reader.specs.Ends.{AfterBlock};
-ghost use Rattle.engine.specs.Ran.{Runs, Steps, Blocks, Passes, choosing, iterating, restAt};
+ghost use Rattle.checking.specs.Ends.{AfterBlock};
+ghost use Rattle.engine.specs.Runs.{Runs, Steps, Blocks, Passes, choosing, iterating, restAt};
 ghost use Rattle.engine.specs.Running.{isEnded, endsSequence, endsAt, opensBlock, iterates, escaped, ActsAlone, ListsTo, PutsLiterals};
 
 // Whether a code ends the sequence in which it stands.

@@ -14,13 +14,13 @@ use crate::items::one_less;
 use crate::items::opens_block;
 use crate::items::put_literal;
 use crate::short::run_short;
-use crate::state::Ran;
-use crate::state::Spot;
-use crate::state::Stop;
-use crate::state::refuse;
+use acting::state::Ran;
+use acting::state::Spot;
+use acting::state::Stop;
+use acting::state::refuse;
 use reader::directive::item_at;
-use reader::places::is_well_written;
-use reader::text::after_block;
+use fitting::places::is_well_written;
+use checking::text::after_block;
 use rules::ArgumentPosition;
 use rules::Directive;
 use rules::Item;
@@ -38,7 +38,7 @@ ghost use Rattle.rules.specs.Table.{viewOf};
 ghost use Rattle.rules.specs.Text.{levelsAt};
 ghost use Rattle.rules.specs.declared.Item.the-variants.{Written};
 ghost use Rattle.working.specs.Settling.{InHand, handAt};
-ghost use Rattle.engine.specs.Ran.{Runs, Steps, Blocks, Passes, RunsClause, EndsBlock, choosing, iterating, overListed};
+ghost use Rattle.engine.specs.Runs.{Runs, Steps, Blocks, Passes, RunsClause, EndsBlock, choosing, iterating, overListed};
 ghost use Rattle.engine.specs.Running.{endsAt, opensBlock};
 
 // The sequence that is read at start, with level levels left for blocks.

@@ -1,10 +1,10 @@
 // Literal bytes and short directives, of which most texts are made, done one after another without an item for each.
-use crate::acting::write_form;
 use crate::items::put_literals;
-use crate::state::Ran;
-use crate::state::Spot;
-use crate::state::Stop;
-use crate::state::refuse;
+use acting::acting::write_form;
+use acting::state::Ran;
+use acting::state::Spot;
+use acting::state::Stop;
+use acting::state::refuse;
 use reader::short::NO_BYTE;
 use reader::short::NO_NUMBER;
 use reader::short::Short;
@@ -22,8 +22,8 @@ ghost use Rattle.rules.specs.Table.{viewOf};
 ghost use Rattle.rules.specs.Text.{levelsAt};
 ghost use Rattle.reader.specs.Shorts.{settingOf, shortForm, ShortIn, IsShort};
 ghost use Rattle.working.specs.Settling.{InHand, handAt};
-ghost use Rattle.engine.specs.Acting.{FormRight};
-ghost use Rattle.engine.specs.Ran.{Steps, Strides};
+ghost use Rattle.acting.specs.Acting.{FormRight};
+ghost use Rattle.engine.specs.Runs.{Steps, Strides};
 
 // A parameter as its setting, where none stands for one that is not written.
 fn setting_of(n: usize, none: usize) -> Setting

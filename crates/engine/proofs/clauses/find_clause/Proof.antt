@@ -2,7 +2,7 @@
 -- measure is the number of clauses that follow. Assumes nothing.
 use Rattle.engine.proofs.ClauseLaws.{clausesIn, Seeking, seek-start, seek-less, seek-here, seek-fallback, seek-nothing, seek-on}
 use Rattle.engine.specs.Clauses.{wantedOf}
-use Rattle.reader.specs.Ends.{EndsClause}
+use Rattle.checking.specs.Ends.{EndsClause}
 use Rattle.rules.specs.Text.{innermost, asClauses, levelsAt}
 use borrow.Author.Needs.{needs}
 use mathlib.Core.Bool.{false}

@@ -1,7 +1,8 @@
 -- The run of a whole text is the answer of the call. Assumes nothing.
 use Rattle.engine.proofs.WholeLaws.{whole-told}
 use Rattle.engine.proofs.WholeLaws.{whole}
-use Rattle.engine.specs.Ran.{hand, Runs}
+use Rattle.acting.specs.Ran.{hand}
+use Rattle.engine.specs.Runs.{Runs}
 use Rattle.rules.proofs.TableLaws.{accepted-sound}
 use Rattle.rules.specs.Text.{levelsAt}
 use Rattle.rules.specs.Table.{viewOf, argumentCount}

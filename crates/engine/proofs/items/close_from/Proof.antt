@@ -1,6 +1,6 @@
 -- The close of the block that opens here. Assumes nothing.
-use Rattle.reader.specs.declared.text.ClauseEnd.{ClauseEnd}
-use Rattle.reader.specs.Ends.{EndsClause, LastClause, AnotherClause, AfterBlock}
+use Rattle.checking.specs.declared.text.ClauseEnd.{ClauseEnd}
+use Rattle.checking.specs.Ends.{EndsClause, LastClause, AnotherClause, AfterBlock}
 use native.Mathlib.Omega.{arith}
 use mathlib.Core.Path.{_≡_, _∙_, subst}
 use borrow.Author.Needs.{needs}

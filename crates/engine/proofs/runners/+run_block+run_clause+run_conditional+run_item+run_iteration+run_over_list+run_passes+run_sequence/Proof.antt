@@ -19,9 +19,9 @@ use Rattle.engine.specs.Clauses.{onChosen, ChosenIn}
 use Rattle.engine.specs.declared.clauses.Chosen.{Chosen}
 use Rattle.engine.specs.Running.{endsAt, endsSequence, ListsTo}
 use Rattle.engine.specs.declared.items.Listed.{Listed}
-use Rattle.engine.specs.declared.state.Ran.{Ran}
-use Rattle.engine.specs.Ran.{Runs, Steps, Blocks, Passes, restAt, choosing, iterating, overListed}
-use Rattle.engine.proofs.ActLaws.{settings-ill, argument-there, argument-none}
+use Rattle.acting.specs.declared.state.Ran.{Ran}
+use Rattle.engine.specs.Runs.{Runs, Steps, Blocks, Passes, restAt, choosing, iterating, overListed}
+use Rattle.acting.proofs.ActLaws.{settings-ill, argument-there, argument-none}
 use Rattle.engine.proofs.Strides.{strides-runs-on, runs-on, runs-left, runs-refused}
 use Rattle.engine.proofs.Bases.{code-right}
 use Rattle.engine.proofs.BlockArms.{passes-over, passes-none, passes-on, passes-left, passes-refused, blocks-nothing, blocks-clause, blocks-clause-left, blocks-clause-refused, blocks-same, blocks-list, blocks-as}
@@ -68,9 +68,9 @@ use Rattle.engine.proofs.items.put_literal.Reads as put-literal-reads
 use Rattle.engine.proofs.runners.end_block.Reads as end-block-reads
 use Rattle.engine.proofs.short.run_short.Reads as run-short-reads
 use Rattle.engine.proofs.items.is_ended.Reads as is-ended-reads
-use Rattle.engine.proofs.state.refuse.Reads as refuse-reads
+use Rattle.acting.proofs.state.refuse.Reads as refuse-reads
 use Rattle.reader.proofs.directive.item_at.Reads as item-at-reads
-use Rattle.reader.proofs.places.is_well_written.Reads as is-well-written-reads
+use Rattle.fitting.proofs.places.is_well_written.Reads as is-well-written-reads
 use Rattle.working.proofs.argument_at.Reads as argument-at-reads
 use Rattle.working.proofs.settle_directive.Reads as settle-directive-reads
 use Rattle.engine.proofs.runners.+run_block+run_clause+run_conditional+run_item+run_iteration+run_over_list+run_passes+run_sequence.{

@@ -7,7 +7,7 @@ use Rattle.rules.specs.Table.{viewOf}
 use Rattle.rules.specs.Text.{levelsAt}
 use Rattle.reader.specs.Shorts.{ShortAt}
 use Rattle.working.specs.Settling.{handAt}
-use Rattle.engine.specs.Ran.{Strides}
+use Rattle.engine.specs.Runs.{Strides}
 use Rattle.engine.proofs.Bases.{code-right}
 use Rattle.engine.proofs.RunnerLaws.{Onto}
 use Rattle.engine.proofs.Strides.{strides, strides-on}

@@ -1,0 +1,151 @@
+-- What a directive that writes or jumps does, arm by arm. Assumes nothing.
+use Prim.Native.Nat.{ℕ, _+_, _-_, _<_, _≤_}
+use mathlib.Core.Path.{_≡_, refl, sym, ap, subst, _∙_}
+use mathlib.Core.Bool.{Bool, true, false}
+use mathlib.Core.List.{List}
+use native.Mathlib.Omega.{arith}
+use borrow.Author.Tests.{lt-ltb, le-ltb, le-leb, lt-leb, eq-eqb, ne-eqb}
+use lib.Dec.{ltb}
+use lib.ListN.{length}
+use Rattle.rules.specs.Directive.{wellWritten, placesOf, inOrder, either}
+use Rattle.rules.specs.Table.{View, Value}
+use Rattle.rules.specs.Piece.{orElse, textOf, kindOf, accepts}
+use Rattle.rules.specs.Working.{Context, argumentIn, settle, Source, own, back, given, sourceOf}
+use Rattle.rules.specs.Run.{Flow, refused, put, choose, onSettled, withSettings, withArgument, write, writeFrom, jumpTo, jump, directiveActs, itemActs}
+use Rattle.rules.specs.declared.Code.{Code}
+use Rattle.rules.specs.declared.Code.the-variants.{Writes, Jump}
+use Rattle.rules.specs.declared.Directive.{Directive}
+use Rattle.rules.specs.declared.Form.{Form}
+use Rattle.rules.specs.declared.Item.the-variants.{Written}
+use Rattle.rules.specs.declared.Settings.{Settings}
+use Rattle.rules.proofs.RunLaws.{choose-yes, choose-no}
+use Rattle.acting.specs.declared.state.Ran.{Ran}
+use Rattle.acting.specs.declared.state.Spot.{Spot}
+use Rattle.acting.specs.Acting.{Performed}
+use Rattle.acting.specs.Ran.{refusedRan, endedRan, Same, Does, Performs, hand, Acts}
+use Rattle.acting.proofs.Joining.{stays, here, said, from}
+use Rattle.acting.proofs.Buffer.{Put, put-fits, put-full}
+
+-- what is refused, and what goes on under another name
+module _ {f : (ℕ → Flow) → Flow} {count m at : ℕ} {b : List ℕ} where
+  pub performs-refused : (code p i place : ℕ) → ((on : ℕ → Flow) → f on ≡ refused code p m) → at ≤ length b → i ≤ count
+      → Performs f count m at b b (refusedRan code p i m at place)
+  performs-refused code p i place h l k = stays _ (λ on out. here _ refl (h _)) refl (omega arith) l k
+
+  pub performs-on : (i place : ℕ) → ((on : ℕ → Flow) → f on ≡ on i) → at ≤ length b → i ≤ count → Performs f count m at b b (endedRan i m at place)
+  performs-on i place h l k = stays _ (λ on out. here _ refl (h _)) refl (omega arith) l k
+
+pub performs-as : (f g : (ℕ → Flow) → Flow) {count m at : ℕ} {b e : List ℕ} {r : Ran} → ((on : ℕ → Flow) → f on ≡ g on) → Performs g count m at b e r → Performs f count m at b e r
+performs-as f g {r = r} h d = said r d refl refl (omega arith) (d .inside) (λ on out. from (h _) (d .same on out))
+
+-- a piece that is put, and one for which there is no room
+module _ (p m next at count place : ℕ) (b w : List ℕ) where
+  pub performs-put : {e : List ℕ} → Put b at w e → next ≤ count → Performs (λ on. put p m w (on next)) count m at b e (endedRan next m (at + length w) place)
+  performs-put u k =
+      record {
+        same = λ on out. record { is = put-fits b w p m at _ u };
+        size = u .size;
+        rest = u .rest;
+        least = omega arith;
+        most = u .room;
+        falls = omega arith;
+        inside = k;
+      }
+
+  pub performs-full : (i : ℕ) → at ≤ length b → length b < at + length w → i ≤ count → Performs (λ on. put p m w (on next)) count m at b b (refusedRan 10 p i m at place)
+  performs-full i l h k = stays _ (λ on out. record { is = put-full b w p m at _ l h }) refl (omega arith) l k
+
+module _ (v : View) (p m : ℕ) (d : Directive) (c : Context) where
+  -- the parameters of a directive that is well written, and of one that is not
+  pub settings-well : (on : Settings → ℕ → Flow) → wellWritten d ≡ true
+      → withSettings v p m d c on ≡ onSettled p m (settle v c (placesOf (d .code) (either (d .colon) (d .at))) (inOrder (d .parameters)) (c .next)) on
+  settings-well on h = choose-yes _ _ h
+
+  pub settings-ill : (on : Settings → ℕ → Flow) → wellWritten d ≡ false → withSettings v p m d c on ≡ refused 5 p m
+  settings-ill on h = choose-no _ _ h
+
+  -- an argument that is there, and one that is not
+  pub argument-there : (i : ℕ) (on : Value → Flow) → i < c .count → withArgument v p m c i on ≡ on (argumentIn v c i)
+  argument-there i on h = choose-yes _ _ (lt-ltb i (c .count) h)
+
+  pub argument-none : (i : ℕ) (on : Value → Flow) → c .count ≤ i → withArgument v p m c i on ≡ refused 6 p m
+  argument-none i on h = choose-no _ _ (le-ltb i (c .count) h)
+
+  module _ (f : Form) (s : Settings) (on : ℕ → Flow) where
+    -- the piece of a value of a kind that the form takes, and of another
+    pub write-yes : {colon at : Bool} (x : Value) (next : ℕ) → d .colon ≡ colon → d .at ≡ at → accepts f (kindOf x) ≡ true → write v p m f d s x next on ≡ put p m (textOf f colon at s x) (on next)
+    write-yes x next q r h = choose-yes _ _ h ∙ rw (q, r)
+
+    pub write-no : (x : Value) (next : ℕ) → accepts f (kindOf x) ≡ false → write v p m f d s x next on ≡ refused 7 p m
+    write-no x next h = choose-no _ _ h
+
+    module _ (next : ℕ) where
+      pub from-own : next < c .count → writeFrom v p m f d c s next on own ≡ write v p m f d s (argumentIn v c next) (next + 1) on
+      from-own h = argument-there next (λ x. write v p m f d s x (next + 1) on) h
+
+      pub from-own-none : c .count ≤ next → writeFrom v p m f d c s next on own ≡ refused 6 p m
+      from-own-none h = argument-none next (λ x. write v p m f d s x (next + 1) on) h
+
+      pub from-back : (next ≡ 0 → ⊥) → next - 1 < c .count → writeFrom v p m f d c s next on back ≡ write v p m f d s (argumentIn v c (next - 1)) next on
+      from-back z h = choose-no _ _ (ne-eqb next 0 z) ∙ argument-there (next - 1) (λ x. write v p m f d s x next on) h
+
+      pub from-back-none : next ≡ 0 → writeFrom v p m f d c s next on back ≡ refused 6 p m
+      from-back-none z = choose-yes _ _ (eq-eqb next 0 z)
+
+-- the same at a spot, with the answer as it is told
+module _ {f : (ℕ → Flow) → Flow} {count : ℕ} {spot : Spot} where
+  pub performed-refused : {b : List ℕ} (r : Ran) (code i : ℕ) → r ≡ refusedRan code (spot .position) i (spot .left) (spot .at) (spot .place)
+      → ((on : ℕ → Flow) → f on ≡ refused code (spot .position) (spot .left)) → spot .at ≤ length b → i ≤ count → Performed f count spot b b r
+  performed-refused {b} r code i q h l k =
+      subst (Performed f count spot b b) (sym q) (record { does = performs-refused code (spot .position) i (spot .place) h l k; place = refl })
+
+  pub performed-on : {b : List ℕ} (r : Ran) (i : ℕ) → r ≡ endedRan i (spot .left) (spot .at) (spot .place) → ((on : ℕ → Flow) → f on ≡ on i) → spot .at ≤ length b → i ≤ count
+      → Performed f count spot b b r
+  performed-on {b} r i q h l k = subst (Performed f count spot b b) (sym q) (record { does = performs-on i (spot .place) h l k; place = refl })
+
+  pub performed-as : (g : (ℕ → Flow) → Flow) {b e : List ℕ} {r : Ran} → ((on : ℕ → Flow) → f on ≡ g on) → Performed g count spot b e r → Performed f count spot b e r
+  performed-as g h d = record { does = performs-as f g h (d .does); place = d .place }
+
+module _ (spot : Spot) (next count : ℕ) (b w : List ℕ) (r : Ran) where
+  pub performed-put : {e : List ℕ} → r ≡ endedRan next (spot .left) (spot .at + length w) (spot .place) → Put b (spot .at) w e → next ≤ count
+      → Performed (λ on. put (spot .position) (spot .left) w (on next)) count spot b e r
+  performed-put {e} q u k =
+      subst (Performed (λ on. put (spot .position) (spot .left) w (on next)) count spot b e) (sym q)
+      (record { does = performs-put (spot .position) (spot .left) next (spot .at) count (spot .place) b w u k; place = refl })
+
+  pub performed-full : (i : ℕ) → r ≡ refusedRan 10 (spot .position) i (spot .left) (spot .at) (spot .place) → spot .at ≤ length b → length b < spot .at + length w → i ≤ count
+      → Performed (λ on. put (spot .position) (spot .left) w (on next)) count spot b b r
+  performed-full i q l h k =
+      subst (Performed (λ on. put (spot .position) (spot .left) w (on next)) count spot b b) (sym q)
+      (record { does = performs-full (spot .position) (spot .left) next (spot .at) count (spot .place) b w i l h k; place = refl })
+
+-- jumps
+module _ (v : View) (p m : ℕ) (d : Directive) (c : Context) (s : Settings) (next : ℕ) (on : ℕ → Flow) where
+  pub jump-at : d .at ≡ true → jump v p m d c s next on ≡ jumpTo v p m c (orElse (s .first) 0) on
+  jump-at h = choose-yes _ _ h
+
+  pub jump-back : d .at ≡ false → d .colon ≡ true → orElse (s .first) 1 ≤ next → jump v p m d c s next on ≡ jumpTo v p m c (next - orElse (s .first) 1) on
+  jump-back h k l = choose-no _ _ h ∙ choose-yes _ _ k ∙ choose-yes _ _ (le-leb (orElse (s .first) 1) next l)
+
+  pub jump-before : d .at ≡ false → d .colon ≡ true → next < orElse (s .first) 1 → jump v p m d c s next on ≡ refused 6 p m
+  jump-before h k l = choose-no _ _ h ∙ choose-yes _ _ k ∙ choose-no _ _ (lt-leb (orElse (s .first) 1) next l)
+
+  pub jump-forth : d .at ≡ false → d .colon ≡ false → jump v p m d c s next on ≡ jumpTo v p m c (next + orElse (s .first) 1) on
+  jump-forth h k = choose-no _ _ h ∙ choose-no _ _ k
+
+-- what a directive that acts does, by its code
+module _ (v : View) (p m : ℕ) (d : Directive) (c : Context) (on : ℕ → Flow) where
+  pub acts-writes : (f : Form) → d .code ≡ Writes f → itemActs v p m (Written d) c on ≡ withSettings v p m d c (λ s next. writeFrom v p m f d c s next on (sourceOf f (d .colon) s))
+  unfolding itemActs
+  acts-writes f q = ap (λ (k : Code). directiveActs v p m d k c on) q
+
+  pub acts-jump : d .code ≡ Jump → itemActs v p m (Written d) c on ≡ withSettings v p m d c (λ s next. jump v p m d c s next on)
+  unfolding itemActs
+  acts-jump q = ap (λ (k : Code). directiveActs v p m d k c on) q
+
+-- the number of the next argument that the context has plays no part
+pub write-anywhere : (v : View) (p m : ℕ) (f : Form) (d : Directive) (first count i : ℕ) (s : Settings) (next : ℕ) (on : ℕ → Flow) (x : Source)
+    → writeFrom v p m f d (hand first count i) s next on x ≡ writeFrom v p m f d (hand first count 0) s next on x
+write-anywhere v p m f d first count i s next on own = refl
+write-anywhere v p m f d first count i s next on back = refl
+write-anywhere v p m f d first count i s next on (given x) = refl

@@ -1,0 +1,4 @@
+pub mod ActLaws
+pub mod Buffer
+pub mod Joining
+pub mod Sources

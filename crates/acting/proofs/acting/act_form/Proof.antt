@@ -1,0 +1,91 @@
+-- A form acts as 01 has it. Assumes nothing.
+use Rattle.rules.specs.Working.{sourceOf}
+use Rattle.acting.proofs.ActLaws.{performed-as, performed-refused, acts-writes, settings-ill, write-anywhere}
+use Rattle.working.proofs.Ranges.{form-in-range}
+use Rattle.working.proofs.Answers.{next-reaches, run-settled, run-refused}
+use Rattle.acting.proofs.Sources.{worked-in}
+use Rattle.working.specs.Settling.{handAt}
+use Rattle.rules.specs.Run.{Flow}
+use Rattle.rules.specs.declared.Code.{Code}
+use Rattle.rules.specs.declared.Form.{Form}
+use Rattle.rules.specs.Table.{viewOf}
+use mathlib.Core.Path.{_≡_, refl, _∙_, ap, sym}
+use borrow.Author.Needs.{needs}
+use Rattle.acting.proofs.acting.act_form.Statement.{statement}
+use Rattle.acting.proofs.acting.act_form.Tie as tie
+
+is-well-written-requires : tie.Need-is-well-written-requires
+is-well-written-requires c κs = search needs
+
+settle-directive-requires : tie.Need-settle-directive-requires
+settle-directive-requires c κs = search needs
+
+enum-known-settled : tie.Need-enum-known-settled
+enum-known-settled c = search needs
+
+write-form-requires : tie.Need-write-form-requires
+write-form-requires c κs =
+    let a = (c .before .before .before .before .before .before .before .before .before .args) in
+    let well = sym (c .before .before .before .before .before .before .is-well-written .ensures) ∙ (c .before .before .before .before .before .if1 .taken) in (
+      worked-in (a .form) _ (c .before .before .before .before .before .before .before .before .before .pre .1 .0) (form-in-range (c .before .before .before .before .settle-directive .ensures) well (c .before .before .settled .given .1) (c .before .before .before .before .before .before .before .before .before .pre .0)),
+      ((c .before .before .before .before .before .before .before .before .before .pre .1 .1 .0), ((c .before .before .before .before .before .before .before .before .before .pre .1 .1 .1 .0), next-reaches (c .before .before .before .before .settle-directive .ensures) (c .before .before .settled .given .1))),
+    )
+
+enum-known-settled-2 : tie.Need-enum-known-settled-2
+enum-known-settled-2 c = search needs
+
+refuse-requires : tie.Need-refuse-requires
+refuse-requires c κs = search needs
+
+same-length : tie.Need-same-length
+same-length c = search needs
+
+returns : tie.Need-returns
+returns c =
+    let a = (c .before .before .before .before .before .before .before .before .before .before .before .before .args) in
+    let v = viewOf (a .table .now) in
+    let well = sym (c .before .before .before .before .before .before .before .before .before .is-well-written .ensures) ∙ (c .before .before .before .before .before .before .before .before .if1 .taken) in
+    performed-as _
+    (λ on. acts-writes v (a .spot .position) (a .spot .left) (a .d) (handAt (a .hand) (a .next .0)) on (a .form) (c .before .before .before .before .before .before .before .before .before .before .before .before .pre .0)
+    ∙ run-settled (c .before .before .before .before .before .before .before .settle-directive .ensures) well (a .spot .position) (a .spot .left) _ (c .before .before .before .before .before .settled .given .1)
+    ∙ write-anywhere v (a .spot .position) (a .spot .left) (a .form) (a .d) (a .hand .first .0) (a .hand .count) (a .next .0) ((c .before .before .before .before .before .settled .given .0 .0)) ((c .before .before .before .before .before .settled .given .0 .1 .0 .0)) on (sourceOf (a .form) (a .d .colon) ((c .before .before .before .before .before .settled .given .0 .0))))
+    ((c .before .before .write-form .ensures) (a .d) refl refl)
+
+returns-2 : tie.Need-returns-2
+returns-2 c =
+    let a = (c .before .before .before .before .before .before .before .before .before .args) in
+    let v = viewOf (a .table .now) in
+    let well = sym (c .before .before .before .before .before .before .is-well-written .ensures) ∙ (c .before .before .before .before .before .if1 .taken) in
+    performed-refused _ _ (a .next .0) (c .refuse .ensures)
+    (λ on. acts-writes v (a .spot .position) (a .spot .left) (a .d) (handAt (a .hand) (a .next .0)) on (a .form) (c .before .before .before .before .before .before .before .before .before .pre .0)
+    ∙ run-refused (c .before .before .before .before .settle-directive .ensures) well (a .spot .position) (a .spot .left) _ (c .before .before .settled2 .given .1))
+    (c .before .before .before .before .before .before .before .before .before .pre .1 .1 .1 .0) (c .before .before .before .before .before .before .before .before .before .pre .1 .1 .1 .1)
+
+refuse-requires-2 : tie.Need-refuse-requires-2
+refuse-requires-2 c κs = search needs
+
+returns-3 : tie.Need-returns-3
+returns-3 c =
+    let a = (c .before .before .before .before .before .args) in
+    let v = viewOf (a .table .now) in
+    let ill = sym (c .before .before .is-well-written .ensures) ∙ (c .before .if1 .left) in
+    performed-refused _ 5 (a .next .0) (c .refuse2 .ensures)
+    (λ on. acts-writes v (a .spot .position) (a .spot .left) (a .d) (handAt (a .hand) (a .next .0)) on (a .form) (c .before .before .before .before .before .pre .0)
+    ∙ settings-ill v (a .spot .position) (a .spot .left) (a .d) (handAt (a .hand) (a .next .0)) _ ill)
+    (c .before .before .before .before .before .pre .1 .1 .1 .0) (c .before .before .before .before .before .pre .1 .1 .1 .1)
+
+pub act-form-spec : {M : Type 1} → statement M
+act-form-spec =
+    tie.close
+    (tie.spec
+    is-well-written-requires
+    settle-directive-requires
+    enum-known-settled
+    write-form-requires
+    enum-known-settled-2
+    refuse-requires
+    same-length
+    returns
+    returns-2
+    refuse-requires-2
+    returns-3)

@@ -1,0 +1,88 @@
+-- A jump acts as 01 has it. Assumes nothing.
+use Rattle.rules.specs.Working.{sourceOf}
+use native.Mathlib.Omega.{arith}
+use Rattle.working.proofs.WorkLaws.{hand-small}
+use Rattle.working.proofs.Ranges.{jump-in-range}
+use Rattle.working.proofs.Answers.{next-reaches, run-settled, run-refused}
+use Rattle.acting.proofs.Sources.{numbered}
+use Rattle.acting.proofs.ActLaws.{performed-as, performed-refused, acts-jump, settings-ill}
+use Rattle.working.specs.Settling.{handAt}
+use Rattle.rules.specs.Run.{Flow}
+use Rattle.rules.specs.declared.Code.{Code}
+use Rattle.rules.specs.declared.Form.{Form}
+use Rattle.rules.specs.Table.{viewOf}
+use mathlib.Core.Path.{_≡_, refl, _∙_, ap, sym}
+use borrow.Author.Needs.{needs}
+use Rattle.acting.proofs.acting.act_jump.Statement.{statement}
+use Rattle.acting.proofs.acting.act_jump.Tie as tie
+
+is-well-written-requires : tie.Need-is-well-written-requires
+is-well-written-requires c κs = search needs
+
+settle-directive-requires : tie.Need-settle-directive-requires
+settle-directive-requires c κs = search needs
+
+enum-known-settled : tie.Need-enum-known-settled
+enum-known-settled c = search needs
+
+jump-requires : tie.Need-jump-requires
+jump-requires c κs =
+    let a = (c .before .before .before .before .before .before .before .args) in
+    let well = sym (c .before .before .before .before .before .is-well-written .ensures) ∙ (c .before .before .before .before .if1 .taken) in (
+      numbered ((c .before .settled .given .0 .0 .first)) (jump-in-range (c .before .before .before .settle-directive .ensures) well (c .before .settled .given .1) (c .before .before .before .before .before .before .before .pre .0)),
+      (next-reaches (c .before .before .before .settle-directive .ensures) (c .before .settled .given .1), omega (arith, hand-small (c .before .before .before .before .before .before .before .pre .1 .0))),
+    )
+
+enum-known-settled-2 : tie.Need-enum-known-settled-2
+enum-known-settled-2 c = search needs
+
+refuse-requires : tie.Need-refuse-requires
+refuse-requires c κs = search needs
+
+returns : tie.Need-returns
+returns c =
+    let a = (c .before .before .before .before .before .before .before .before .args) in
+    let v = viewOf (a .table .now) in
+    let well = sym (c .before .before .before .before .before .before .is-well-written .ensures) ∙ (c .before .before .before .before .before .if1 .taken) in
+    λ b l. performed-as _
+    (λ on. acts-jump v (a .spot .position) (a .spot .left) (a .d) (handAt (a .hand) (a .next .0)) on (c .before .before .before .before .before .before .before .before .pre .0)
+    ∙ run-settled (c .before .before .before .before .settle-directive .ensures) well (a .spot .position) (a .spot .left) _ (c .before .before .settled .given .1))
+    ((c .jump .ensures) v (a .hand .first .0) b l)
+
+returns-2 : tie.Need-returns-2
+returns-2 c =
+    let a = (c .before .before .before .before .before .before .before .before .args) in
+    let v = viewOf (a .table .now) in
+    let well = sym (c .before .before .before .before .before .before .is-well-written .ensures) ∙ (c .before .before .before .before .before .if1 .taken) in
+    λ b l. performed-refused _ _ (a .next .0) (c .refuse .ensures)
+    (λ on. acts-jump v (a .spot .position) (a .spot .left) (a .d) (handAt (a .hand) (a .next .0)) on (c .before .before .before .before .before .before .before .before .pre .0)
+    ∙ run-refused (c .before .before .before .before .settle-directive .ensures) well (a .spot .position) (a .spot .left) _ (c .before .before .settled2 .given .1))
+    l (c .before .before .before .before .before .before .before .before .pre .1 .1)
+
+refuse-requires-2 : tie.Need-refuse-requires-2
+refuse-requires-2 c κs = search needs
+
+returns-3 : tie.Need-returns-3
+returns-3 c =
+    let a = (c .before .before .before .before .args) in
+    let v = viewOf (a .table .now) in
+    let ill = sym (c .before .before .is-well-written .ensures) ∙ (c .before .if1 .left) in
+    λ b l. performed-refused _ 5 (a .next .0) (c .refuse2 .ensures)
+    (λ on. acts-jump v (a .spot .position) (a .spot .left) (a .d) (handAt (a .hand) (a .next .0)) on (c .before .before .before .before .pre .0)
+    ∙ settings-ill v (a .spot .position) (a .spot .left) (a .d) (handAt (a .hand) (a .next .0)) _ ill)
+    l (c .before .before .before .before .pre .1 .1)
+
+pub act-jump-spec : {M : Type 1} → statement M
+act-jump-spec =
+    tie.close
+    (tie.spec
+    is-well-written-requires
+    settle-directive-requires
+    enum-known-settled
+    jump-requires
+    enum-known-settled-2
+    refuse-requires
+    returns
+    returns-2
+    refuse-requires-2
+    returns-3)

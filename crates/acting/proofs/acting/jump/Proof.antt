@@ -1,0 +1,80 @@
+-- The position a jump goes to. Assumes nothing.
+use Rattle.acting.proofs.Sources.{or-else-small}
+use Rattle.acting.proofs.ActLaws.{performed-as, performed-refused, jump-at, jump-back, jump-before, jump-forth}
+use Rattle.acting.specs.Ran.{hand}
+use Rattle.rules.specs.Piece.{orElse}
+use Rattle.rules.specs.Run.{Flow, jumpTo}
+use Prim.Native.Nat.{ℕ, _+_, _-_, _≤_, _<_}
+use native.Mathlib.Omega.{arith}
+use mathlib.Core.Path.{_≡_, _∙_, ap, sym}
+use borrow.Author.Needs.{needs}
+use Rattle.acting.proofs.acting.jump.Statement.{statement}
+use Rattle.acting.proofs.acting.jump.Tie as tie
+
+number-or-requires : tie.Need-number-or-requires
+number-or-requires c κs = search needs
+
+jump-to-requires : tie.Need-jump-to-requires
+jump-to-requires c κs = search needs
+
+returns : tie.Need-returns
+returns c =
+    let a = (c .before .before .before .args) in
+    λ v first b l. performed-as _
+    (λ on. jump-at v (a .spot .position) (a .spot .left) (a .d) (hand first (a .count) 0) (a .settings) (a .i .0) on (c .before .before .if1 .taken)
+    ∙ ap (λ (k : ℕ). jumpTo v (a .spot .position) (a .spot .left) (hand first (a .count) 0) k on) (sym (c .before .number-or .ensures)))
+    ((c .jump-to .ensures) v first b l)
+
+number-or-requires-2 : tie.Need-number-or-requires-2
+number-or-requires-2 c κs = search needs
+
+jump-to-requires-2 : tie.Need-jump-to-requires-2
+jump-to-requires-2 c κs = search needs
+
+returns-2 : tie.Need-returns-2
+returns-2 c =
+    let a = (c .before .before .before .before .before .args) in
+    λ v first b l. performed-as _
+    (λ on. jump-back v (a .spot .position) (a .spot .left) (a .d) (hand first (a .count) 0) (a .settings) (a .i .0) on (c .before .before .before .before .if1 .left) (c .before .before .if2 .taken) (omega (arith, (c .before .if3 .taken), (c .before .before .before .number-or2 .ensures)))
+    ∙ ap (λ (k : ℕ). jumpTo v (a .spot .position) (a .spot .left) (hand first (a .count) 0) (a .i .0 - k) on) (sym (c .before .before .before .number-or2 .ensures)))
+    ((c .jump-to2 .ensures) v first b l)
+
+refuse-requires : tie.Need-refuse-requires
+refuse-requires c κs = search needs
+
+returns-3 : tie.Need-returns-3
+returns-3 c =
+    let a = (c .before .before .before .before .before .args) in
+    λ v first b l. performed-refused _ 6 (a .i .0) (c .refuse .ensures)
+    (λ on. jump-before v (a .spot .position) (a .spot .left) (a .d) (hand first (a .count) 0) (a .settings) (a .i .0) on (c .before .before .before .before .if1 .left) (c .before .before .if2 .taken) (omega (arith, (c .before .if3 .left), (c .before .before .before .number-or2 .ensures))))
+    l ((c .before .before .before .before .before .pre .1 .0))
+
+add-jump-to : tie.Need-add-jump-to
+add-jump-to c = omega (arith, (c .before .number-or2 .ensures), or-else-small ((c .before .before .before .args .settings .first)) 1 (c .before .before .before .pre .0) (omega arith))
+
+jump-to-requires-3 : tie.Need-jump-to-requires-3
+jump-to-requires-3 c κs = search needs
+
+returns-4 : tie.Need-returns-4
+returns-4 c =
+    let a = (c .before .before .before .before .args) in
+    λ v first b l. performed-as _
+    (λ on. jump-forth v (a .spot .position) (a .spot .left) (a .d) (hand first (a .count) 0) (a .settings) (a .i .0) on (c .before .before .before .if1 .left) (c .before .if2 .left)
+    ∙ ap (λ (k : ℕ). jumpTo v (a .spot .position) (a .spot .left) (hand first (a .count) 0) (a .i .0 + k) on) (sym (c .before .before .number-or2 .ensures)))
+    ((c .jump-to3 .ensures) v first b l)
+
+pub jump-spec : {M : Type 1} → statement M
+jump-spec =
+    tie.close
+    (tie.spec
+    number-or-requires
+    jump-to-requires
+    returns
+    number-or-requires-2
+    jump-to-requires-2
+    returns-2
+    refuse-requires
+    returns-3
+    add-jump-to
+    jump-to-requires-3
+    returns-4)

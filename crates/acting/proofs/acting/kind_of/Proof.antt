@@ -1,0 +1,55 @@
+-- The kind of an argument. Assumes nothing.
+use Rattle.rules.specs.declared.Argument.{Argument}
+use Rattle.rules.specs.Piece.{kindOf}
+use Rattle.rules.specs.Table.{meant}
+use Prim.Native.Nat.{ℕ}
+use mathlib.Core.List.{List}
+use mathlib.Core.Path.{sym, ap}
+use borrow.Author.Needs.{needs}
+use Rattle.acting.proofs.acting.kind_of.Statement.{statement}
+use Rattle.acting.proofs.acting.kind_of.Tie as tie
+
+enum-told : tie.Need-enum-told
+enum-told c = search needs
+
+enum-told-2 : tie.Need-enum-told-2
+enum-told-2 c = search needs
+
+enum-told-3 : tie.Need-enum-told-3
+enum-told-3 c = search needs
+
+enum-told-4 : tie.Need-enum-told-4
+enum-told-4 c = search needs
+
+enum-told-5 : tie.Need-enum-told-5
+enum-told-5 c = search needs
+
+returns : tie.Need-returns
+returns c = λ t. sym (ap (λ (x : Argument). kindOf (meant t x)) ((c .enum-told .given .1)))
+
+returns-2 : tie.Need-returns-2
+returns-2 c = λ t. sym (ap (λ (x : Argument). kindOf (meant t x)) ((c .enum-told2 .given .1)))
+
+returns-3 : tie.Need-returns-3
+returns-3 c = λ t. sym (ap (λ (x : Argument). kindOf (meant t x)) ((c .enum-told3 .given .1)))
+
+returns-4 : tie.Need-returns-4
+returns-4 c = λ t. sym (ap (λ (x : Argument). kindOf (meant t x)) ((c .enum-told4 .given .1)))
+
+returns-5 : tie.Need-returns-5
+returns-5 c = λ t. sym (ap (λ (x : Argument). kindOf (meant t x)) ((c .enum-told5 .given .1)))
+
+pub kind-of-spec : {M : Type 1} → statement M
+kind-of-spec =
+    tie.close
+    (tie.spec
+    enum-told
+    enum-told-2
+    enum-told-3
+    enum-told-4
+    enum-told-5
+    returns
+    returns-2
+    returns-3
+    returns-4
+    returns-5)

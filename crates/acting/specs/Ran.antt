@@ -1,0 +1,54 @@
+-- How the code's numbers and buffer stand for a flow that the buffer cuts: what a directive that acts alone promises.
+-- Assumes nothing: these are definitions.
+use mathlib.Core.Path.{_≡_}
+use mathlib.Core.List.{List}
+use Prim.Native.Nat.{ℕ, _≤_}
+use lib.ListN.{length, take, drop}
+use Rattle.rules.specs.Table.{View}
+use Rattle.rules.specs.Working.{Context}
+use Rattle.rules.specs.Run.{Flow, refused, itemActs}
+use Rattle.rules.specs.Answer.{fit}
+use Rattle.rules.specs.declared.Item.{Item}
+use Rattle.acting.specs.declared.state.Stop.{Stop}
+use Rattle.acting.specs.declared.state.Stop.the-variants.{Ended, Left, Refused}
+use Rattle.acting.specs.declared.state.Ran.{Ran}
+
+-- a refusal, and an end after which the text goes on at a place
+abbrev pub refusedRan : ℕ → ℕ → ℕ → ℕ → ℕ → ℕ → Ran
+refusedRan code x i left at place = record { stop = Refused code x; next = record { 0 = i }; left = left; at = at; place = place }
+
+abbrev pub endedRan : ℕ → ℕ → ℕ → ℕ → Ran
+endedRan i left at place = record { stop = Ended; next = record { 0 = i }; left = left; at = at; place = place }
+
+-- what comes after a run that stopped so: `on` where it ended and `out` where it was left, by the steps that are left
+-- and the next argument
+abbrev pub onward : (ℕ → ℕ → Flow) → (ℕ → ℕ → Flow) → Stop → ℕ → ℕ → Flow
+onward on out Ended left i = on left i
+onward on out Left left i = out left i
+onward on out (Refused code p) left i = refused code p left
+
+-- the flow f, from the buffer b at the place `at`, is what comes after r, from the buffer e at r's place
+pub record Same (f : Flow) (on out : ℕ → ℕ → Flow) (at : ℕ) (b e : List ℕ) (r : Ran) : Type 0 where
+  pub is : fit (length b) (take at b) f ≡ fit (length b) (take (r .at) e) (onward on out (r .stop) (r .left) (r .next .0))
+
+-- r is a run as S says, over `count` arguments, and has changed nothing past its end
+pub record Does (S : Type 0) (count left at : ℕ) (b e : List ℕ) (r : Ran) : Type 0 where
+  pub same : S
+  pub size : length e ≡ length b
+  pub rest : drop (r .at) e ≡ drop (r .at) b
+  pub least : at ≤ r .at
+  pub most : r .at ≤ length b
+  pub falls : r .left ≤ left
+  pub inside : r .next .0 ≤ count
+
+-- the arguments in hand, by the number of the next: `count` entries from `first` on
+abbrev pub hand : ℕ → ℕ → ℕ → Context
+hand first count i = record { first = first; count = count; next = i }
+
+-- what goes on by f with the number of the next argument, and an item that is begun, with so many steps left
+abbrev pub Performs : ((ℕ → Flow) → Flow) → ℕ → ℕ → ℕ → List ℕ → List ℕ → Ran → Type 0
+Performs f count left at b e r =
+    Does ((on out : ℕ → ℕ → Flow) → Same (f (λ i. on left i)) on out at b e r) count left at b e r
+
+abbrev pub Acts : View → Context → ℕ → Item → ℕ → ℕ → List ℕ → List ℕ → Ran → Type 0
+Acts v c p x left at b e r = Performs (λ on. itemActs v p left x c on) (c .count) left at b e r

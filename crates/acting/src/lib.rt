@@ -1,0 +1,3 @@
+// What one directive does: its argument, its piece, a jump.
+pub mod acting;
+pub mod state;

@@ -1,0 +1,116 @@
+-- What each runner promises, whatever blocks are open around it. Assumes nothing: these are definitions.
+use mathlib.Core.Path.{_≡_}
+use mathlib.Core.List.{List, _∷_}
+use mathlib.Core.Bool.{false}
+use Prim.Native.Nat.{ℕ, _≤_, _<_, _+_}
+use lib.ListN.{length}
+use Rattle.rules.specs.Table.{View}
+use Rattle.rules.specs.Text.{Sequence, end, acts, escapes, iterates, chooses, Level, innermost, outer, before, asClauses, deepest}
+use Rattle.rules.specs.Working.{Context}
+use Rattle.rules.specs.Run.{Flow, Frame, iteration, conditional, Outside, other, afterwards, withSettings, withArgument, overList, pick, enter, leave, run}
+use Rattle.rules.specs.declared.Directive.{Directive}
+use Rattle.rules.specs.declared.Item.{Item}
+use Rattle.rules.specs.declared.Setting.{Setting}
+use Rattle.acting.specs.declared.state.Stop.the-variants.{Ended}
+use Rattle.acting.specs.declared.state.Ran.{Ran}
+use Rattle.acting.specs.declared.state.Spot.{Spot}
+use Rattle.acting.specs.Ran.{endedRan, Same, Does}
+
+-- What stands at a place, where s gives the sequences that are open at each place: those of a text, or of an array that
+-- it was read into. Each has the position x that it reports and the place q of what follows it, or of its inside
+pub record ActsAt (s : ℕ → List Level) (p x : ℕ) (i : Item) (q : ℕ) : Type 0 where
+  pub is : s p ≡ before (acts x i) (s q)
+
+pub record EscapesAt (s : ℕ → List Level) (p x q : ℕ) : Type 0 where
+  pub is : s p ≡ before (escapes x) (s q)
+
+pub record IteratesAt (s : ℕ → List Level) (p x : ℕ) (d : Directive) (q : ℕ) : Type 0 where
+  pub is : s p ≡ before (iterates x d (innermost (s q) .rest)) (outer (s q))
+
+pub record ChoosesAt (s : ℕ → List Level) (p x : ℕ) (d : Directive) (q : ℕ) : Type 0 where
+  pub is : s p ≡ before (chooses x d (asClauses false (s q))) (outer (s q))
+
+-- the sequence that is open at p ends at the place q, of n
+pub record EndsAt (s : ℕ → List Level) (n p q : ℕ) : Type 0 where
+  pub stop : innermost (s q) .rest ≡ end
+  pub around : outer (s q) ≡ outer (s p)
+  pub least : p ≤ q
+  pub most : q ≤ n
+
+-- q is the place after the block whose inside, or a clause of it, is at p
+pub record After (s : ℕ → List Level) (n p q : ℕ) : Type 0 where
+  pub is : s q ≡ outer (s p)
+  pub least : p ≤ q
+  pub most : q ≤ n
+
+-- what is left of a sequence at a place, and how a run goes on where it is left
+abbrev pub restAt : (ℕ → List Level) → ℕ → Sequence
+restAt s p = innermost (s p) .rest
+
+abbrev pub leaving : View → List Frame → (ℕ → Context) → ℕ → ℕ → Flow
+leaving v ks c left i = leave v (λ x₂ ks₂ c₂. run v left x₂ ks₂ c₂) left ks (c i)
+
+-- A run of a kind: from f, whatever blocks are open and with `level` levels left for blocks; where it ends, `on` comes
+-- next. c gives the arguments in hand by the number of the next
+abbrev pub RunsTo : View → (ℕ → Context) → ℕ → (List Frame → Flow) → (List Frame → ℕ → ℕ → Flow) → ℕ → List ℕ → List ℕ → Ran → Type 0
+RunsTo v c level f on at b e r =
+    (ks : List Frame) → length ks + level ≡ deepest → Same (f ks) (on ks) (leaving v ks c) at b e r
+
+-- the sequence that is open at p
+pub record Runs (s : ℕ → List Level) (n : ℕ) (v : View) (c : ℕ → Context) (level p i left at : ℕ) (b e : List ℕ) (r : Ran) : Type 0 where
+  pub does : Does (RunsTo v c level (λ ks. run v left (restAt s p) ks (c i)) (λ ks l j. run v l end ks (c j)) at b e r) (c 0 .count) left at b e r
+  pub ends : r .stop ≡ Ended → EndsAt s n p (r .place)
+
+-- the directive at p, after which the text goes on at r's place
+pub record Steps (s : ℕ → List Level) (n : ℕ) (v : View) (c : ℕ → Context) (level p i left at : ℕ) (b e : List ℕ) (r : Ran) : Type 0 where
+  pub does : Does (RunsTo v c level (λ ks. run v left (restAt s p) ks (c i)) (λ ks l j. run v l (restAt s (r .place)) ks (c j)) at b e r) (c 0 .count) left at b e r
+  pub around : r .stop ≡ Ended → outer (s (r .place)) ≡ outer (s p)
+  pub least : r .stop ≡ Ended → p < r .place
+  pub most : r .stop ≡ Ended → r .place ≤ n
+
+-- any number of items from p on, none perhaps, after which the text goes on at r's place
+pub record Strides (s : ℕ → List Level) (n : ℕ) (v : View) (c : ℕ → Context) (level p i left at : ℕ) (b e : List ℕ) (r : Ran) : Type 0 where
+  pub does : Does (RunsTo v c level (λ ks. run v left (restAt s p) ks (c i)) (λ ks l j. run v l (restAt s (r .place)) ks (c j)) at b e r) (c 0 .count) left at b e r
+  pub around : r .stop ≡ Ended → outer (s (r .place)) ≡ outer (s p)
+  pub least : r .stop ≡ Ended → p ≤ r .place
+  pub most : r .stop ≡ Ended → r .place ≤ n
+
+-- a block whose inside is at q and which does f once it is begun, with `level` levels left inside it
+pub record Blocks (s : ℕ → List Level) (n : ℕ) (v : View) (c : ℕ → Context) (level q : ℕ) (f : List Frame → Flow) (left at : ℕ) (b e : List ℕ) (r : Ran) : Type 0 where
+  pub does : Does (RunsTo v c (level + 1) f (λ ks l j. run v l (restAt s (r .place)) ks (c j)) at b e r) (c 0 .count) left at b e r
+  pub after : r .stop ≡ Ended → After s n q (r .place)
+
+-- what a conditional at p does once it is begun
+abbrev pub choosing : (ℕ → List Level) → View → (ℕ → Context) → ℕ → Directive → ℕ → ℕ → ℕ → List Frame → Flow
+choosing s v c p d q i left ks =
+    withSettings v p left d (c i)
+    (λ st j. pick v p left d (asClauses false (s q)) (c i) st j (λ x after. run v left x (conditional (innermost (outer (s q)) .rest) ∷ ks) (c after)))
+
+-- what an iteration at p does once it is begun
+abbrev pub iterating : (ℕ → List Level) → View → (ℕ → Context) → ℕ → Directive → ℕ → ℕ → ℕ → List Frame → Flow
+iterating s v c p d q i left ks =
+    withSettings v p left d (c i)
+    (λ st j. enter v p left d (restAt s q) (innermost (outer (s q)) .rest) (c i) st j (λ k inner. run v left end (k ∷ ks) inner))
+
+-- the passes of the iteration at p whose inside is at q, over the arguments that c gives; it ends as the arguments in
+-- hand outside want it
+pub record Passes (s : ℕ → List Level) (n : ℕ) (v : View) (c : ℕ → Context) (level p q i : ℕ) (passes : Setting) (left at : ℕ) (b e : List ℕ) (r : Ran) : Type 0 where
+  pub does : Does ((ks : List Frame) (out : Outside) (away : ℕ → ℕ → Flow) → length ks + (level + 1) ≡ deepest
+      → Same (run v left end (iteration p passes (restAt s q) (innermost (outer (s q)) .rest) out ∷ ks) (c i)) (λ l j. run v l (restAt s (r .place)) ks (afterwards out (c j))) away at b e r) (c 0 .count) left at b e r
+  pub after : r .stop ≡ Ended → After s n q (r .place)
+
+-- the passes over the list that argument i is, of an iteration at p whose inside is at q
+abbrev pub overListed : (ℕ → List Level) → View → (ℕ → Context) → ℕ → ℕ → Setting → ℕ → ℕ → List Frame → Flow
+overListed s v c p q limit i left ks =
+    withArgument v p left (c i) i
+    (λ x. overList v p left (λ inner. run v left end (iteration p limit (restAt s q) (innermost (outer (s q)) .rest) (other (c (i + 1))) ∷ ks) inner) x)
+
+-- the clause at z, whatever the block is that it belongs to
+pub record RunsClause (s : ℕ → List Level) (n : ℕ) (v : View) (c : ℕ → Context) (level z i left at : ℕ) (b e : List ℕ) (r : Ran) : Type 0 where
+  pub is : (q : ℕ) (f : List Frame → Flow) → ((ks : List Frame) → f ks ≡ run v left (restAt s z) (conditional (innermost (outer (s q)) .rest) ∷ ks) (c i))
+      → outer (s z) ≡ outer (s q) → q ≤ z → Blocks s n v c level q f left at b e r
+
+-- nothing is written, and the text goes on after the block whose inside is at q
+pub record EndsBlock (s : ℕ → List Level) (n : ℕ) (spot : Spot) (q i : ℕ) (r : Ran) : Type 0 where
+  pub is : r ≡ endedRan i (spot .left) (spot .at) (r .place)
+  pub after : After s n q (r .place)
