@@ -1,10 +1,10 @@
 // Which clause a conditional runs.
-use numbers::is_negative;
-use numbers::magnitude;
-use fitting::places::both;
-use fitting::places::not;
 use checking::text::ClauseEnd;
 use checking::text::next_clause;
+use fitting::places::both;
+use fitting::places::not;
+use numbers::is_negative;
+use numbers::magnitude;
 use rules::Argument;
 use rules::ArgumentPosition;
 use rules::Directive;
