@@ -6,6 +6,7 @@ mod stations;
 mod whole;
 
 use random::Random;
+use reference::entry;
 use std::hint::black_box;
 use std::time::Instant;
 
@@ -107,14 +108,14 @@ fn digits(rust: Digits) {
 
 fn tables() {
     let random = Random::new(SEED);
-    let integers = |n| plain::table(n, 0, |_| plain::entry(1, 7, 7));
+    let integers = |n| plain::table(n, 0, |_| entry(1, 7, 7));
     let mixed = |n: usize| {
         plain::table(n, 64, |i| match random.below(5) {
-            0 => plain::entry(0, 0, 1),
-            1 => plain::entry(1, 7, 7),
-            2 => plain::entry(2, 0, 65),
-            3 => plain::entry(3, 8, 16),
-            _ => plain::entry(4, i as u32 + 1, (n - i - 1) as u32),
+            0 => entry(0, 0, 1),
+            1 => entry(1, 7, 7),
+            2 => entry(2, 0, 65),
+            3 => entry(3, 8, 16),
+            _ => entry(4, i as u32 + 1, (n - i - 1) as u32),
         })
     };
     let mut refused = integers(1024);

@@ -1,6 +1,6 @@
 //! The same work in Rust, written as one would without proofs.
 
-const ENTRY: usize = 12;
+use reference::{table_of, ENTRY};
 
 /// The digits of n at the start of out, and how many they are, by the loops of the crate numbers: one that counts, and
 /// one that goes on while a digit is left. The usual bases have loops of their own.
@@ -123,18 +123,6 @@ fn be32(bytes: &[u8]) -> usize {
 
 /// A table of n entries, all of them arguments, and a pool of so many bytes.
 pub fn table(n: usize, pool: usize, entry: impl Fn(usize) -> [u8; ENTRY]) -> Vec<u8> {
-    let mut bytes = (n as u16).to_be_bytes().to_vec();
-    bytes.extend((n as u16).to_be_bytes());
-    bytes.extend((pool as u32).to_be_bytes());
-    bytes.extend((0..n).flat_map(entry));
-    bytes.extend(vec![b'p'; pool]);
-    bytes
-}
-
-pub fn entry(tag: u8, high: u32, low: u32) -> [u8; ENTRY] {
-    let mut bytes = [0; ENTRY];
-    bytes[0] = tag;
-    bytes[4..8].copy_from_slice(&high.to_be_bytes());
-    bytes[8..12].copy_from_slice(&low.to_be_bytes());
-    bytes
+    let entries: Vec<_> = (0..n).map(entry).collect();
+    table_of(n as u16, n as u16, pool as u32, &entries, &vec![b'p'; pool])
 }

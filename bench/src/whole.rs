@@ -3,6 +3,7 @@
 use crate::printing::snprintf;
 use crate::{plain, rounds, title, SEED};
 use random::Random;
+use reference::entry;
 use std::ffi::{c_longlong, CStr, CString};
 use std::hint::black_box;
 
@@ -63,10 +64,10 @@ fn given(text: &str, numbers: &[i64]) -> Given {
     let length = text.len() as u32;
     let mut table = plain::table(strings + numbers.len(), 0, |i| {
         if i < strings {
-            return plain::entry(3, 0, length);
+            return entry(3, 0, length);
         }
         let number = numbers[i - strings] as u64;
-        plain::entry(1, (number >> 32) as u32, number as u32)
+        entry(1, (number >> 32) as u32, number as u32)
     });
     table[4..8].copy_from_slice(&length.to_be_bytes());
     table.extend(text.as_bytes());
