@@ -1,4 +1,5 @@
 // Literal bytes and short directives, of which most texts are made, done one after another without an item for each.
+use crate::items::is_ended;
 use crate::items::put_literals;
 use acting::acting::write_form;
 use acting::state::Ran;
@@ -87,6 +88,55 @@ fn act_short(
     write_form(spot, form, false, false, settings, table, hand, next, out)
 }
 
+// The short directive at p; any other item is left for the general way.
+fn run_one(
+    text: &[u8],
+    table: &[u8],
+    p: usize,
+    hand: Hand,
+    next: ArgumentPosition,
+    left: usize,
+    out: &mut [u8],
+    at: usize,
+) -> Ran
+    requires { ⌜ InHand (now table) hand ⌝ }
+    requires { ⌜ next .0 ≤ hand .count ⌝ }
+    requires { ⌜ p ≤ length (now text) ⌝ }
+    requires { ⌜ at ≤ length (now out) ⌝ }
+    ensures { λ r. ⌜ ((level : ℕ) → Strides (levelsAt (now (text .entry))) (length (now (text .entry))) (viewOf (now (table .entry))) (handAt hand) level p (next .0) left at (now (out .entry)) (now (out .exit)) r) ⌝ }
+{
+    let short = read_short(text, p);
+    match short {
+        Short::Other => Ran {
+            stop: Stop::Ended,
+            next,
+            left,
+            at,
+            place: p,
+        },
+        Short::Is {
+            kind,
+            detail,
+            number,
+            byte,
+            next: place,
+        } => act_short(
+            p,
+            kind,
+            detail,
+            number,
+            byte,
+            place,
+            table,
+            hand,
+            next,
+            left,
+            out,
+            at,
+        ),
+    }
+}
+
 // The literal bytes and the short directives that stand from start on.
 pub fn run_short(
     text: &[u8],
@@ -111,54 +161,17 @@ pub fn run_short(
     loop {
         let k = put_literals(text, p, left, out, at);
         p += k;
-        left -= k;
-        at += k;
-        let short = read_short(text, p);
-        match short {
-            Short::Other => {
-                return Ran {
-                    stop: Stop::Ended,
-                    next,
-                    left,
-                    at,
-                    place: p,
-                };
-            }
-            Short::Is {
-                kind,
-                detail,
-                number,
-                byte,
-                next: place,
-            } => {
-                let r = act_short(
-                    p,
-                    kind,
-                    detail,
-                    number,
-                    byte,
-                    place,
-                    table,
-                    hand,
-                    next,
-                    left,
-                    out,
-                    at,
-                );
-                let stop = r.stop;
-                let after = r.next;
-                match stop {
-                    Stop::Ended => {
-                        next = after;
-                        left = r.left;
-                        at = r.at;
-                        p = r.place;
-                    }
-                    _ => {
-                        return r;
-                    }
-                }
-            }
+        let r = run_one(text, table, p, hand, next, left - k, out, at + k);
+        let stop = r.stop;
+        if !is_ended(stop) {
+            return r;
         }
+        if r.place == p {
+            return r;
+        }
+        next = r.next;
+        left = r.left;
+        at = r.at;
+        p = r.place;
     }
 }
