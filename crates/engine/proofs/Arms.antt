@@ -91,7 +91,7 @@ module _ (s : ℕ → List Level) (n : ℕ) (v : View) (first count level p i le
             said r d refl refl (omega arith) (d .inside)
             (λ ks _. from (acts-is a ks ∙ begin-yes x left _ z) (d .same (λ l j. run v l (restAt s (r .place)) ks (hand first count j)) (leaving v ks (hand first count))));
         around = λ _. sym (ap outer (a .is));
-        least = λ _. h;
+        least = λ _. omega (arith, h);
         most = λ _. m;
       }
 
@@ -121,7 +121,7 @@ module _ (s : ℕ → List Level) (n : ℕ) (v : View) (first count level p i le
       record {
         does = stays _ (λ ks _. here _ refl (escape-is a z ks ∙ choose-no _ _ (lt-leb count i y))) refl (omega arith) l k;
         around = λ _. sym (ap outer (a .is));
-        least = λ _. h;
+        least = λ _. omega (arith, h);
         most = λ _. m;
       }
 

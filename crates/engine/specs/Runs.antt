@@ -2,7 +2,7 @@
 use mathlib.Core.Path.{_≡_}
 use mathlib.Core.List.{List, _∷_}
 use mathlib.Core.Bool.{false}
-use Prim.Native.Nat.{ℕ, _≤_, _<_, _+_}
+use Prim.Native.Nat.{ℕ, _≤_, _+_}
 use lib.ListN.{length}
 use Rattle.rules.specs.Table.{View}
 use Rattle.rules.specs.Text.{Sequence, end, acts, escapes, iterates, chooses, Level, innermost, outer, before, asClauses, deepest}
@@ -61,19 +61,20 @@ pub record Runs (s : ℕ → List Level) (n : ℕ) (v : View) (c : ℕ → Conte
   pub does : Does (RunsTo v c level (λ ks. run v left (restAt s p) ks (c i)) (λ ks l j. run v l end ks (c j)) at b e r) (c 0 .count) left at b e r
   pub ends : r .stop ≡ Ended → EndsAt s n p (r .place)
 
--- the directive at p, after which the text goes on at r's place
-pub record Steps (s : ℕ → List Level) (n : ℕ) (v : View) (c : ℕ → Context) (level p i left at : ℕ) (b e : List ℕ) (r : Ran) : Type 0 where
+-- items from p on, after which the text goes on at r's place, which is low or behind it
+pub record Covers (s : ℕ → List Level) (n : ℕ) (v : View) (c : ℕ → Context) (level p low i left at : ℕ) (b e : List ℕ) (r : Ran) : Type 0 where
   pub does : Does (RunsTo v c level (λ ks. run v left (restAt s p) ks (c i)) (λ ks l j. run v l (restAt s (r .place)) ks (c j)) at b e r) (c 0 .count) left at b e r
   pub around : r .stop ≡ Ended → outer (s (r .place)) ≡ outer (s p)
-  pub least : r .stop ≡ Ended → p < r .place
+  pub least : r .stop ≡ Ended → low ≤ r .place
   pub most : r .stop ≡ Ended → r .place ≤ n
 
--- any number of items from p on, none perhaps, after which the text goes on at r's place
-pub record Strides (s : ℕ → List Level) (n : ℕ) (v : View) (c : ℕ → Context) (level p i left at : ℕ) (b e : List ℕ) (r : Ran) : Type 0 where
-  pub does : Does (RunsTo v c level (λ ks. run v left (restAt s p) ks (c i)) (λ ks l j. run v l (restAt s (r .place)) ks (c j)) at b e r) (c 0 .count) left at b e r
-  pub around : r .stop ≡ Ended → outer (s (r .place)) ≡ outer (s p)
-  pub least : r .stop ≡ Ended → p ≤ r .place
-  pub most : r .stop ≡ Ended → r .place ≤ n
+-- the item at p
+abbrev pub Steps : (ℕ → List Level) → ℕ → View → (ℕ → Context) → ℕ → ℕ → ℕ → ℕ → ℕ → List ℕ → List ℕ → Ran → Type 0
+Steps s n v c level p i left at b e r = Covers s n v c level p (p + 1) i left at b e r
+
+-- any number of items from p on, none perhaps
+abbrev pub Strides : (ℕ → List Level) → ℕ → View → (ℕ → Context) → ℕ → ℕ → ℕ → ℕ → ℕ → List ℕ → List ℕ → Ran → Type 0
+Strides s n v c level p i left at b e r = Covers s n v c level p p i left at b e r
 
 -- a block whose inside is at q and which does f once it is begun, with `level` levels left inside it
 pub record Blocks (s : ℕ → List Level) (n : ℕ) (v : View) (c : ℕ → Context) (level q : ℕ) (f : List Frame → Flow) (left at : ℕ) (b e : List ℕ) (r : Ran) : Type 0 where
