@@ -26,9 +26,7 @@ both-requires-3 : tie.Need-both-requires-3
 both-requires-3 c κs = search needs
 
 returns : tie.Need-returns
-returns c =
-    cc
-    (either-cond (c .before .before .before .before .before .before .before .args .opener .colon) (c .before .before .before .before .before .before .before .args .opener .at))
+returns c = rw (c .both3 .ensures, c .before .both2 .ensures, c .before .before .not2 .ensures, c .before .before .before .is-conditional .ensures, c .before .before .before .before .not .ensures, c .before .before .before .before .before .both .ensures, c .before .before .before .before .before .before .either .ensures, either-cond)
 
 pub may-separate-spec : {M : Type 1} → statement M
 may-separate-spec =

@@ -13,7 +13,7 @@ unless-requires-2 : tie.Need-unless-requires-2
 unless-requires-2 c κs = search needs
 
 returns : tie.Need-returns
-returns c = cc
+returns c = rw (c .unless2 .ensures, c .before .unless .ensures, c .before .before .is-well-written .ensures)
 
 pub meet-opener-spec : {M : Type 1} → statement M
 meet-opener-spec =

@@ -25,7 +25,7 @@ returns : tie.Need-returns
 returns c = rw (c .enum-told .given .1)
 
 returns-2 : tie.Need-returns-2
-returns-2 c = rw (c .before .before .before .before .before .around .given .1) (cc)
+returns-2 c = rw (c .before .before .before .before .before .around .given .1, c .unless2 .ensures, c .before .unless .ensures, c .before .before .is-well-written .ensures, c .before .before .before .may-separate .ensures)
 
 pub meet-separator-spec : {M : Type 1} → statement M
 meet-separator-spec =

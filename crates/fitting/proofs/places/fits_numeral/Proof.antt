@@ -1,7 +1,7 @@
 -- `fits_numeral` meets its contract: the same five tests in another order. Assumes nothing.
 use lib.Dec.{leb}
 use borrow.Author.Needs.{needs}
-use Rattle.fitting.proofs.Tests.{both-five}
+use Rattle.fitting.proofs.Tests.{five-by}
 use Rattle.fitting.proofs.places.fits_numeral.Statement.{statement}
 use Rattle.fitting.proofs.places.fits_numeral.Tie as tie
 
@@ -30,7 +30,7 @@ both-requires-4 : tie.Need-both-requires-4
 both-requires-4 c κs = search needs
 
 returns : tie.Need-returns
-returns c = cc (both-five (leb (c .before .before .before .before .before .before .before .before .before .args .ps .count) 4) (c .before .before .before .before .before .before .before .suits-number .result) (c .before .before .before .before .before .suits-character .result) (c .before .before .before .before .suits-character2 .result) (c .before .suits-number2 .result))
+returns c = five-by (leb (c .before .before .before .before .before .before .before .before .before .args .ps .count) 4) (c .both4 .ensures) (c .before .before .both3 .ensures) (c .before .before .before .before .before .before .both .ensures) (c .before .before .before .both2 .ensures) (c .before .before .before .before .before .before .before .suits-number .ensures) (c .before .before .before .before .before .suits-character .ensures) (c .before .before .before .before .suits-character2 .ensures) (c .before .suits-number2 .ensures)
 
 pub fits-numeral-spec : {M : Type 1} → statement M
 fits-numeral-spec =

@@ -1,7 +1,7 @@
 -- `fits_object` meets its contract: the same five tests in another order. Assumes nothing.
 use lib.Dec.{leb}
 use borrow.Author.Needs.{needs}
-use Rattle.fitting.proofs.Tests.{both-five}
+use Rattle.fitting.proofs.Tests.{five-by}
 use Rattle.fitting.proofs.places.fits_object.Statement.{statement}
 use Rattle.fitting.proofs.places.fits_object.Tie as tie
 
@@ -30,7 +30,7 @@ both-requires-4 : tie.Need-both-requires-4
 both-requires-4 c κs = search needs
 
 returns : tie.Need-returns
-returns c = cc (both-five (leb (c .before .before .before .before .before .before .before .before .before .args .ps .count) 4) (c .before .before .before .before .before .before .before .suits-number .result) (c .before .before .before .before .before .suits-number2 .result) (c .before .before .before .before .suits-number3 .result) (c .before .suits-character .result))
+returns c = five-by (leb (c .before .before .before .before .before .before .before .before .before .args .ps .count) 4) (c .both4 .ensures) (c .before .before .both3 .ensures) (c .before .before .before .before .before .before .both .ensures) (c .before .before .before .both2 .ensures) (c .before .before .before .before .before .before .before .suits-number .ensures) (c .before .before .before .before .before .suits-number2 .ensures) (c .before .before .before .before .suits-number3 .ensures) (c .before .suits-character .ensures)
 
 pub fits-object-spec : {M : Type 1} → statement M
 fits-object-spec =

@@ -1,5 +1,6 @@
 -- `is_form_well_written` meets its contract, row by row of the table. Assumes nothing.
 use borrow.Author.Needs.{needs}
+use Rattle.fitting.proofs.Tests.{both-by, not-by}
 use Rattle.fitting.proofs.places.is_form_well_written.Statement.{statement}
 use Rattle.fitting.proofs.places.is_form_well_written.Tie as tie
 
@@ -73,22 +74,22 @@ both-requires-6 : tie.Need-both-requires-6
 both-requires-6 c κs = search needs
 
 returns : tie.Need-returns
-returns c = rw (c .before .before .before .enum-told .given .1) (cc)
+returns c = rw (c .before .before .before .enum-told .given .1) (both-by (c .both .ensures) (c .before .before .not .ensures) (c .before .fits-object .ensures))
 
 returns-2 : tie.Need-returns-2
-returns-2 c = rw (c .before .enum-told2 .given .1) (cc)
+returns-2 c = rw (c .before .enum-told2 .given .1) (c .fits-numeral .ensures)
 
 returns-3 : tie.Need-returns-3
-returns-3 c = rw (c .before .before .before .before .enum-told3 .given .1) (cc)
+returns-3 c = rw (c .before .before .before .before .enum-told3 .given .1) (both-by (c .both3 .ensures) (not-by (c .before .before .not2 .ensures) (c .before .before .before .both2 .ensures)) (c .before .fits-number .ensures))
 
 returns-4 : tie.Need-returns-4
-returns-4 c = rw (c .before .enum-told4 .given .1) (cc)
+returns-4 c = rw (c .before .enum-told4 .given .1) (c .fits-none .ensures)
 
 returns-5 : tie.Need-returns-5
-returns-5 c = rw (c .before .before .before .before .enum-told5 .given .1) (cc)
+returns-5 c = rw (c .before .before .before .before .enum-told5 .given .1) (both-by (c .both4 .ensures) (not-by (c .before .before .not3 .ensures) (c .before .before .before .either .ensures)) (c .before .fits-number2 .ensures))
 
 returns-6 : tie.Need-returns-6
-returns-6 c = rw (c .before .before .before .before .enum-told6 .given .1) (cc)
+returns-6 c = rw (c .before .before .before .before .enum-told6 .given .1) (both-by (c .both6 .ensures) (not-by (c .before .before .not4 .ensures) (c .before .before .before .both5 .ensures)) (c .before .fits-none2 .ensures))
 
 pub is-form-well-written-spec : {M : Type 1} → statement M
 is-form-well-written-spec =

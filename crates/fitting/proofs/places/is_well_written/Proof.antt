@@ -1,5 +1,6 @@
 -- `is_well_written` meets its contract, row by row of the table. Assumes nothing.
 use borrow.Author.Needs.{needs}
+use Rattle.fitting.proofs.Tests.{both-by, not-by}
 use Rattle.rules.specs.Directive.{wellWritten}
 use Rattle.fitting.proofs.places.is_well_written.Statement.{statement}
 use Rattle.fitting.proofs.places.is_well_written.Tie as tie
@@ -120,39 +121,39 @@ fits-none-requires-5 c κs = search needs
 
 returns : tie.Need-returns
 unfolding wellWritten
-returns c = rw (c .before .before .code .given .1) (cc)
+returns c = rw (c .before .before .code .given .1) (c .is-form-well-written .ensures)
 
 returns-2 : tie.Need-returns-2
 unfolding wellWritten
-returns-2 c = rw (c .before .before .before .before .enum-told .given .1) (cc)
+returns-2 c = rw (c .before .before .before .before .enum-told .given .1) (both-by (c .both2 .ensures) (not-by (c .before .before .not .ensures) (c .before .before .before .both .ensures)) (c .before .fits-number .ensures))
 
 returns-3 : tie.Need-returns-3
 unfolding wellWritten
-returns-3 c = rw (c .before .before .before .before .enum-told2 .given .1) (cc)
+returns-3 c = rw (c .before .before .before .before .enum-told2 .given .1) (both-by (c .both3 .ensures) (not-by (c .before .before .not2 .ensures) (c .before .before .before .either .ensures)) (c .before .fits-none .ensures))
 
 returns-4 : tie.Need-returns-4
 unfolding wellWritten
-returns-4 c = rw (c .before .before .before .before .before .enum-told3 .given .1) (cc)
+returns-4 c = rw (c .before .before .before .before .before .enum-told3 .given .1) (both-by (c .both5 .ensures) (not-by (c .before .before .before .not3 .ensures) (c .before .before .before .before .both4 .ensures)) (rw (c .before .before .either2 .ensures) at (c .before .fits-conditional .ensures)))
 
 returns-5 : tie.Need-returns-5
 unfolding wellWritten
-returns-5 c = rw (c .before .before .before .enum-told4 .given .1) (cc)
+returns-5 c = rw (c .before .before .before .enum-told4 .given .1) (both-by (c .both6 .ensures) (c .before .before .not4 .ensures) (c .before .fits-none2 .ensures))
 
 returns-6 : tie.Need-returns-6
 unfolding wellWritten
-returns-6 c = rw (c .before .before .before .before .enum-told5 .given .1) (cc)
+returns-6 c = rw (c .before .before .before .before .enum-told5 .given .1) (both-by (c .both7 .ensures) (not-by (c .before .before .not5 .ensures) (c .before .before .before .either3 .ensures)) (c .before .fits-none3 .ensures))
 
 returns-7 : tie.Need-returns-7
 unfolding wellWritten
-returns-7 c = rw (c .before .before .before .enum-told6 .given .1) (cc)
+returns-7 c = rw (c .before .before .before .enum-told6 .given .1) (both-by (c .both8 .ensures) (c .before .before .not6 .ensures) (c .before .fits-number2 .ensures))
 
 returns-8 : tie.Need-returns-8
 unfolding wellWritten
-returns-8 c = rw (c .before .before .before .before .enum-told7 .given .1) (cc)
+returns-8 c = rw (c .before .before .before .before .enum-told7 .given .1) (both-by (c .both9 .ensures) (not-by (c .before .before .not7 .ensures) (c .before .before .before .either4 .ensures)) (c .before .fits-none4 .ensures))
 
 returns-9 : tie.Need-returns-9
 unfolding wellWritten
-returns-9 c = rw (c .before .enum-told8 .given .1) (cc)
+returns-9 c = rw (c .before .enum-told8 .given .1) (c .fits-none5 .ensures)
 
 pub is-well-written-spec : {M : Type 1} → statement M
 is-well-written-spec =
