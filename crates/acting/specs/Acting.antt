@@ -6,7 +6,7 @@ use Rattle.rules.specs.Table.{Value, meant, viewOf}
 use Rattle.rules.specs.Working.{Source, own, back, given}
 use Rattle.rules.specs.Run.{Flow, refused, write, writeFrom}
 use Rattle.rules.specs.declared.Code.{Code}
-use Rattle.rules.specs.declared.Code.the-variants.{Writes, Jump, Escape, Conditional, Separator, EndConditional, Iteration, EndIteration, Unknown}
+use Rattle.rules.specs.declared.Code.the-variants.{Writes, Jump, Escape, Opens, Separator, Closes, Unknown}
 use Rattle.rules.specs.declared.Directive.{Directive}
 use Rattle.rules.specs.declared.Form.{Form}
 use Rattle.rules.specs.declared.Form.the-variants.{Object, Numeral, Glyph, Plural, Repeat, Fold}

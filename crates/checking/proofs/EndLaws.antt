@@ -10,7 +10,7 @@ use lib.Seq.{drop-nil}
 use Rattle.rules.specs.Directive.{itemAt}
 use Rattle.rules.specs.Text.{Sequence, end, acts, escapes, iterates, chooses, none, Level, innermost, outer, before, asClauses, levelsAt}
 use Rattle.rules.specs.declared.Code.{Code}
-use Rattle.rules.specs.declared.Code.the-variants.{Writes, Jump, Escape, Conditional, Separator, EndConditional, Iteration, EndIteration, Unknown}
+use Rattle.rules.specs.declared.Code.the-variants.{Writes, Jump, Escape, Opens, Separator, Closes, Unknown}
 use Rattle.rules.specs.declared.Directive.{Directive}
 use Rattle.rules.specs.declared.Item.{Item}
 use Rattle.rules.specs.declared.Item.the-variants.{End, Literal, Written, BadNumber, Unfinished}

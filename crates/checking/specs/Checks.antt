@@ -9,7 +9,7 @@ use lib.ListN.{length}
 use Rattle.rules.specs.Directive.{wellWritten}
 use Rattle.rules.specs.Text.{Block, opened, opensConditional, maySeparate, rightCount, hasBody, deepest, verdictAt}
 use Rattle.rules.specs.declared.Code.{Code}
-use Rattle.rules.specs.declared.Code.the-variants.{Writes, Jump, Escape, Conditional, Separator, EndConditional, Iteration, EndIteration, Unknown}
+use Rattle.rules.specs.declared.Code.the-variants.{Writes, Jump, Escape, Opens, Separator, Closes, Unknown}
 use Rattle.rules.specs.declared.Directive.{Directive}
 use Rattle.rules.specs.declared.Verdict.{Verdict}
 use Rattle.rules.specs.declared.Verdict.the-variants.{Refused}

@@ -10,7 +10,7 @@ use lib.ListN.{drop}
 use Rattle.rules.specs.Directive.{lowerCase, named, codeNamed, codeOf, Reading, start, signed, digits, quote, whole, modifiers, blank, having, closed, Step, goes, bad, ends, modifierStep, afterStep, digitStep, startStep, step, isDigit, oneMore, cutShort, onStep, going, skipped, scan, itemOf, itemAt}
 use Rattle.acting.specs.Acting.{FormRight, CodeRight}
 use Rattle.rules.specs.declared.Code.{Code}
-use Rattle.rules.specs.declared.Code.the-variants.{Writes, Jump, Escape, Conditional, Separator, EndConditional, Iteration, EndIteration, Unknown}
+use Rattle.rules.specs.declared.Code.the-variants.{Writes, Jump, Escape, Opens, Separator, Closes, Unknown}
 use Rattle.rules.specs.declared.Directive.{Directive}
 use Rattle.rules.specs.declared.Form.{Form}
 use Rattle.rules.specs.declared.Form.the-variants.{Object, Numeral, Glyph, Plural, Repeat, Fold}

@@ -14,7 +14,7 @@ use Rattle.rules.specs.Text.{Level, innermost, outer, end, levelsAt}
 use Rattle.rules.specs.Working.{Context, noneRemain, argumentIn}
 use Rattle.rules.specs.Run.{Flow, refused, Frame, iteration, conditional, other, usedUp, oneLess, overList, run}
 use Rattle.rules.specs.declared.Code.{Code}
-use Rattle.rules.specs.declared.Code.the-variants.{Writes, Jump, Escape, Conditional, Separator, EndConditional, Iteration, EndIteration, Unknown}
+use Rattle.rules.specs.declared.Code.the-variants.{Writes, Jump, Escape, Opens, Separator, Closes, Unknown}
 use Rattle.rules.specs.declared.Directive.{Directive}
 use Rattle.rules.specs.declared.Form.{Form}
 use Rattle.rules.specs.declared.Item.{Item}

@@ -9,7 +9,7 @@ use Rattle.rules.specs.Table.{Value, boolean, integer, character, string, list,
 use Rattle.rules.specs.Text.{levelsAt}
 use Rattle.rules.specs.declared.Argument.{Argument}
 use Rattle.rules.specs.declared.Code.{Code}
-use Rattle.rules.specs.declared.Code.the-variants.{Writes, Jump, Escape, Conditional, Separator, EndConditional, Iteration, EndIteration, Unknown}
+use Rattle.rules.specs.declared.Code.the-variants.{Writes, Jump, Escape, Opens, Separator, Closes, Unknown}
 use Rattle.rules.specs.declared.Item.{Item}
 use Rattle.rules.specs.declared.Item.the-variants.{End, Literal, Written, BadNumber, Unfinished}
 use Rattle.working.specs.declared.Hand.{Hand}

@@ -14,7 +14,7 @@ use Rattle.rules.specs.Choice.{both}
 use Rattle.rules.specs.Directive.{Reading, start as starting, whole, modifiers, scan, blank, having, closed, pending, withParameter, noParameters, isDigit, codeNamed, codeOf, itemAt, wellWritten}
 use Rattle.rules.specs.Text.{Block, directiveMet, verdictAt}
 use Rattle.rules.specs.declared.Code.{Code}
-use Rattle.rules.specs.declared.Code.the-variants.{Writes, Jump, Escape, Conditional, Separator, EndConditional, Iteration, EndIteration, Unknown}
+use Rattle.rules.specs.declared.Code.the-variants.{Writes, Jump, Escape, Opens, Separator, Closes, Unknown}
 use Rattle.rules.specs.declared.Directive.{Directive}
 use Rattle.rules.specs.declared.Form.{Form}
 use Rattle.rules.specs.declared.Form.the-variants.{Object, Numeral, Glyph, Plural, Repeat, Fold}

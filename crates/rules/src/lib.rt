@@ -37,23 +37,27 @@ pub enum Form {
     Fold,
 }
 
-// What the code of a directive stands for.
+// What a block is.
+pub enum Bracket {
+    // ~[ ~]
+    Conditional,
+    // ~{ ~}
+    Iteration,
+}
+
+// The role of a directive, by its code.
 pub enum Code {
     Writes(Form),
     // ~*
     Jump,
     // ~^
     Escape,
-    // ~[
-    Conditional,
+    // ~[ ~{
+    Opens(Bracket),
     // ~;
     Separator,
-    // ~]
-    EndConditional,
-    // ~{
-    Iteration,
-    // ~}
-    EndIteration,
+    // ~] ~}
+    Closes(Bracket),
     // any other byte
     Unknown,
 }
@@ -63,7 +67,7 @@ pub enum Parameter {
     // nothing is written
     Default,
     // 0 to 4,096
-    Number(usize),
+    Number(u16),
     // ' and a byte
     Character(u8),
     // v, which takes the next argument

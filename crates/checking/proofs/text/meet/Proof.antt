@@ -1,7 +1,7 @@
 -- `meet` meets its contract, code by code. Assumes nothing.
 use mathlib.Core.Path.{refl}
 use borrow.Author.Needs.{needs}
-use Rattle.rules.specs.declared.Code.the-variants.{Writes, Jump, Escape, Conditional, Separator, EndConditional, Iteration, EndIteration, Unknown}
+use Rattle.rules.specs.declared.Code.the-variants.{Writes, Jump, Escape, Opens, Separator, Closes, Unknown}
 use Rattle.checking.proofs.CheckLaws.{met-by, met-plain}
 use Rattle.checking.specs.Checks.{metOf}
 use Rattle.checking.proofs.text.meet.Statement.{statement}
