@@ -11,7 +11,9 @@ use lib.Dec.{ltb}
 use lib.ListN.{length}
 use borrow.Author.Tests.{lt-ltb, le-ltb, ltb-true}
 use Rattle.rules.specs.Directive.{itemAt, wellWritten}
-use Rattle.rules.specs.Text.{Block, opened, opensConditional, maySeparate, rightCount, hasBody, provided, deepest, directiveMet, atEnd, verdictAt, longest, textVerdict}
+use Rattle.rules.specs.Text.{Block, opened, opensConditional, maySeparate, rightCount, hasBody, isCloserOf, isWhole, provided, deepest, directiveMet, atEnd, verdictAt, longest, textVerdict}
+use Rattle.rules.specs.declared.Bracket.{Bracket}
+use Rattle.rules.specs.declared.Bracket.the-variants.{Conditional, Iteration}
 use Rattle.rules.specs.declared.Code.{Code}
 use Rattle.rules.specs.declared.Code.the-variants.{Writes, Jump, Escape, Opens, Separator, Closes, Unknown}
 use Rattle.rules.specs.declared.Directive.{Directive}
@@ -22,11 +24,11 @@ use Rattle.rules.proofs.TextLaws.{Within, stands, next-inside, verdict-end, ver
 use Rattle.checking.specs.declared.text.Around.{Around}
 use Rattle.checking.specs.declared.text.Around.the-variants.{Top, Inside}
 use Rattle.checking.specs.declared.text.Met.{Met}
-use Rattle.checking.specs.declared.text.Met.the-variants.{Wrong, Stays, Opens, Parts, Closes}
+use Rattle.checking.specs.declared.text.Met.the-variants.{Wrong, Stays, Enters, Parts, Leaves}
 use Rattle.checking.specs.declared.text.Checked.{Checked}
 use Rattle.checking.specs.declared.text.Checked.the-variants.{Ended, Closed}
 use Rattle.reader.specs.Shorts.{Skips}
-use Rattle.checking.specs.Checks.{blockOf, blocks, unless, metPlain, metOpener, metSeparator, metEndConditional, metEndIteration, metOf, onward, Room, Goes, Checks}
+use Rattle.checking.specs.Checks.{blockOf, blocks, unless, metPlain, metOpener, metSeparator, metCloser, metOf, onward, Room, Goes, Checks}
 
 -- 1. What a directive does, as the definition has it.
 
@@ -34,9 +36,9 @@ use Rattle.checking.specs.Checks.{blockOf, blocks, unless, metPlain, met
 abbrev afterMet : ℕ → Directive → Around → ℕ → Bool → List Block → (List Block → Verdict) → Met → Verdict
 afterMet p d a n f os on (Wrong code q) = Refused code q
 afterMet p d a n f os on Stays = on (blocks a n f os)
-afterMet p d a n f os on Opens = on (opened p d ∷ blocks a n f os)
+afterMet p d a n f os on Enters = on (opened p d ∷ blocks a n f os)
 afterMet p d a n f os on Parts = on (blocks a (n + 1) (d .colon) os)
-afterMet p d a n f os on Closes = on os
+afterMet p d a n f os on Leaves = on os
 
 room-same : (l room : ℕ) → l + room ≡ deepest → ltb l deepest ≡ ltb 0 room
 room-same l room h = by (decLt 0 room)
@@ -64,18 +66,18 @@ module _ (p : ℕ) (d : Directive) (a : Around) (n : ℕ) (f : Bool) (os : List 
 
   three-is : (x y z : Bool) (q : ℕ)
       → provided x 4 p (λ _. provided y 4 q (λ _. provided z 5 p (λ _. on os)))
-      ≡ afterMet p d a n f os on (unless x 4 p (unless y 4 q (unless z 5 p Closes)))
+      ≡ afterMet p d a n f os on (unless x 4 p (unless y 4 q (unless z 5 p Leaves)))
   three-is x y z q =
-      unless-is x 4 p (unless y 4 q (unless z 5 p Closes)) (provided y 4 q (λ _. provided z 5 p (λ _. on os)))
-      (unless-is y 4 q (unless z 5 p Closes) (provided z 5 p (λ _. on os))
-      (unless-is z 5 p Closes (on os) refl))
+      unless-is x 4 p (unless y 4 q (unless z 5 p Leaves)) (provided y 4 q (λ _. provided z 5 p (λ _. on os)))
+      (unless-is y 4 q (unless z 5 p Leaves) (provided z 5 p (λ _. on os))
+      (unless-is z 5 p Leaves (on os) refl))
 
   opener-is : (room : ℕ) → Room a os room
       → provided (ltb (length (blocks a n f os)) deepest) 4 p (λ _. provided (wellWritten d) 5 p (λ _. on (opened p d ∷ blocks a n f os)))
       ≡ afterMet p d a n f os on (metOpener p d room)
   opener-is room h =
       rw (depth-same a n f os, room-same (length (blocks a 0 false os)) room (h .is))
-      (two-is (ltb 0 room) (wellWritten d) Opens (on (opened p d ∷ blocks a n f os)) refl)
+      (two-is (ltb 0 room) (wellWritten d) Enters (on (opened p d ∷ blocks a n f os)) refl)
 
 met-is : (p : ℕ) (d : Directive) (c : Code) (room : ℕ) (a : Around) (n : ℕ) (f : Bool) (os : List Block) (on : List Block → Verdict) → Room a os room
     → directiveMet p d c (blocks a n f os) on ≡ afterMet p d a n f os on (metOf p d c room a n f)
@@ -83,19 +85,17 @@ unfolding directiveMet metOf
 met-is p d (Writes x) room a n f os on h = plain-is p d a n f os on
 met-is p d Jump room a n f os on h = plain-is p d a n f os on
 met-is p d Escape room a n f os on h = plain-is p d a n f os on
-met-is p d Conditional room a n f os on h = opener-is p d a n f os on room h
-met-is p d Iteration room a n f os on h = opener-is p d a n f os on room h
+met-is p d (Opens b) room a n f os on h = opener-is p d a n f os on room h
 met-is p d Unknown room a n f os on h = refl
 met-is p d Separator room Top n f os on h = refl
 met-is p d Separator room (Inside q o) n f os on h =
     two-is p d (Inside q o) n f os on (maySeparate (blockOf q o 0 f) d) (wellWritten d) Parts
     (on (blockOf q o (suc n) (d .colon) ∷ os)) (ap (λ (x : ℕ). on (blockOf q o x (d .colon) ∷ os)) (sym (add-one n)))
-met-is p d EndConditional room Top n f os on h = refl
-met-is p d EndConditional room (Inside q o) n f os on h =
+met-is p d (Closes b) room Top n f os on h = refl
+met-is p d (Closes Conditional) room (Inside q o) n f os on h =
     three-is p d (Inside q o) n f os on (opensConditional (o .code)) (rightCount (blockOf q o n false)) (wellWritten d) q
-met-is p d EndIteration room Top n f os on h = refl
-met-is p d EndIteration room (Inside q o) n f os on h =
-    three-is p d (Inside q o) n f os on (not (opensConditional (o .code))) (hasBody (blockOf q o 0 false) p) (wellWritten d) q
+met-is p d (Closes Iteration) room (Inside q o) n f os on h =
+    three-is p d (Inside q o) n f os on (not (opensConditional (o .code))) (hasBody (blockOf q o n false) p) (wellWritten d) q
 
 -- what a directive of a known code does
 module _ (p : ℕ) (d : Directive) (room : ℕ) (a : Around) (n : ℕ) (f : Bool) (c : Code) (k : d .code ≡ c) (r : Met) where
@@ -113,42 +113,36 @@ ClosesIn (Inside q o) = Unit
 abbrev Allowed : Around → ℕ → Met → Type 0
 Allowed a room (Wrong code q) = Unit
 Allowed a room Stays = Unit
-Allowed a room Opens = 0 < room
+Allowed a room Enters = 0 < room
 Allowed a room Parts = Unit
-Allowed a room Closes = ClosesIn a
+Allowed a room Leaves = ClosesIn a
 
 unless-allowed : (a : Around) (room : ℕ) (y : Bool) (code q : ℕ) (m : Met) → (y ≡ true → Allowed a room m) → Allowed a room (unless y code q m)
 unless-allowed a room true code q m e = e refl
 unless-allowed a room false code q m e = tt
 
-closes-allowed : (q : ℕ) (o : Directive) (room : ℕ) (x y z : Bool) (p : ℕ) → Allowed (Inside q o) room (unless x 4 p (unless y 4 q (unless z 5 p Closes)))
+closes-allowed : (q : ℕ) (o : Directive) (room : ℕ) (x y z : Bool) (p : ℕ) → Allowed (Inside q o) room (unless x 4 p (unless y 4 q (unless z 5 p Leaves)))
 closes-allowed q o room x y z p =
-    unless-allowed (Inside q o) room x 4 p (unless y 4 q (unless z 5 p Closes))
-    (λ _. unless-allowed (Inside q o) room y 4 q (unless z 5 p Closes)
-    (λ _. unless-allowed (Inside q o) room z 5 p Closes (λ _. tt)))
+    unless-allowed (Inside q o) room x 4 p (unless y 4 q (unless z 5 p Leaves))
+    (λ _. unless-allowed (Inside q o) room y 4 q (unless z 5 p Leaves)
+    (λ _. unless-allowed (Inside q o) room z 5 p Leaves (λ _. tt)))
 
 allowed : (p : ℕ) (d : Directive) (c : Code) (room : ℕ) (a : Around) (n : ℕ) (f : Bool) → Allowed a room (metOf p d c room a n f)
 unfolding metOf
 allowed p d (Writes x) room a n f = unless-allowed a room (wellWritten d) 5 p Stays (λ _. tt)
 allowed p d Jump room a n f = unless-allowed a room (wellWritten d) 5 p Stays (λ _. tt)
 allowed p d Escape room a n f = unless-allowed a room (wellWritten d) 5 p Stays (λ _. tt)
-allowed p d Conditional room a n f =
-    unless-allowed a room (ltb 0 room) 4 p (unless (wellWritten d) 5 p Opens)
-    (λ y. unless-allowed a room (wellWritten d) 5 p Opens (λ _. ltb-true 0 room y))
-allowed p d Iteration room a n f =
-    unless-allowed a room (ltb 0 room) 4 p (unless (wellWritten d) 5 p Opens)
-    (λ y. unless-allowed a room (wellWritten d) 5 p Opens (λ _. ltb-true 0 room y))
+allowed p d (Opens b) room a n f =
+    unless-allowed a room (ltb 0 room) 4 p (unless (wellWritten d) 5 p Enters)
+    (λ y. unless-allowed a room (wellWritten d) 5 p Enters (λ _. ltb-true 0 room y))
 allowed p d Unknown room a n f = tt
 allowed p d Separator room Top n f = tt
 allowed p d Separator room (Inside q o) n f =
     unless-allowed (Inside q o) room (maySeparate (blockOf q o 0 f) d) 4 p (unless (wellWritten d) 5 p Parts)
     (λ _. unless-allowed (Inside q o) room (wellWritten d) 5 p Parts (λ _. tt))
-allowed p d EndConditional room Top n f = tt
-allowed p d EndConditional room (Inside q o) n f =
-    closes-allowed q o room (opensConditional (o .code)) (rightCount (blockOf q o n false)) (wellWritten d) p
-allowed p d EndIteration room Top n f = tt
-allowed p d EndIteration room (Inside q o) n f =
-    closes-allowed q o room (not (opensConditional (o .code))) (hasBody (blockOf q o 0 false) p) (wellWritten d) p
+allowed p d (Closes b) room Top n f = tt
+allowed p d (Closes b) room (Inside q o) n f =
+    closes-allowed q o room (isCloserOf b (blockOf q o n false)) (isWhole b (blockOf q o n false) p) (wellWritten d) p
 
 -- 2. One item more.
 
@@ -215,14 +209,14 @@ module _ {t : List ℕ} {start room : ℕ} {a : Around} {p n : ℕ} {f : Bool} (
         let w = next-inside t p d e in
         record { same = did Parts h; from = omega (arith, k .from); few = omega (arith, k .few) }
 
-    pub check-closes : metOf p d (d .code) room a n f ≡ Closes → Checks t start room a (Closed (d .next))
-    check-closes h = record { same = did Closes h; goes = goes a (subst (Allowed a room) h (allowed p d (d .code) room a n f)) }
+    pub check-closes : metOf p d (d .code) room a n f ≡ Leaves → Checks t start room a (Closed (d .next))
+    check-closes h = record { same = did Leaves h; goes = goes a (subst (Allowed a room) h (allowed p d (d .code) room a n f)) }
       where
         goes : (a₂ : Around) → ClosesIn a₂ → Goes t start a₂ (Closed (d .next))
         goes Top c = absurd c
         goes (Inside q o) c = let w = next-inside t p d e in (omega (arith, k .from), w .most)
 
-    module _ (h : metOf p d (d .code) room a n f ≡ Opens) where
+    module _ (h : metOf p d (d .code) room a n f ≡ Enters) where
       pub check-room : 0 < room
       check-room = subst (Allowed a room) h (allowed p d (d .code) room a n f)
 
@@ -232,7 +226,7 @@ module _ {t : List ℕ} {start room : ℕ} {a : Around} {p n : ℕ} {f : Bool} (
       module _ {c : Checked} (i : Checks t (d .next) (room - 1) (Inside p d) c) where
         pub check-ended : {v : Verdict} → c ≡ Ended v → Checks t start room a (Ended v)
         check-ended g = record {
-          same = λ os r. did Opens h os r ∙ i .same (blocks a n f os) (less os r) ∙ ap (λ x. onward t x (blocks a n f os)) g;
+          same = λ os r. did Enters h os r ∙ i .same (blocks a n f os) (less os r) ∙ ap (λ x. onward t x (blocks a n f os)) g;
           goes = tt;
         }
 
@@ -244,7 +238,7 @@ module _ {t : List ℕ} {start room : ℕ} {a : Around} {p n : ℕ} {f : Bool} (
             let w = next-inside t p d e in
             let l = check-place g in
             record {
-              same = λ os r. did Opens h os r ∙ i .same (blocks a n f os) (less os r) ∙ ap (λ x. onward t x (blocks a n f os)) g;
+              same = λ os r. did Enters h os r ∙ i .same (blocks a n f os) (less os r) ∙ ap (λ x. onward t x (blocks a n f os)) g;
               from = omega (arith, k .from);
               few = omega (arith, k .few);
             }

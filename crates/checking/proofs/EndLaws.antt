@@ -9,6 +9,7 @@ use lib.ListN.{length, drop}
 use lib.Seq.{drop-nil}
 use Rattle.rules.specs.Directive.{itemAt}
 use Rattle.rules.specs.Text.{Sequence, end, acts, escapes, iterates, chooses, none, Level, innermost, outer, before, asClauses, levelsAt}
+use Rattle.rules.specs.declared.Bracket.the-variants.{Conditional, Iteration}
 use Rattle.rules.specs.declared.Code.{Code}
 use Rattle.rules.specs.declared.Code.the-variants.{Writes, Jump, Escape, Opens, Separator, Closes, Unknown}
 use Rattle.rules.specs.declared.Directive.{Directive}
@@ -51,13 +52,12 @@ shaped-code : (t : List ℕ) (p : ℕ) (d : Directive) → itemAt t p ≡ Writte
 shaped-code t p d e w (Writes f) k = record { with = acts p (Written d); is = levels-written t p d e (Writes f) k; place = w }
 shaped-code t p d e w Jump k = record { with = acts p (Written d); is = levels-written t p d e Jump k; place = w }
 shaped-code t p d e w Escape k = record { with = escapes p; is = levels-written t p d e Escape k; place = w }
-shaped-code t p d e w Conditional k =
-    record { with = chooses p d (asClauses false (levelsAt t (d .next))); is = levels-written t p d e Conditional k; place = w }
-shaped-code t p d e w Iteration k =
-    record { with = iterates p d (innermost (levelsAt t (d .next)) .rest); is = levels-written t p d e Iteration k; place = w }
+shaped-code t p d e w (Opens Conditional) k =
+    record { with = chooses p d (asClauses false (levelsAt t (d .next))); is = levels-written t p d e (Opens Conditional) k; place = w }
+shaped-code t p d e w (Opens Iteration) k =
+    record { with = iterates p d (innermost (levelsAt t (d .next)) .rest); is = levels-written t p d e (Opens Iteration) k; place = w }
 shaped-code t p d e w Separator k = record { is = levels-written t p d e Separator k; place = w }
-shaped-code t p d e w EndConditional k = record { is = levels-written t p d e EndConditional k; place = w }
-shaped-code t p d e w EndIteration k = record { is = levels-written t p d e EndIteration k; place = w }
+shaped-code t p d e w (Closes b) k = record { is = levels-written t p d e (Closes b) k; place = w }
 shaped-code t p d e w Unknown k = levels-written t p d e Unknown k
 
 shaped-item : (t : List ℕ) (p : ℕ) (i : Item) → itemAt t p ≡ i → Shaped t p (shapeOf p i)

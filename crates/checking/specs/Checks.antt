@@ -2,12 +2,13 @@
 -- Assumes nothing: these are definitions.
 use Prim.Native.Nat.{ℕ, _+_, _<_, _≤_}
 use mathlib.Core.Path.{_≡_}
-use mathlib.Core.Bool.{Bool, true, false, not}
+use mathlib.Core.Bool.{Bool, true, false}
 use mathlib.Core.List.{List, [], _∷_}
 use lib.Dec.{ltb}
 use lib.ListN.{length}
 use Rattle.rules.specs.Directive.{wellWritten}
-use Rattle.rules.specs.Text.{Block, opened, opensConditional, maySeparate, rightCount, hasBody, deepest, verdictAt}
+use Rattle.rules.specs.Text.{Block, opened, maySeparate, isCloserOf, isWhole, deepest, verdictAt}
+use Rattle.rules.specs.declared.Bracket.{Bracket}
 use Rattle.rules.specs.declared.Code.{Code}
 use Rattle.rules.specs.declared.Code.the-variants.{Writes, Jump, Escape, Opens, Separator, Closes, Unknown}
 use Rattle.rules.specs.declared.Directive.{Directive}
@@ -16,7 +17,7 @@ use Rattle.rules.specs.declared.Verdict.the-variants.{Refused}
 use Rattle.checking.specs.declared.text.Around.{Around}
 use Rattle.checking.specs.declared.text.Around.the-variants.{Top, Inside}
 use Rattle.checking.specs.declared.text.Met.{Met}
-use Rattle.checking.specs.declared.text.Met.the-variants.{Wrong, Stays, Opens, Parts, Closes}
+use Rattle.checking.specs.declared.text.Met.the-variants.{Wrong, Stays, Enters, Parts, Leaves}
 use Rattle.checking.specs.declared.text.Checked.{Checked}
 use Rattle.checking.specs.declared.text.Checked.the-variants.{Ended, Closed}
 
@@ -37,33 +38,25 @@ abbrev pub metPlain : ℕ → Directive → Met
 metPlain p d = unless (wellWritten d) 5 p Stays
 
 abbrev pub metOpener : ℕ → Directive → ℕ → Met
-metOpener p d room = unless (ltb 0 room) 4 p (unless (wellWritten d) 5 p Opens)
+metOpener p d room = unless (ltb 0 room) 4 p (unless (wellWritten d) 5 p Enters)
 
 abbrev pub metSeparator : ℕ → Directive → Around → Bool → Met
 metSeparator p d Top f = Wrong 4 p
 metSeparator p d (Inside q o) f = unless (maySeparate (blockOf q o 0 f) d) 4 p (unless (wellWritten d) 5 p Parts)
 
-abbrev pub metEndConditional : ℕ → Directive → Around → ℕ → Met
-metEndConditional p d Top n = Wrong 4 p
-metEndConditional p d (Inside q o) n =
-    unless (opensConditional (o .code)) 4 p
-    (unless (rightCount (blockOf q o n false)) 4 q (unless (wellWritten d) 5 p Closes))
-
-abbrev pub metEndIteration : ℕ → Directive → Around → Met
-metEndIteration p d Top = Wrong 4 p
-metEndIteration p d (Inside q o) =
-    unless (not (opensConditional (o .code))) 4 p
-    (unless (hasBody (blockOf q o 0 false) p) 4 q (unless (wellWritten d) 5 p Closes))
+abbrev pub metCloser : ℕ → Directive → Bracket → Around → ℕ → Met
+metCloser p d b Top n = Wrong 4 p
+metCloser p d b (Inside q o) n =
+    unless (isCloserOf b (blockOf q o n false)) 4 p
+    (unless (isWhole b (blockOf q o n false) p) 4 q (unless (wellWritten d) 5 p Leaves))
 
 unfoldable pub metOf : ℕ → Directive → Code → ℕ → Around → ℕ → Bool → Met
 metOf p d (Writes x) room a n f = metPlain p d
 metOf p d Jump room a n f = metPlain p d
 metOf p d Escape room a n f = metPlain p d
-metOf p d Conditional room a n f = metOpener p d room
+metOf p d (Opens b) room a n f = metOpener p d room
 metOf p d Separator room a n f = metSeparator p d a f
-metOf p d EndConditional room a n f = metEndConditional p d a n
-metOf p d Iteration room a n f = metOpener p d room
-metOf p d EndIteration room a n f = metEndIteration p d a
+metOf p d (Closes b) room a n f = metCloser p d b a n
 metOf p d Unknown room a n f = Wrong 3 p
 
 -- what follows the reading of a block that ended so, inside the other blocks

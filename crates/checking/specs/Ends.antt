@@ -19,11 +19,9 @@ abbrev pub shapeOfCode : Code → Bool → ℕ → Shape
 shapeOfCode (Writes f) colon next = Passes next
 shapeOfCode Jump colon next = Passes next
 shapeOfCode Escape colon next = Passes next
-shapeOfCode Conditional colon next = Begins next
+shapeOfCode (Opens b) colon next = Begins next
 shapeOfCode Separator colon next = Splits colon next
-shapeOfCode EndConditional colon next = Finishes next
-shapeOfCode Iteration colon next = Begins next
-shapeOfCode EndIteration colon next = Finishes next
+shapeOfCode (Closes b) colon next = Finishes next
 shapeOfCode Unknown colon next = Stops
 
 abbrev pub shapeOf : ℕ → Item → Shape

@@ -5,6 +5,7 @@ use fitting::places::is_well_written;
 use fitting::places::not;
 use reader::directive::item_at;
 use reader::short::skip_short;
+use rules::Bracket;
 use rules::Code;
 use rules::Directive;
 use rules::Item;
@@ -15,8 +16,8 @@ ghost use mathlib.Core.List.{[]};
 ghost use Prim.Native.Nat.{_≤_};
 ghost use lib.ListN.{length};
 ghost use Rattle.rules.specs.Directive.{itemAt};
-ghost use Rattle.rules.specs.Text.{opensConditional, maySeparate, rightCount, hasBody, atEnd, textVerdict};
-ghost use Rattle.checking.specs.Checks.{blockOf, blocks, unless, metOpener, metSeparator, metEndConditional, metEndIteration, metOf, Checks};
+ghost use Rattle.rules.specs.Text.{opensConditional, maySeparate, rightCount, hasBody, isCloserOf, isWhole, atEnd, textVerdict};
+ghost use Rattle.checking.specs.Checks.{blockOf, blocks, unless, metOpener, metSeparator, metCloser, metOf, Checks};
 ghost use Rattle.checking.specs.Ends.{shapeOfCode, shapeOf, AfterBlock, EndsClause};
 
 // The innermost open block: none, or the one that the directive opener opens at at.
@@ -29,9 +30,9 @@ enum Around {
 enum Met {
     Wrong { code: u32, position: usize },
     Stays,
-    Opens,
+    Enters,
     Parts,
-    Closes,
+    Leaves,
 }
 
 // How reading a block ends: the whole check ends, or the block is closed and the text goes on at a position.
@@ -56,11 +57,12 @@ fn is_conditional(code: Code) -> bool
         Code::Writes(_) => false,
         Code::Jump => false,
         Code::Escape => false,
-        Code::Conditional => true,
+        Code::Opens(bracket) => match bracket {
+            Bracket::Conditional => true,
+            Bracket::Iteration => false,
+        },
         Code::Separator => false,
-        Code::EndConditional => false,
-        Code::Iteration => false,
-        Code::EndIteration => false,
+        Code::Closes(_) => false,
         Code::Unknown => false,
     }
 }
@@ -95,7 +97,7 @@ fn has_body(opener: Directive, p: usize) -> bool
 fn meet_opener(p: usize, d: Directive, room: usize) -> Met
     ensures { λ r. ⌜ r ≡ metOpener p d room ⌝ }
 {
-    unless(0 < room, 4, p, unless(is_well_written(d), 5, p, Met::Opens))
+    unless(0 < room, 4, p, unless(is_well_written(d), 5, p, Met::Enters))
 }
 
 fn meet_separator(p: usize, d: Directive, around: Around, fallback: bool) -> Met
@@ -114,25 +116,29 @@ fn meet_separator(p: usize, d: Directive, around: Around, fallback: bool) -> Met
     }
 }
 
-fn meet_end_conditional(p: usize, d: Directive, around: Around, separators: usize) -> Met
-    ensures { λ r. ⌜ r ≡ metEndConditional p d around separators ⌝ }
+// Whether a closer is that of the block that opener opens.
+fn is_closer_of(bracket: Bracket, opener: Directive) -> bool
+    ensures { λ r. ⌜ r ≡ isCloserOf bracket (blockOf 0 opener 0 false) ⌝ }
 {
-    match around {
-        Around::Top => Met::Wrong {
-            code: 4,
-            position: p,
-        },
-        Around::Inside { at, opener } => {
-            let code = opener.code;
-            let right = is_right_count(opener, separators);
-            let closed = unless(is_well_written(d), 5, p, Met::Closes);
-            unless(is_conditional(code), 4, p, unless(right, 4, at, closed))
-        }
+    let code = opener.code;
+    match bracket {
+        Bracket::Conditional => is_conditional(code),
+        Bracket::Iteration => not(is_conditional(code)),
     }
 }
 
-fn meet_end_iteration(p: usize, d: Directive, around: Around) -> Met
-    ensures { λ r. ⌜ r ≡ metEndIteration p d around ⌝ }
+// Whether a block has what it must where its closer stands at p: the right count of clauses, or a body.
+fn is_whole(bracket: Bracket, opener: Directive, separators: usize, p: usize) -> bool
+    ensures { λ r. ⌜ r ≡ isWhole bracket (blockOf 0 opener separators false) p ⌝ }
+{
+    match bracket {
+        Bracket::Conditional => is_right_count(opener, separators),
+        Bracket::Iteration => has_body(opener, p),
+    }
+}
+
+fn meet_closer(p: usize, d: Directive, bracket: Bracket, around: Around, separators: usize) -> Met
+    ensures { λ r. ⌜ r ≡ metCloser p d bracket around separators ⌝ }
 {
     match around {
         Around::Top => Met::Wrong {
@@ -140,10 +146,10 @@ fn meet_end_iteration(p: usize, d: Directive, around: Around) -> Met
             position: p,
         },
         Around::Inside { at, opener } => {
-            let code = opener.code;
-            let full = has_body(opener, p);
-            let closed = unless(is_well_written(d), 5, p, Met::Closes);
-            unless(not(is_conditional(code)), 4, p, unless(full, 4, at, closed))
+            let own = is_closer_of(bracket, opener);
+            let whole = is_whole(bracket, opener, separators, p);
+            let closed = unless(is_well_written(d), 5, p, Met::Leaves);
+            unless(own, 4, p, unless(whole, 4, at, closed))
         }
     }
 }
@@ -164,11 +170,9 @@ fn meet(
         Code::Writes(_) => unless(is_well_written(d), 5, p, Met::Stays),
         Code::Jump => unless(is_well_written(d), 5, p, Met::Stays),
         Code::Escape => unless(is_well_written(d), 5, p, Met::Stays),
-        Code::Conditional => meet_opener(p, d, room),
+        Code::Opens(_) => meet_opener(p, d, room),
         Code::Separator => meet_separator(p, d, around, fallback),
-        Code::EndConditional => meet_end_conditional(p, d, around, separators),
-        Code::Iteration => meet_opener(p, d, room),
-        Code::EndIteration => meet_end_iteration(p, d, around),
+        Code::Closes(bracket) => meet_closer(p, d, bracket, around, separators),
         Code::Unknown => Met::Wrong {
             code: 3,
             position: p,
@@ -226,8 +230,8 @@ fn check_from(text: &[u8], start: usize, room: usize, around: Around) -> Checked
                         fallback = d.colon;
                         p = d.next;
                     }
-                    Met::Closes => return Checked::Closed(d.next),
-                    Met::Opens => {
+                    Met::Leaves => return Checked::Closed(d.next),
+                    Met::Enters => {
                         let r = check_from(
                             text,
                             d.next,
@@ -277,11 +281,9 @@ fn shape_of(code: Code, colon: bool, next: usize) -> Shape
         Code::Writes(_) => Shape::Passes(next),
         Code::Jump => Shape::Passes(next),
         Code::Escape => Shape::Passes(next),
-        Code::Conditional => Shape::Begins(next),
+        Code::Opens(_) => Shape::Begins(next),
         Code::Separator => Shape::Splits { colon, next },
-        Code::EndConditional => Shape::Finishes(next),
-        Code::Iteration => Shape::Begins(next),
-        Code::EndIteration => Shape::Finishes(next),
+        Code::Closes(_) => Shape::Finishes(next),
         Code::Unknown => Shape::Stops,
     }
 }

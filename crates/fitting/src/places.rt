@@ -1,4 +1,5 @@
 // Which parameters and modifiers a directive takes.
+use rules::Bracket;
 use rules::Code;
 use rules::Directive;
 use rules::Form;
@@ -9,7 +10,8 @@ ghost use mathlib.Core.List.{[], _∷_};
 ghost use mathlib.Core.Bool.{not, cond};
 ghost use lib.Dec.{leb};
 ghost use Rattle.rules.specs.Choice.{both};
-ghost use Rattle.rules.specs.Directive.{either, suits, number, character, anyNumber, countingNumber, fitInto, formPlaces, formTakes, wellWritten};
+ghost use Rattle.rules.specs.Directive.{either, suits, number, character, anyNumber, countingNumber, fitInto, formPlaces, formTakes, placesOf, takes, wellWritten};
+ghost use Rattle.rules.specs.declared.Code.the-variants.{Opens};
 
 pub fn both(a: bool, b: bool) -> bool
     ensures { λ r. ⌜ r ≡ both a b ⌝ }
@@ -29,12 +31,19 @@ pub fn not(a: bool) -> bool
     if a { false } else { true }
 }
 
+fn within(n: u16, least: usize, most: usize) -> bool
+    ensures { λ r. ⌜ r ≡ both (leb least n) (leb n most) ⌝ }
+{
+    let wide = n as usize;
+    both(least <= wide, wide <= most)
+}
+
 fn suits_number(x: Parameter, least: usize, most: usize) -> bool
     ensures { λ r. ⌜ r ≡ suits (number least most) x ⌝ }
 {
     match x {
         Parameter::Default => true,
-        Parameter::Number(n) => both(least <= n, n <= most),
+        Parameter::Number(n) => within(n, least, most),
         Parameter::Character(_) => false,
         Parameter::Next => true,
         Parameter::Remaining => true,
@@ -118,6 +127,18 @@ fn fits_conditional(modified: bool, ps: Parameters) -> bool
     fits_number(ps, 4096)
 }
 
+fn is_opener_well_written(bracket: Bracket, colon: bool, at: bool, ps: Parameters) -> bool
+    ensures { λ r. ⌜ r ≡ both (takes (Opens bracket) colon at) (fitInto (placesOf (Opens bracket) (either colon at)) ps) ⌝ }
+{
+    match bracket {
+        Bracket::Conditional => both(
+            not(both(colon, at)),
+            fits_conditional(either(colon, at), ps),
+        ),
+        Bracket::Iteration => both(not(colon), fits_number(ps, 4096)),
+    }
+}
+
 // No parameter or modifier is wrong.
 pub fn is_well_written(d: Directive) -> bool
     ensures { λ r. ⌜ r ≡ wellWritten d ⌝ }
@@ -130,14 +151,9 @@ pub fn is_well_written(d: Directive) -> bool
         Code::Writes(f) => is_form_well_written(f, colon, at, ps),
         Code::Jump => both(not(both(colon, at)), fits_number(ps, 4096)),
         Code::Escape => both(not(either(colon, at)), fits_none(ps)),
-        Code::Conditional => both(
-            not(both(colon, at)),
-            fits_conditional(either(colon, at), ps),
-        ),
+        Code::Opens(bracket) => is_opener_well_written(bracket, colon, at, ps),
         Code::Separator => both(not(at), fits_none(ps)),
-        Code::EndConditional => both(not(either(colon, at)), fits_none(ps)),
-        Code::Iteration => both(not(colon), fits_number(ps, 4096)),
-        Code::EndIteration => both(not(either(colon, at)), fits_none(ps)),
+        Code::Closes(_) => both(not(either(colon, at)), fits_none(ps)),
         Code::Unknown => fits_none(ps),
     }
 }

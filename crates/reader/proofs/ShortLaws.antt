@@ -67,11 +67,9 @@ abbrev writes : Code → ℕ
 writes (Writes f) = 1
 writes Jump = 0
 writes Escape = 0
-writes Conditional = 0
+writes (Opens b) = 0
 writes Separator = 0
-writes EndConditional = 0
-writes Iteration = 0
-writes EndIteration = 0
+writes (Closes b) = 0
 writes Unknown = 0
 
 module _ (b : ℕ) (f : Form) (e : codeOf b ≡ Writes f) where

@@ -8,8 +8,7 @@ use denote.Enum.Declared.{tagOf}
 use types.Run.{OneOf, miss}
 use Rattle.rules.specs.Directive.{blanks, folds, skips}
 use Rattle.rules.specs.declared.Code.{Code}
-use Rattle.rules.specs.declared.Code.the-variants.{Writes, Jump, Escape, Conditional, Separator, EndConditional}
-use Rattle.rules.specs.declared.Code.the-variants.{Iteration, EndIteration, Unknown}
+use Rattle.rules.specs.declared.Code.the-variants.{Writes, Jump, Escape, Opens, Separator, Closes, Unknown}
 use Rattle.rules.specs.declared.Form.{Form}
 use Rattle.rules.specs.declared.Form.the-variants.{Object, Numeral, Glyph, Plural, Repeat, Fold}
 use Rattle.rules.proofs.Code as code-declared
@@ -21,7 +20,7 @@ abbrev others-of-form : List ℕ
 others-of-form = 0 ∷ 1 ∷ 2 ∷ 3 ∷ 4 ∷ []
 
 abbrev others-of-code : List ℕ
-others-of-code = 1 ∷ 2 ∷ 3 ∷ 4 ∷ 5 ∷ 6 ∷ 7 ∷ 8 ∷ []
+others-of-code = 1 ∷ 2 ∷ 3 ∷ 4 ∷ 5 ∷ 6 ∷ []
 
 no-fold : (f : Form) → OneOf others-of-form (tagOf form-declared.the-type f) → folds f ≡ false
 no-fold (Object q) o = refl
@@ -35,11 +34,9 @@ no-writes : (c : Code) (colon : Bool) → OneOf others-of-code (tagOf code-decla
 no-writes (Writes f) colon o = absurd (miss others-of-code 0 tt o)
 no-writes Jump colon o = refl
 no-writes Escape colon o = refl
-no-writes Conditional colon o = refl
+no-writes (Opens b) colon o = refl
 no-writes Separator colon o = refl
-no-writes EndConditional colon o = refl
-no-writes Iteration colon o = refl
-no-writes EndIteration colon o = refl
+no-writes (Closes b) colon o = refl
 no-writes Unknown colon o = refl
 
 module _ (c : Code) (colon : Bool) (bs : List ℕ) (i : ℕ) where

@@ -1,4 +1,5 @@
 // The code of a directive, and the parameters and modifiers that it takes.
+use rules::Bracket;
 use rules::Code;
 use rules::Form;
 ghost use mathlib.Core.Path.{_≡_};
@@ -35,11 +36,11 @@ fn code_named(b: u8) -> Code
         124 => Code::Writes(Form::Repeat(12)),
         47 => Code::Writes(Form::Repeat(9)),
         10 => Code::Writes(Form::Fold),
-        91 => Code::Conditional,
+        91 => Code::Opens(Bracket::Conditional),
         59 => Code::Separator,
-        93 => Code::EndConditional,
-        123 => Code::Iteration,
-        125 => Code::EndIteration,
+        93 => Code::Closes(Bracket::Conditional),
+        123 => Code::Opens(Bracket::Iteration),
+        125 => Code::Closes(Bracket::Iteration),
         94 => Code::Escape,
         _ => Code::Unknown,
     }

@@ -15,7 +15,7 @@ ghost use Rattle.rules.specs.Choice.{both};
 ghost use Rattle.rules.specs.Directive.{withParameter, noParameters, isDigit, isBlank, blanks, blank, having, closed};
 ghost use Rattle.rules.specs.Directive.{scan, start as starting, modifiers, itemAt};
 ghost use Rattle.reader.specs.declared.directive.ParameterRead.the-variants.{Whole};
-ghost use Rattle.reader.specs.Scans.{digitAt, commaAt, greatestOf, Numbers, numberParameter, Parametrises};
+ghost use Rattle.reader.specs.Scans.{digitAt, commaAt, greatestOf, Few, Numbers, numberParameter, Parametrises};
 ghost use Rattle.reader.specs.Scans.{reading, skippedBy};
 
 // A number that is read: its value and the position after it, or a number that is refused.
@@ -144,11 +144,15 @@ fn written_parameter(x: Parameter, next: usize) -> ParameterRead
 
 // A number as a parameter.
 fn number_parameter(r: NumberRead) -> ParameterRead
+    requires { ⌜ Few r ⌝ }
     ensures { λ x. ⌜ x ≡ numberParameter r ⌝ }
 {
     match r {
         NumberRead::Bad => ParameterRead::Bad,
-        NumberRead::Whole { value, next } => written_parameter(Parameter::Number(value), next),
+        NumberRead::Whole { value, next } => {
+            let small = value as u16;
+            written_parameter(Parameter::Number(small), next)
+        }
     }
 }
 

@@ -3,6 +3,7 @@ use numbers::is_negative;
 use numbers::magnitude;
 use rules::Argument;
 use rules::ArgumentPosition;
+use rules::Bracket;
 use rules::Code;
 use rules::Directive;
 use rules::EntryIndex;
@@ -390,6 +391,21 @@ fn settle_form(
     }
 }
 
+// Whether an opener has a place for a number: ~[ only without a modifier.
+fn has_number(bracket: Bracket, colon: bool, at: bool) -> bool
+    ensures { λ r. ⌜ placesOf (Opens bracket) (either colon at) ≡ cond r (anyNumber ∷ []) [] ⌝ }
+{
+    match bracket {
+        Bracket::Conditional => {
+            if colon {
+                return false;
+            }
+            !at
+        }
+        Bracket::Iteration => true,
+    }
+}
+
 // The parameters of a directive, worked out left to right by the places of its code.
 pub fn settle_directive(
     table: &[u8],
@@ -407,19 +423,14 @@ pub fn settle_directive(
         Code::Writes(form) => settle_form(table, hand, form, ps, next),
         Code::Jump => settle_number(table, hand, ps, MOST_NUMBER, next),
         Code::Escape => settle_none(next),
-        Code::Conditional => {
-            if d.colon {
-                return settle_none(next);
+        Code::Opens(bracket) => {
+            if has_number(bracket, d.colon, d.at) {
+                return settle_number(table, hand, ps, MOST_NUMBER, next);
             }
-            if d.at {
-                return settle_none(next);
-            }
-            settle_number(table, hand, ps, MOST_NUMBER, next)
+            settle_none(next)
         }
         Code::Separator => settle_none(next),
-        Code::EndConditional => settle_none(next),
-        Code::Iteration => settle_number(table, hand, ps, MOST_NUMBER, next),
-        Code::EndIteration => settle_none(next),
+        Code::Closes(_) => settle_none(next),
         Code::Unknown => settle_none(next),
     }
 }

@@ -9,8 +9,8 @@ enum-told c = search needs
 enum-known-x : tie.Need-enum-known-x
 enum-known-x c = search needs
 
-both-requires : tie.Need-both-requires
-both-requires c κs = search needs
+within-requires : tie.Need-within-requires
+within-requires c κs = search needs
 
 enum-told-2 : tie.Need-enum-told-2
 enum-told-2 c = search needs
@@ -25,7 +25,7 @@ returns : tie.Need-returns
 returns c = search needs
 
 returns-2 : tie.Need-returns-2
-returns-2 c = rw (c .before .before .x .given .1) (c .both .ensures)
+returns-2 c = rw (c .before .before .x .given .1) (c .within .ensures)
 
 returns-3 : tie.Need-returns-3
 returns-3 c = search needs
@@ -42,7 +42,7 @@ suits-number-spec =
     (tie.spec
     enum-told
     enum-known-x
-    both-requires
+    within-requires
     enum-told-2
     enum-told-3
     enum-told-4

@@ -1,4 +1,5 @@
 -- `reader::directive::number_parameter` meets its contract. Assumes nothing.
+use native.Mathlib.Omega.{arith}
 use borrow.Author.Needs.{needs}
 use Rattle.reader.proofs.directive.number_parameter.Statement.{statement}
 use Rattle.reader.proofs.directive.number_parameter.Tie as tie
@@ -8,6 +9,11 @@ enum-told c = search needs
 
 enum-known-r : tie.Need-enum-known-r
 enum-known-r c = search needs
+
+cast-small : tie.Need-cast-small
+cast-small c =
+    let few = rw (c .before .r .given .1) at (c .before .before .before .pre) in
+    record { fits = omega (arith, few) }
 
 written-parameter-requires : tie.Need-written-parameter-requires
 written-parameter-requires c κs = search needs
@@ -22,4 +28,4 @@ returns-2 c =
 
 pub number-parameter-spec : {M : Type 1} → statement M
 number-parameter-spec =
-    tie.close (tie.spec enum-told enum-known-r written-parameter-requires returns returns-2)
+    tie.close (tie.spec enum-told enum-known-r cast-small written-parameter-requires returns returns-2)

@@ -26,7 +26,7 @@ read-number-requires : tie.Need-read-number-requires
 read-number-requires c κs = search needs
 
 number-parameter-requires : tie.Need-number-parameter-requires
-number-parameter-requires c κs = search needs
+number-parameter-requires c κs = c .read-number .ensures .few
 
 returns-2 : tie.Need-returns-2
 returns-2 c =
@@ -48,13 +48,13 @@ read-number-requires-2 : tie.Need-read-number-requires-2
 read-number-requires-2 c κs = search needs
 
 number-parameter-requires-2 : tie.Need-number-parameter-requires-2
-number-parameter-requires-2 c κs = search needs
+number-parameter-requires-2 c κs = c .read-number2 .ensures .few
 
 read-number-requires-3 : tie.Need-read-number-requires-3
 read-number-requires-3 c κs = search needs
 
 number-parameter-requires-3 : tie.Need-number-parameter-requires-3
-number-parameter-requires-3 c κs = search needs
+number-parameter-requires-3 c κs = c .read-number3 .ensures .few
 
 shared-slice-read-t17 : tie.Need-shared-slice-read-t17
 shared-slice-read-t17 c = search needs
