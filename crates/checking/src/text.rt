@@ -13,7 +13,7 @@ use rules::Verdict;
 ghost use mathlib.Core.Path.{_≡_};
 ghost use mathlib.Core.Bool.{false};
 ghost use mathlib.Core.List.{[]};
-ghost use Prim.Native.Nat.{_≤_};
+ghost use Prim.Native.Nat.{ℕ, _≤_};
 ghost use lib.ListN.{length};
 ghost use Rattle.rules.specs.Directive.{itemAt};
 ghost use Rattle.rules.specs.Text.{opensConditional, maySeparate, rightCount, hasBody, isCloserOf, isWhole, atEnd, textVerdict};
@@ -118,7 +118,7 @@ fn meet_separator(p: usize, d: Directive, around: Around, fallback: bool) -> Met
 
 // Whether a closer is that of the block that opener opens.
 fn is_closer_of(bracket: Bracket, opener: Directive) -> bool
-    ensures { λ r. ⌜ r ≡ isCloserOf bracket (blockOf 0 opener 0 false) ⌝ }
+    ensures { λ r. ⌜ ((q n : ℕ) → r ≡ isCloserOf bracket (blockOf q opener n false)) ⌝ }
 {
     let code = opener.code;
     match bracket {
@@ -129,7 +129,7 @@ fn is_closer_of(bracket: Bracket, opener: Directive) -> bool
 
 // Whether a block has what it must where its closer stands at p: the right count of clauses, or a body.
 fn is_whole(bracket: Bracket, opener: Directive, separators: usize, p: usize) -> bool
-    ensures { λ r. ⌜ r ≡ isWhole bracket (blockOf 0 opener separators false) p ⌝ }
+    ensures { λ r. ⌜ ((q : ℕ) → r ≡ isWhole bracket (blockOf q opener separators false) p) ⌝ }
 {
     match bracket {
         Bracket::Conditional => is_right_count(opener, separators),

@@ -5,7 +5,8 @@ use mathlib.Core.Bool.{Bool, true, false, cond}
 use mathlib.Core.List.{List, [], _∷_}
 use Rattle.rules.specs.Directive.{number, character, anyNumber, formPlaces, either, wellWritten}
 use Rattle.rules.specs.declared.ArgumentPosition.{ArgumentPosition}
-use Rattle.rules.specs.declared.Code.the-variants.{Writes, Jump, Conditional, Iteration}
+use Rattle.rules.specs.declared.Bracket.the-variants.{Conditional, Iteration}
+use Rattle.rules.specs.declared.Code.the-variants.{Writes, Jump, Opens}
 use Rattle.rules.specs.declared.Directive.{Directive}
 use Rattle.rules.specs.declared.Form.{Form}
 use Rattle.rules.specs.declared.Setting.{Setting}
@@ -39,8 +40,8 @@ module _ {t : List ℕ} {hand : Hand} {d : Directive} {n : ℕ} {r : SettledOut}
   pub jump-in-range : d .code ≡ Jump → InPlace anyNumber (s .first)
   jump-in-range is = let all : InRange (anyNumber ∷ []) s = rw is at directive-in-range in all .first
 
-  pub iteration-in-range : d .code ≡ Iteration → InPlace anyNumber (s .first)
+  pub iteration-in-range : d .code ≡ Opens Iteration → InPlace anyNumber (s .first)
   iteration-in-range is = let all : InRange (anyNumber ∷ []) s = rw is at directive-in-range in all .first
 
-  pub conditional-in-range : d .code ≡ Conditional → InPlace anyNumber (s .first)
+  pub conditional-in-range : d .code ≡ Opens Conditional → InPlace anyNumber (s .first)
   conditional-in-range is = conditional-first (either (d .colon) (d .at)) s (rw is at directive-in-range)

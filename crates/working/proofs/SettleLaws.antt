@@ -1,14 +1,16 @@
 -- Parameters worked out in places, from what each of them is worked out to. Assumes nothing.
 use Prim.Native.Nat.{ℕ, _≤_}
 use mathlib.Core.Path.{_≡_, refl, sym, _∙_}
-use mathlib.Core.Bool.{true}
+use mathlib.Core.Bool.{Bool, true, false, cond, not}
 use mathlib.Core.List.{List, [], _∷_}
 use lib.Dec.{leb}
 use lib.ListN.{length}
 use Rattle.rules.specs.Table.{View, viewOf}
-use Rattle.rules.specs.Directive.{Place, takes, suits, inOrder, eachSuits, fitInto, wellWritten}
+use Rattle.rules.specs.Directive.{Place, anyNumber, placesOf, either, takes, suits, inOrder, eachSuits, fitInto, wellWritten}
 use Rattle.rules.specs.Working.{worked, wrong, workOut, settle}
 use Rattle.rules.specs.declared.ArgumentPosition.{ArgumentPosition}
+use Rattle.rules.specs.declared.Bracket.{Bracket}
+use Rattle.rules.specs.declared.Code.the-variants.{Opens}
 use Rattle.rules.specs.declared.Directive.{Directive}
 use Rattle.rules.specs.declared.Parameter.{Parameter}
 use Rattle.rules.specs.declared.Parameter.the-variants.{Default, Number, Character, Next, Remaining}
@@ -127,3 +129,13 @@ pub directive-settled : {t : List ℕ} {hand : Hand} {n : ℕ} {r : SettledOut} 
 directive-settled {t} {hand} {n} {r} {d} e s =
     let own : Settles t hand (placesIn d) (d .parameters) n r = rw e s in
     record { as-defined = own .as-defined; reaches = own .reaches; lies = λ w. own .lies (written-suits d w) }
+
+-- `~[` has its place only without a modifier
+pub unmodified : (y : Place) (at : Bool) → cond at [] (y ∷ []) ≡ cond (not at) (y ∷ []) []
+unmodified y true = refl
+unmodified y false = refl
+
+-- an opener, by whether it has a place
+pub opener-places : (d : Directive) {b : Bracket} {r x : Bool} → d .code ≡ Opens b
+    → placesOf (Opens b) (either (d .colon) (d .at)) ≡ cond r (anyNumber ∷ []) [] → r ≡ x → placesIn d ≡ cond x (anyNumber ∷ []) []
+opener-places d e h k = rw e (rw k at h)

@@ -95,9 +95,9 @@ module _ {t : List ℕ} {hand : Hand} {next : ArgumentPosition} (h : next .0 ≤
   unfolding workOut
   work-default {y} e = rw e (record { as-defined = refl; reaches = h; lies = λ _. absent-lies y })
 
-  pub work-written : {y : Place} {x : Parameter} {n : ℕ} → x ≡ Number n → Works t hand y x (next .0) (workedIs (Is n) next)
+  pub work-written : {y : Place} {x : Parameter} {n w : ℕ} → x ≡ Number n → w ≡ n → Works t hand y x (next .0) (workedIs (Is w) next)
   unfolding workOut
-  work-written {y} {x} {n} e = rw e (record { as-defined = refl; reaches = h; lies = number-lies y n })
+  work-written {y} {x} {n} e same = rw (e, same) (record { as-defined = refl; reaches = h; lies = number-lies y n })
 
   pub work-byte : {y : Place} {x : Parameter} {b w : ℕ} → x ≡ Character b → (w ≡ b) × (w < 256) → Works t hand y x (next .0) (workedIs (Is w) next)
   unfolding workOut

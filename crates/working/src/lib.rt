@@ -15,12 +15,14 @@ use rules::Settings;
 use table::entry_of;
 use table::read_argument;
 ghost use mathlib.Core.Path.{_≡_};
+ghost use mathlib.Core.Bool.{cond};
 ghost use mathlib.Core.List.{[], _∷_};
 ghost use Prim.Native.Nat.{_+_, _-_, _≤_, _<_};
 ghost use Rattle.rules.specs.Table.{Holds, meant, viewOf};
-ghost use Rattle.rules.specs.Directive.{number, character, anyNumber, countingNumber, formPlaces};
+ghost use Rattle.rules.specs.Directive.{either, number, character, anyNumber, countingNumber, formPlaces, placesOf};
 ghost use Rattle.rules.specs.Working.{argumentIn, inRange};
 ghost use Rattle.working.specs.Settling.{InHand, handAt, workedAs, Works, noneSettled, Settles, SettlesDirective};
+ghost use Rattle.rules.specs.declared.Code.the-variants.{Opens};
 ghost use Rattle.rules.specs.declared.Parameter.the-variants.{Next};
 
 // A parameter wants an argument, and none is left.
@@ -139,6 +141,12 @@ fn number_argument(
     }
 }
 
+fn widened(n: u16) -> usize
+    ensures { λ r. ⌜ r ≡ n ⌝ }
+{
+    n as usize
+}
+
 // A parameter in a number place, from least to most.
 pub fn work_number(
     table: &[u8],
@@ -158,7 +166,7 @@ pub fn work_number(
             next,
         },
         Parameter::Number(n) => WorkedOut::Is {
-            setting: Setting::Is(n),
+            setting: Setting::Is(widened(n)),
             next,
         },
         Parameter::Character(b) => WorkedOut::Is {
@@ -201,7 +209,7 @@ pub fn work_character(table: &[u8], hand: Hand, x: Parameter, next: ArgumentPosi
             next,
         },
         Parameter::Number(n) => WorkedOut::Is {
-            setting: Setting::Is(n),
+            setting: Setting::Is(widened(n)),
             next,
         },
         Parameter::Character(b) => WorkedOut::Is {

@@ -1,6 +1,6 @@
 -- `working::settle_directive` meets its contract: each arm settles the places of its code. Assumes nothing.
 use borrow.Author.Needs.{needs}
-use Rattle.working.proofs.SettleLaws.{none-settled, directive-settled}
+use Rattle.working.proofs.SettleLaws.{none-settled, opener-places, directive-settled}
 use Rattle.working.proofs.settle_directive.Statement.{statement}
 use Rattle.working.proofs.settle_directive.Tie as tie
 
@@ -22,23 +22,26 @@ enum-told-2 c = search needs
 settle-none-requires : tie.Need-settle-none-requires
 settle-none-requires c κs = search needs
 
-enum-told-3 : tie.Need-enum-told-3
-enum-told-3 c = search needs
+enum-known-code-2 : tie.Need-enum-known-code-2
+enum-known-code-2 c = search needs
+
+has-number-requires : tie.Need-has-number-requires
+has-number-requires c κs = search needs
+
+settle-number-requires-2 : tie.Need-settle-number-requires-2
+settle-number-requires-2 c κs = search needs
+
+returns : tie.Need-returns
+returns c = directive-settled (opener-places (c .before .before .before .before .before .before .before .before .args .d) (c .before .before .before .before .code2 .given .1) (c .before .before .has-number .ensures) (c .before .if1 .taken)) (c .settle-number2 .ensures)
 
 settle-none-requires-2 : tie.Need-settle-none-requires-2
 settle-none-requires-2 c κs = search needs
 
-returns : tie.Need-returns
-returns c = directive-settled (rw (c .before .before .enum-told3 .given .1, c .before .if1 .taken)) (none-settled (c .before .before .before .before .before .before .pre .1) (c .settle-none2 .ensures))
+enum-told-3 : tie.Need-enum-told-3
+enum-told-3 c = search needs
 
 settle-none-requires-3 : tie.Need-settle-none-requires-3
 settle-none-requires-3 c κs = search needs
-
-returns-2 : tie.Need-returns-2
-returns-2 c = directive-settled (rw (c .before .before .before .enum-told3 .given .1, c .before .before .if1 .left, c .before .if2 .taken)) (none-settled (c .before .before .before .before .before .before .before .pre .1) (c .settle-none3 .ensures))
-
-settle-number-requires-2 : tie.Need-settle-number-requires-2
-settle-number-requires-2 c κs = search needs
 
 enum-told-4 : tie.Need-enum-told-4
 enum-told-4 c = search needs
@@ -52,50 +55,26 @@ enum-told-5 c = search needs
 settle-none-requires-5 : tie.Need-settle-none-requires-5
 settle-none-requires-5 c κs = search needs
 
-enum-told-6 : tie.Need-enum-told-6
-enum-told-6 c = search needs
-
-settle-number-requires-3 : tie.Need-settle-number-requires-3
-settle-number-requires-3 c κs = search needs
-
-enum-told-7 : tie.Need-enum-told-7
-enum-told-7 c = search needs
-
-settle-none-requires-6 : tie.Need-settle-none-requires-6
-settle-none-requires-6 c κs = search needs
-
-enum-told-8 : tie.Need-enum-told-8
-enum-told-8 c = search needs
-
-settle-none-requires-7 : tie.Need-settle-none-requires-7
-settle-none-requires-7 c κs = search needs
+returns-2 : tie.Need-returns-2
+returns-2 c = directive-settled (rw (c .before .before .code .given .1)) (c .settle-form .ensures)
 
 returns-3 : tie.Need-returns-3
-returns-3 c = directive-settled (rw (c .before .before .code .given .1)) (c .settle-form .ensures)
+returns-3 c = directive-settled (rw (c .before .enum-told .given .1)) (c .settle-number .ensures)
 
 returns-4 : tie.Need-returns-4
-returns-4 c = directive-settled (rw (c .before .enum-told .given .1)) (c .settle-number .ensures)
+returns-4 c = directive-settled (rw (c .before .enum-told2 .given .1)) (none-settled (c .before .before .before .before .before .pre .1) (c .settle-none .ensures))
 
 returns-5 : tie.Need-returns-5
-returns-5 c = directive-settled (rw (c .before .enum-told2 .given .1)) (none-settled (c .before .before .before .before .before .pre .1) (c .settle-none .ensures))
+returns-5 c = directive-settled (opener-places (c .before .before .before .before .before .before .before .before .args .d) (c .before .before .before .before .code2 .given .1) (c .before .before .has-number .ensures) (c .before .if1 .left)) (none-settled (c .before .before .before .before .before .before .before .before .pre .1) (c .settle-none2 .ensures))
 
 returns-6 : tie.Need-returns-6
-returns-6 c = directive-settled (rw (c .before .before .before .enum-told3 .given .1, c .before .before .if1 .left, c .before .if2 .left)) (c .settle-number2 .ensures)
+returns-6 c = directive-settled (rw (c .before .enum-told3 .given .1)) (none-settled (c .before .before .before .before .before .pre .1) (c .settle-none3 .ensures))
 
 returns-7 : tie.Need-returns-7
 returns-7 c = directive-settled (rw (c .before .enum-told4 .given .1)) (none-settled (c .before .before .before .before .before .pre .1) (c .settle-none4 .ensures))
 
 returns-8 : tie.Need-returns-8
 returns-8 c = directive-settled (rw (c .before .enum-told5 .given .1)) (none-settled (c .before .before .before .before .before .pre .1) (c .settle-none5 .ensures))
-
-returns-9 : tie.Need-returns-9
-returns-9 c = directive-settled (rw (c .before .enum-told6 .given .1)) (c .settle-number3 .ensures)
-
-returns-10 : tie.Need-returns-10
-returns-10 c = directive-settled (rw (c .before .enum-told7 .given .1)) (none-settled (c .before .before .before .before .before .pre .1) (c .settle-none6 .ensures))
-
-returns-11 : tie.Need-returns-11
-returns-11 c = directive-settled (rw (c .before .enum-told8 .given .1)) (none-settled (c .before .before .before .before .before .pre .1) (c .settle-none7 .ensures))
 
 pub settle-directive-spec : {M : Type 1} → statement M
 settle-directive-spec =
@@ -107,28 +86,21 @@ settle-directive-spec =
     settle-number-requires
     enum-told-2
     settle-none-requires
-    enum-told-3
-    settle-none-requires-2
-    returns
-    settle-none-requires-3
-    returns-2
+    enum-known-code-2
+    has-number-requires
     settle-number-requires-2
+    returns
+    settle-none-requires-2
+    enum-told-3
+    settle-none-requires-3
     enum-told-4
     settle-none-requires-4
     enum-told-5
     settle-none-requires-5
-    enum-told-6
-    settle-number-requires-3
-    enum-told-7
-    settle-none-requires-6
-    enum-told-8
-    settle-none-requires-7
+    returns-2
     returns-3
     returns-4
     returns-5
     returns-6
     returns-7
-    returns-8
-    returns-9
-    returns-10
-    returns-11)
+    returns-8)

@@ -11,6 +11,9 @@ enum-told c = search needs
 enum-known-x : tie.Need-enum-known-x
 enum-known-x c = search needs
 
+widened-requires : tie.Need-widened-requires
+widened-requires c κs = search needs
+
 enum-known-x-2 : tie.Need-enum-known-x-2
 enum-known-x-2 c = search needs
 
@@ -36,7 +39,7 @@ returns : tie.Need-returns
 returns c = work-default (c .before .before .before .pre .1) (c .enum-told .given .1)
 
 returns-2 : tie.Need-returns-2
-returns-2 c = work-written (c .before .before .before .before .pre .1) (c .before .x .given .1)
+returns-2 c = work-written (c .before .before .before .before .before .pre .1) (c .before .before .x .given .1) (c .widened .ensures)
 
 returns-3 : tie.Need-returns-3
 returns-3 c = work-byte (c .before .before .before .before .before .pre .1) (c .before .before .x2 .given .1) (c .wide .ensures)
@@ -53,6 +56,7 @@ work-number-spec =
     (tie.spec
     enum-told
     enum-known-x
+    widened-requires
     enum-known-x-2
     wide-requires
     enum-told-2
