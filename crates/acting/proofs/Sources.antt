@@ -4,7 +4,7 @@ use mathlib.Core.Path.{_≡_, refl, sym, ap, subst, _∙_}
 use mathlib.Core.List.{List, [], _∷_}
 use native.Mathlib.Omega.{arith}
 use lib.ListN.{length}
-use Rattle.rules.specs.Directive.{Place, number, character, anyNumber, countingNumber, formPlaces}
+use Rattle.rules.specs.Directive.{FormRight, Place, number, character, anyNumber, countingNumber, formPlaces}
 use Rattle.rules.specs.Table.{Value, Holds, meant, viewOf}
 use Rattle.rules.specs.Piece.{orElse}
 use Rattle.rules.specs.Working.{argumentIn}
@@ -19,14 +19,14 @@ use Rattle.rules.specs.declared.Setting.{Setting}
 use Rattle.rules.specs.declared.Setting.the-variants.{Absent, Is}
 use Rattle.rules.specs.declared.Settings.{Settings}
 use Rattle.rules.proofs.AnswerLaws.{text-fits, text-short}
-use Rattle.pieces.specs.Given.{Allowed, EachAllowed, BaseRight, Worked, StringIn, Reachable}
+use Rattle.pieces.specs.Given.{Allowed, EachAllowed, Worked, StringIn, Reachable}
 use Rattle.working.specs.Settling.{InPlace, InRange, handAt}
 use Rattle.working.specs.declared.Hand.{Hand}
 use Rattle.acting.specs.declared.acting.Source.{Source}
 use Rattle.acting.specs.declared.acting.Source.the-variants.{Own, Back, Given}
 use Rattle.acting.specs.declared.acting.Taken.{Taken}
 use Rattle.acting.specs.declared.acting.Taken.the-variants.{None, Is as TakenIs}
-use Rattle.acting.specs.Acting.{FormRight, Coded, Numbered, sourceAs, SourceReachable, onTaken, TakenReaches, Takes}
+use Rattle.acting.specs.Acting.{Coded, Numbered, sourceAs, SourceReachable, onTaken, TakenReaches, Takes}
 use Rattle.acting.proofs.ActLaws.{from-own, from-own-none, from-back, from-back-none}
 
 -- an argument that was read lies in its table
@@ -112,16 +112,8 @@ each Plural s h = tt
 each (Repeat b) s h = (allowed anyNumber (s .first) (h .first), tt)
 each Fold s h = tt
 
-bases : (f : Form) → FormRight f → BaseRight f
-bases (Object q) h = tt
-bases (Numeral b) h = h
-bases Glyph h = tt
-bases Plural h = tt
-bases (Repeat b) h = tt
-bases Fold h = tt
-
 pub worked-in : (f : Form) (s : Settings) → FormRight f → InRange (formPlaces f) s → Worked f s
-worked-in f s b h = record { base = bases f b; places = each f s h }
+worked-in f s b h = record { base = b; places = each f s h }
 
 pub numbered : (x : Setting) → InPlace (number 0 4096) x → Numbered x
 numbered Absent a = tt

@@ -71,23 +71,3 @@ JumpSet s = Numbered (s .first)
 pub record Performed (f : (ℕ → Flow) → Flow) (count : ℕ) (spot : Spot) (b e : List ℕ) (r : Ran) : Type 0 where
   pub does : Performs f count (spot .left) (spot .at) b e r
   pub place : r .place ≡ spot .place
-
--- the base of a numeral is 2 to 36
-abbrev pub FormRight : Form → Type 0
-FormRight (Object q) = Unit {0}
-FormRight (Numeral base) = (2 ≤ base) × (base ≤ 36)
-FormRight Glyph = Unit {0}
-FormRight Plural = Unit {0}
-FormRight (Repeat b) = Unit {0}
-FormRight Fold = Unit {0}
-
-abbrev pub CodeRight : Code → Type 0
-CodeRight (Writes f) = FormRight f
-CodeRight Jump = Unit {0}
-CodeRight Escape = Unit {0}
-CodeRight Conditional = Unit {0}
-CodeRight Separator = Unit {0}
-CodeRight EndConditional = Unit {0}
-CodeRight Iteration = Unit {0}
-CodeRight EndIteration = Unit {0}
-CodeRight Unknown = Unit {0}

@@ -25,6 +25,7 @@ ghost use mathlib.Core.Bool.{true};
 ghost use mathlib.Core.List.{List};
 ghost use Prim.Native.Nat.{ℕ, _≤_, _<_};
 ghost use lib.ListN.{length};
+ghost use Rattle.rules.specs.Directive.{FormRight};
 ghost use Rattle.rules.specs.Table.{View, meant, viewOf};
 ghost use Rattle.rules.specs.Piece.{kindOf, accepts};
 ghost use Rattle.rules.specs.Working.{glyphSource};
@@ -36,7 +37,7 @@ ghost use Rattle.pieces.specs.Bytes.{Good, bytesOf};
 ghost use Rattle.pieces.specs.Given.{Worked, Reachable};
 ghost use Rattle.working.specs.Settling.{InHand, handAt};
 ghost use Rattle.acting.specs.Ran.{hand};
-ghost use Rattle.acting.specs.Acting.{FormRight, sourceAs, SourceReachable, Takes, Coded, JumpSet, Performed};
+ghost use Rattle.acting.specs.Acting.{sourceAs, SourceReachable, Takes, Coded, JumpSet, Performed};
 
 // Where the argument of a directive comes from: the next one, the one before it, or none is taken and this stands in.
 enum Source {

@@ -7,12 +7,11 @@ use mathlib.Core.List.{List, [], _∷_, _++_}
 use lib.Dec.{ltb, eqb}
 use lib.IntN.{ℤ}
 use lib.ListN.{length}
-use Rattle.rules.specs.Directive.{Place, number, character, formPlaces}
+use Rattle.rules.specs.Directive.{FormRight, Place, number, character, formPlaces}
 use Rattle.rules.specs.Number.{digitsOf, grouped, magnitudeOf, signOf}
 use Rattle.rules.specs.declared.Argument.{Argument}
 use Rattle.rules.specs.declared.Argument.the-variants.{Boolean, Integer, Character, Text, Entries}
 use Rattle.rules.specs.declared.Form.{Form}
-use Rattle.rules.specs.declared.Form.the-variants.{Object, Numeral, Glyph, Plural, Repeat, Fold}
 use Rattle.rules.specs.declared.Setting.{Setting}
 use Rattle.rules.specs.declared.Setting.the-variants.{Absent, Is}
 use Rattle.rules.specs.declared.Settings.{Settings}
@@ -29,18 +28,9 @@ EachAllowed [] ss = Unit
 EachAllowed (p ∷ ps) [] = Unit
 EachAllowed (p ∷ ps) (s ∷ ss) = Allowed p s × EachAllowed ps ss
 
--- a base has digits
-abbrev pub BaseRight : Form → Type 0
-BaseRight (Object quoted) = Unit
-BaseRight (Numeral base) = (2 ≤ base) × (base ≤ 36)
-BaseRight Glyph = Unit
-BaseRight Plural = Unit
-BaseRight (Repeat b) = Unit
-BaseRight Fold = Unit
-
 -- the parameters of a form, each in the range of its place
 pub record Worked (form : Form) (s : Settings) : Type 0 where
-  pub base : BaseRight form
+  pub base : FormRight form
   pub places : EachAllowed (formPlaces form) (s .first ∷ s .second ∷ s .third ∷ s .fourth ∷ [])
 
 -- a string lies in the table and is no longer than the pool may be

@@ -2,7 +2,7 @@
 use Prim.Native.Nat.{ℕ, _+_, _-_, _/_, _≤_}
 use mathlib.Core.Path.{_≡_}
 use mathlib.Core.Bool.{Bool, true, cond}
-use Rattle.rules.specs.Directive.{formPlaces, inOrder, eachSuits}
+use Rattle.rules.specs.Directive.{FormRight, formPlaces, inOrder, eachSuits}
 use Rattle.rules.specs.declared.Code.the-variants.{Writes}
 use Rattle.rules.specs.declared.Directive.{Directive}
 use Rattle.rules.specs.declared.Form.{Form}
@@ -13,7 +13,6 @@ use Rattle.rules.specs.declared.Setting.the-variants.{Absent, Is}
 use Rattle.rules.specs.declared.Settings.{Settings}
 use Rattle.vet.specs.Plain.{noneNext}
 use Rattle.vet.specs.Worst.{larger}
-use Rattle.vet.proofs.Items.{BasedForm}
 use Rattle.vet.proofs.WorstLaws.{leastDigits}
 
 -- a parameter that is no `v`, where so many arguments remain: `#` is their number
@@ -29,7 +28,7 @@ pub record Writing (f : Form) (d : Directive) : Type 0 where
   pub code : d .code ≡ Writes f
   pub suits : eachSuits (formPlaces f) (inOrder (d .parameters)) ≡ true
   pub fixed : noneNext (inOrder (d .parameters)) ≡ true
-  pub based : BasedForm f
+  pub based : FormRight f
 
 -- the ranges of minwidth, padinc and minpad
 pub record Sizing (minwidth padinc minpad : ℕ) : Type 0 where

@@ -24,11 +24,9 @@ fn is_plain_code(code: Code) -> bool
         Code::Writes(_) => true,
         Code::Jump => false,
         Code::Escape => false,
-        Code::Conditional => false,
+        Code::Opens(_) => false,
         Code::Separator => true,
-        Code::EndConditional => true,
-        Code::Iteration => false,
-        Code::EndIteration => true,
+        Code::Closes(_) => true,
         Code::Unknown => true,
     }
 }

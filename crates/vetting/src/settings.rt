@@ -11,13 +11,19 @@ fn wide(byte: u8) -> usize
     byte as usize
 }
 
+fn widened(n: u16) -> usize
+    ensures { λ r. ⌜ r ≡ n ⌝ }
+{
+    n as usize
+}
+
 // A parameter that is no `v`, where so many arguments remain.
 pub fn setting_of(x: Parameter, remaining: usize) -> Setting
     ensures { λ r. ⌜ r ≡ settingBy remaining x ⌝ }
 {
     match x {
         Parameter::Default => Setting::Absent,
-        Parameter::Number(n) => Setting::Is(n),
+        Parameter::Number(n) => Setting::Is(widened(n)),
         Parameter::Character(b) => Setting::Is(wide(b)),
         Parameter::Next => Setting::Absent,
         Parameter::Remaining => Setting::Is(remaining),

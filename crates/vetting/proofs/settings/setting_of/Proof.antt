@@ -11,6 +11,9 @@ enum-told c = search needs
 enum-known-x : tie.Need-enum-known-x
 enum-known-x c = search needs
 
+widened-requires : tie.Need-widened-requires
+widened-requires c κs = search needs
+
 enum-known-x-2 : tie.Need-enum-known-x-2
 enum-known-x-2 c = search needs
 
@@ -27,7 +30,9 @@ returns : tie.Need-returns
 returns c = search needs
 
 returns-2 : tie.Need-returns-2
-returns-2 c = sym (ap (settingBy (c .before .before .before .args .remaining)) (c .before .x .given .1))
+returns-2 c =
+    let args = c .before .before .before .before .args in
+    rw (c .widened .ensures) (sym (ap (settingBy (args .remaining)) (c .before .before .x .given .1)))
 
 returns-3 : tie.Need-returns-3
 returns-3 c =
@@ -47,6 +52,7 @@ setting-of-spec =
     (tie.spec
     enum-told
     enum-known-x
+    widened-requires
     enum-known-x-2
     wide-requires
     enum-told-2
