@@ -97,7 +97,12 @@ fn has_body(opener: Directive, p: usize) -> bool
 fn meet_opener(p: usize, d: Directive, room: usize) -> Met
     ensures { λ r. ⌜ r ≡ metOpener p d room ⌝ }
 {
-    unless(0 < room, 4, p, unless(is_well_written(d), 5, p, Met::Enters))
+    unless(
+        0 < room,
+        4,
+        p,
+        unless(is_well_written(d), 5, p, Met::Enters),
+    )
 }
 
 fn meet_separator(p: usize, d: Directive, around: Around, fallback: bool) -> Met

@@ -82,15 +82,13 @@ module _ (t : List ℕ) (p left at : ℕ) (b : List ℕ) where
       }
 
 -- a directive that acts alone is one of three
-pub only-escape : (keys : List ℕ) (c : Code) → keys ≡ 2 ∷ 3 ∷ 4 ∷ 5 ∷ 6 ∷ 7 ∷ 8 ∷ [] → ActsAlone c → OneOf keys (tagOf code-declared.the-type c) → c ≡ Escape
-only-escape keys (Writes f) q a o = absurd (miss (2 ∷ 3 ∷ 4 ∷ 5 ∷ 6 ∷ 7 ∷ 8 ∷ []) 0 tt (subst (λ (k : List ℕ). OneOf k 0) q o))
-only-escape keys Jump q a o = absurd (miss (2 ∷ 3 ∷ 4 ∷ 5 ∷ 6 ∷ 7 ∷ 8 ∷ []) 1 tt (subst (λ (k : List ℕ). OneOf k 1) q o))
+pub only-escape : (keys : List ℕ) (c : Code) → keys ≡ 2 ∷ 3 ∷ 4 ∷ 5 ∷ 6 ∷ [] → ActsAlone c → OneOf keys (tagOf code-declared.the-type c) → c ≡ Escape
+only-escape keys (Writes f) q a o = absurd (miss (2 ∷ 3 ∷ 4 ∷ 5 ∷ 6 ∷ []) 0 tt (subst (λ (k : List ℕ). OneOf k 0) q o))
+only-escape keys Jump q a o = absurd (miss (2 ∷ 3 ∷ 4 ∷ 5 ∷ 6 ∷ []) 1 tt (subst (λ (k : List ℕ). OneOf k 1) q o))
 only-escape keys Escape q a o = refl
-only-escape keys Conditional q a o = absurd a
+only-escape keys (Opens b) q a o = absurd a
 only-escape keys Separator q a o = absurd a
-only-escape keys EndConditional q a o = absurd a
-only-escape keys Iteration q a o = absurd a
-only-escape keys EndIteration q a o = absurd a
+only-escape keys (Closes b) q a o = absurd a
 only-escape keys Unknown q a o = absurd a
 
 module _ (t : List ℕ) (v : View) (first count level p i left at : ℕ) (b : List ℕ) (r : Ran) (d : Directive) (e : itemAt t p ≡ Written d) where
@@ -106,11 +104,9 @@ module _ (t : List ℕ) (v : View) (first count level p i left at : ℕ) (b : Li
       by (Writes f) w a = steps-acts-none (levelsAt t) (length t) v first count level p i left at b (writes-at t p d e f w) z (d .next) l k
       by Jump w a = steps-acts-none (levelsAt t) (length t) v first count level p i left at b (jump-at t p d e w) z (d .next) l k
       by Escape w a = steps-escape-none (levelsAt t) (length t) v first count level p i left at b (escape-at t p d e w) z (d .next) l k
-      by Conditional w a = absurd a
+      by (Opens b) w a = absurd a
       by Separator w a = absurd a
-      by EndConditional w a = absurd a
-      by Iteration w a = absurd a
-      by EndIteration w a = absurd a
+      by (Closes b) w a = absurd a
       by Unknown w a = absurd a
 
   module _ (z : left ≡ 0 → ⊥) where

@@ -1,5 +1,4 @@
 pub mod Arms
-pub mod Bases
 pub mod BlockArms
 pub mod ClauseLaws
 pub mod Places

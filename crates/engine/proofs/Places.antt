@@ -5,12 +5,14 @@ use mathlib.Core.List.{List, [], _∷_}
 use lib.ListN.{length}
 use Rattle.rules.specs.Directive.{itemAt}
 use Rattle.rules.specs.Text.{end, levelsAt, innermost, Level}
+use Rattle.rules.specs.declared.Bracket.{Bracket}
+use Rattle.rules.specs.declared.Bracket.the-variants.{Conditional, Iteration}
 use Rattle.rules.specs.declared.Code.{Code}
 use Rattle.rules.specs.declared.Code.the-variants.{Writes, Jump, Escape, Opens, Separator, Closes, Unknown}
 use Rattle.rules.specs.declared.Directive.{Directive}
 use Rattle.rules.specs.declared.Form.{Form}
 use Rattle.rules.specs.declared.Item.the-variants.{End, Literal, Written, BadNumber, Unfinished}
-use Rattle.rules.proofs.TextLaws.{levels-end, levels-literal, levels-bad, levels-unfinished, levels-writes, levels-jump, levels-escape, levels-iteration, levels-conditional, levels-separator, levels-end-iteration, levels-end-conditional, levels-unknown}
+use Rattle.rules.proofs.TextLaws.{levels-end, levels-literal, levels-bad, levels-unfinished, levels-writes, levels-jump, levels-escape, levels-iteration, levels-conditional, levels-separator, levels-closer, levels-unknown}
 use Rattle.engine.specs.Runs.{ActsAt, EscapesAt, IteratesAt, ChoosesAt, restAt}
 
 module _ (t : List ℕ) (p : ℕ) where
@@ -39,20 +41,17 @@ module _ (t : List ℕ) (p : ℕ) where
     pub escape-at : d .code ≡ Escape → EscapesAt (levelsAt t) p p (d .next)
     escape-at q = record { is = levels-escape t p d e q }
 
-    pub iteration-at : d .code ≡ Iteration → IteratesAt (levelsAt t) p p d (d .next)
+    pub iteration-at : d .code ≡ Opens Iteration → IteratesAt (levelsAt t) p p d (d .next)
     iteration-at q = record { is = levels-iteration t p d e q }
 
-    pub conditional-at : d .code ≡ Conditional → ChoosesAt (levelsAt t) p p d (d .next)
+    pub conditional-at : d .code ≡ Opens Conditional → ChoosesAt (levelsAt t) p p d (d .next)
     conditional-at q = record { is = levels-conditional t p d e q }
 
     pub separator-at : d .code ≡ Separator → restAt (levelsAt t) p ≡ end
     separator-at q = rest-of (levels-separator t p d e q) refl
 
-    pub end-iteration-at : d .code ≡ EndIteration → restAt (levelsAt t) p ≡ end
-    end-iteration-at q = rest-of (levels-end-iteration t p d e q) refl
-
-    pub end-conditional-at : d .code ≡ EndConditional → restAt (levelsAt t) p ≡ end
-    end-conditional-at q = rest-of (levels-end-conditional t p d e q) refl
+    pub closer-at : (b : Bracket) → d .code ≡ Closes b → restAt (levelsAt t) p ≡ end
+    closer-at b q = rest-of (levels-closer t p d e b q) refl
 
     pub unknown-at : d .code ≡ Unknown → restAt (levelsAt t) p ≡ end
     unknown-at q = rest-of (levels-unknown t p d e q) refl

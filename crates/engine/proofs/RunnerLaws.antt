@@ -8,11 +8,12 @@ use denote.Enum.Declared.{tagOf}
 use types.Run.{OneOf, miss}
 use lib.ListN.{length}
 use borrow.Author.Tests.{lt-ltb, le-ltb}
-use Rattle.rules.specs.Directive.{itemAt, either}
+use Rattle.rules.specs.Directive.{CodeRight, itemAt, either}
 use Rattle.rules.specs.Table.{View, Value, boolean, integer, character, string, list}
 use Rattle.rules.specs.Text.{Level, innermost, outer, end, levelsAt}
 use Rattle.rules.specs.Working.{Context, noneRemain, argumentIn}
 use Rattle.rules.specs.Run.{Flow, refused, Frame, iteration, conditional, other, usedUp, oneLess, overList, run}
+use Rattle.rules.specs.declared.Bracket.the-variants.{Conditional, Iteration}
 use Rattle.rules.specs.declared.Code.{Code}
 use Rattle.rules.specs.declared.Code.the-variants.{Writes, Jump, Escape, Opens, Separator, Closes, Unknown}
 use Rattle.rules.specs.declared.Directive.{Directive}
@@ -27,14 +28,13 @@ use Rattle.checking.specs.Ends.{AfterBlock}
 use Rattle.acting.specs.declared.state.Ran.{Ran}
 use Rattle.acting.specs.declared.state.Stop.{Stop}
 use Rattle.acting.specs.declared.state.Stop.the-variants.{Ended, Left, Refused}
-use Rattle.acting.specs.Acting.{CodeRight}
 use Rattle.acting.specs.Ran.{refusedRan, endedRan, hand}
 use Rattle.engine.specs.Runs.{EndsAt, After, restAt, Runs, Steps, Strides, Blocks, Passes, choosing, iterating, overListed}
 use Rattle.engine.specs.Running.{isEnded, endsSequence, endsAt, opensBlock, iterates, ActsAlone, isListValue}
 use Rattle.engine.proofs.Arms.{runs-end, steps-deep, steps-block-none, steps-block}
 use Rattle.engine.proofs.BlockArms.{chooses-run, iterates-run, blocks-refused, passes-none, passes-on}
 use Rattle.engine.proofs.Strides.{strides-runs-left, strides-runs-refused}
-use Rattle.engine.proofs.Places.{end-at, bad-at, unfinished-at, separator-at, end-iteration-at, end-conditional-at, unknown-at, iteration-at, conditional-at}
+use Rattle.engine.proofs.Places.{end-at, bad-at, unfinished-at, separator-at, closer-at, unknown-at, iteration-at, conditional-at}
 
 not-both : {b : Bool} → b ≡ true → b ≡ false → ⊥
 not-both p q = let z : _≡_ {A = ℕ} 0 1 = cc in omega arith
@@ -53,11 +53,9 @@ module _ (t : List ℕ) (p : ℕ) where
   ends-code d e (Writes f) w h = absurd (not-both h refl)
   ends-code d e Jump w h = absurd (not-both h refl)
   ends-code d e Escape w h = absurd (not-both h refl)
-  ends-code d e Conditional w h = absurd (not-both h refl)
+  ends-code d e (Opens b) w h = absurd (not-both h refl)
   ends-code d e Separator w h = separator-at t p d e w
-  ends-code d e EndConditional w h = end-conditional-at t p d e w
-  ends-code d e Iteration w h = absurd (not-both h refl)
-  ends-code d e EndIteration w h = end-iteration-at t p d e w
+  ends-code d e (Closes b) w h = closer-at t p d e b w
   ends-code d e Unknown w h = unknown-at t p d e w
 
   ends-item : (x : Item) → itemAt t p ≡ x → endsAt x ≡ true → restAt (levelsAt t) p ≡ end
@@ -106,34 +104,30 @@ pub acts-alone : (c : Code) → CodeRight c → opensBlock c ≡ false → endsS
 acts-alone (Writes f) r o e = r
 acts-alone Jump r o e = tt
 acts-alone Escape r o e = tt
-acts-alone Conditional r o e = absurd (not-both refl o)
+acts-alone (Opens b) r o e = absurd (not-both refl o)
 acts-alone Separator r o e = absurd (not-both refl e)
-acts-alone EndConditional r o e = absurd (not-both refl e)
-acts-alone Iteration r o e = absurd (not-both refl o)
-acts-alone EndIteration r o e = absurd (not-both refl e)
+acts-alone (Closes b) r o e = absurd (not-both refl e)
 acts-alone Unknown r o e = absurd (not-both refl e)
 
 -- a code that opens a block is one of two
-pub is-iteration : (c : Code) → iterates c ≡ true → c ≡ Iteration
+pub is-iteration : (c : Code) → iterates c ≡ true → c ≡ Opens Iteration
 is-iteration (Writes f) h = absurd (not-both h refl)
 is-iteration Jump h = absurd (not-both h refl)
 is-iteration Escape h = absurd (not-both h refl)
-is-iteration Conditional h = absurd (not-both h refl)
+is-iteration (Opens Conditional) h = absurd (not-both h refl)
+is-iteration (Opens Iteration) h = refl
 is-iteration Separator h = absurd (not-both h refl)
-is-iteration EndConditional h = absurd (not-both h refl)
-is-iteration Iteration h = refl
-is-iteration EndIteration h = absurd (not-both h refl)
+is-iteration (Closes b) h = absurd (not-both h refl)
 is-iteration Unknown h = absurd (not-both h refl)
 
-pub is-conditional : (c : Code) → opensBlock c ≡ true → iterates c ≡ false → c ≡ Conditional
+pub is-conditional : (c : Code) → opensBlock c ≡ true → iterates c ≡ false → c ≡ Opens Conditional
 is-conditional (Writes f) o h = absurd (not-both o refl)
 is-conditional Jump o h = absurd (not-both o refl)
 is-conditional Escape o h = absurd (not-both o refl)
-is-conditional Conditional o h = refl
+is-conditional (Opens Conditional) o h = refl
+is-conditional (Opens Iteration) o h = absurd (not-both refl h)
 is-conditional Separator o h = absurd (not-both o refl)
-is-conditional EndConditional o h = absurd (not-both o refl)
-is-conditional Iteration o h = absurd (not-both refl h)
-is-conditional EndIteration o h = absurd (not-both o refl)
+is-conditional (Closes b) o h = absurd (not-both o refl)
 is-conditional Unknown o h = absurd (not-both o refl)
 
 module _ (t : List ℕ) (v : View) (first count level p i left at : ℕ) (b : List ℕ) (d : Directive) (e : itemAt t p ≡ Written d) where
@@ -147,11 +141,10 @@ module _ (t : List ℕ) (v : View) (first count level p i left at : ℕ) (b : Li
       by (Writes f) w o = absurd (not-both o refl)
       by Jump w o = absurd (not-both o refl)
       by Escape w o = absurd (not-both o refl)
-      by Conditional w o = steps-deep (levelsAt t) (length t) v first count level p i left at b p _ z (chooses-run (levelsAt t) v first count p p i left d (d .next) (conditional-at t p d e w)) (d .next) l k
+      by (Opens Conditional) w o = steps-deep (levelsAt t) (length t) v first count level p i left at b p _ z (chooses-run (levelsAt t) v first count p p i left d (d .next) (conditional-at t p d e w)) (d .next) l k
       by Separator w o = absurd (not-both o refl)
-      by EndConditional w o = absurd (not-both o refl)
-      by Iteration w o = steps-deep (levelsAt t) (length t) v first count level p i left at b p _ z (iterates-run (levelsAt t) v first count p p i left d (d .next) (iteration-at t p d e w)) (d .next) l k
-      by EndIteration w o = absurd (not-both o refl)
+      by (Opens Iteration) w o = steps-deep (levelsAt t) (length t) v first count level p i left at b p _ z (iterates-run (levelsAt t) v first count p p i left d (d .next) (iteration-at t p d e w)) (d .next) l k
+      by (Closes c) w o = absurd (not-both o refl)
       by Unknown w o = absurd (not-both o refl)
 
   pub block-none : (r : Ran) → opensBlock (d .code) ≡ true → (level ≡ 0 → ⊥) → left ≡ 0 → r ≡ refusedRan 9 p i left at (d .next) → at ≤ length b → i ≤ count → StepsHere b r
@@ -161,21 +154,20 @@ module _ (t : List ℕ) (v : View) (first count level p i left at : ℕ) (b : Li
       by (Writes f) w o = absurd (not-both o refl)
       by Jump w o = absurd (not-both o refl)
       by Escape w o = absurd (not-both o refl)
-      by Conditional w o = steps-block-none (levelsAt t) (length t) v first count level p i left at b p _ lv z (chooses-run (levelsAt t) v first count p p i left d (d .next) (conditional-at t p d e w)) (d .next) l k
+      by (Opens Conditional) w o = steps-block-none (levelsAt t) (length t) v first count level p i left at b p _ lv z (chooses-run (levelsAt t) v first count p p i left d (d .next) (conditional-at t p d e w)) (d .next) l k
       by Separator w o = absurd (not-both o refl)
-      by EndConditional w o = absurd (not-both o refl)
-      by Iteration w o = steps-block-none (levelsAt t) (length t) v first count level p i left at b p _ lv z (iterates-run (levelsAt t) v first count p p i left d (d .next) (iteration-at t p d e w)) (d .next) l k
-      by EndIteration w o = absurd (not-both o refl)
+      by (Opens Iteration) w o = steps-block-none (levelsAt t) (length t) v first count level p i left at b p _ lv z (iterates-run (levelsAt t) v first count p p i left d (d .next) (iteration-at t p d e w)) (d .next) l k
+      by (Closes c) w o = absurd (not-both o refl)
       by Unknown w o = absurd (not-both o refl)
 
   module _ (lv : level ≡ 0 → ⊥) (z : left ≡ 0 → ⊥) {b₂ : List ℕ} {r : Ran} where
-    pub block-iterates : d .code ≡ Iteration
+    pub block-iterates : d .code ≡ Opens Iteration
         → Blocks (levelsAt t) (length t) v (hand first count) (level - 1) (d .next) (iterating (levelsAt t) v (hand first count) p d (d .next) i (left - 1)) (left - 1) at b b₂ r → StepsHere b₂ r
     block-iterates w u =
         steps-block (levelsAt t) (length t) v first count level p i left at b p (d .next) (λ m ks. iterating (levelsAt t) v (hand first count) p d (d .next) i m ks) lv z
         (iterates-run (levelsAt t) v first count p p i left d (d .next) (iteration-at t p d e w)) (ap outer (iteration-at t p d e w .is)) (omega (arith, next-inside t p d e .above)) u
 
-    pub block-chooses : d .code ≡ Conditional
+    pub block-chooses : d .code ≡ Opens Conditional
         → Blocks (levelsAt t) (length t) v (hand first count) (level - 1) (d .next) (choosing (levelsAt t) v (hand first count) p d (d .next) i (left - 1)) (left - 1) at b b₂ r → StepsHere b₂ r
     block-chooses w u =
         steps-block (levelsAt t) (length t) v first count level p i left at b p (d .next) (λ m ks. choosing (levelsAt t) v (hand first count) p d (d .next) i m ks) lv z

@@ -22,7 +22,8 @@ use Rattle.working.specs.Settling.{InPlace, InRange}
 use Rattle.pieces.specs.Given.{Worked}
 use Rattle.acting.specs.declared.state.Ran.{Ran}
 use Rattle.acting.specs.declared.state.Spot.{Spot}
-use Rattle.acting.specs.Acting.{FormRight, Performed}
+use Rattle.rules.specs.Directive.{FormRight}
+use Rattle.acting.specs.Acting.{Performed}
 use Rattle.acting.specs.Ran.{refusedRan, hand}
 use Rattle.acting.proofs.ActLaws.{performed-as, acts-writes, settings-well, write-anywhere}
 use Rattle.acting.proofs.Sources.{worked-in}

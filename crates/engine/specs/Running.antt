@@ -5,9 +5,11 @@ use mathlib.Core.Bool.{Bool, true, false, cond}
 use mathlib.Core.List.{List}
 use lib.Dec.{leb}
 use lib.ListN.{length}
+use Rattle.rules.specs.Directive.{FormRight}
 use Rattle.rules.specs.Table.{Value, boolean, integer, character, string, list, View, meant, entryCount, Holds}
 use Rattle.rules.specs.Text.{levelsAt}
 use Rattle.rules.specs.declared.Argument.{Argument}
+use Rattle.rules.specs.declared.Bracket.the-variants.{Conditional, Iteration}
 use Rattle.rules.specs.declared.Code.{Code}
 use Rattle.rules.specs.declared.Code.the-variants.{Writes, Jump, Escape, Opens, Separator, Closes, Unknown}
 use Rattle.rules.specs.declared.Item.{Item}
@@ -17,7 +19,6 @@ use Rattle.acting.specs.declared.state.Ran.{Ran}
 use Rattle.acting.specs.declared.state.Spot.{Spot}
 use Rattle.acting.specs.declared.state.Stop.{Stop}
 use Rattle.acting.specs.declared.state.Stop.the-variants.{Ended, Left, Refused}
-use Rattle.acting.specs.Acting.{FormRight}
 use Rattle.acting.specs.Ran.{endedRan, hand}
 use Rattle.engine.specs.declared.items.Listed.{Listed}
 use Rattle.engine.specs.declared.items.Listed.the-variants.{Is, Not}
@@ -28,11 +29,9 @@ abbrev pub endsSequence : Code → Bool
 endsSequence (Writes f) = false
 endsSequence Jump = false
 endsSequence Escape = false
-endsSequence Conditional = false
+endsSequence (Opens b) = false
 endsSequence Separator = true
-endsSequence EndConditional = true
-endsSequence Iteration = false
-endsSequence EndIteration = true
+endsSequence (Closes b) = true
 endsSequence Unknown = true
 
 abbrev pub endsAt : Item → Bool
@@ -47,11 +46,9 @@ abbrev pub ActsAlone : Code → Type 0
 ActsAlone (Writes f) = FormRight f
 ActsAlone Jump = Unit {0}
 ActsAlone Escape = Unit {0}
-ActsAlone Conditional = ⊥
+ActsAlone (Opens b) = ⊥
 ActsAlone Separator = ⊥
-ActsAlone EndConditional = ⊥
-ActsAlone Iteration = ⊥
-ActsAlone EndIteration = ⊥
+ActsAlone (Closes b) = ⊥
 ActsAlone Unknown = ⊥
 
 -- k literal bytes of the text t from p on, put one after another: within the steps, the text and the buffer, and the
@@ -93,20 +90,17 @@ abbrev pub opensBlock : Code → Bool
 opensBlock (Writes f) = false
 opensBlock Jump = false
 opensBlock Escape = false
-opensBlock Conditional = true
+opensBlock (Opens b) = true
 opensBlock Separator = false
-opensBlock EndConditional = false
-opensBlock Iteration = true
-opensBlock EndIteration = false
+opensBlock (Closes b) = false
 opensBlock Unknown = false
 
 abbrev pub iterates : Code → Bool
 iterates (Writes f) = false
 iterates Jump = false
 iterates Escape = false
-iterates Conditional = false
+iterates (Opens Conditional) = false
+iterates (Opens Iteration) = true
 iterates Separator = false
-iterates EndConditional = false
-iterates Iteration = true
-iterates EndIteration = false
+iterates (Closes b) = false
 iterates Unknown = false

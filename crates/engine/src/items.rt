@@ -13,6 +13,7 @@ use fitting::places::is_well_written;
 use reader::directive::item_at;
 use rules::Argument;
 use rules::ArgumentPosition;
+use rules::Bracket;
 use rules::Code;
 use rules::Directive;
 use rules::EntryIndex;
@@ -47,11 +48,9 @@ fn is_end(code: Code) -> bool
         Code::Writes(_) => false,
         Code::Jump => false,
         Code::Escape => false,
-        Code::Conditional => false,
+        Code::Opens(_) => false,
         Code::Separator => true,
-        Code::EndConditional => true,
-        Code::Iteration => false,
-        Code::EndIteration => true,
+        Code::Closes(_) => true,
         Code::Unknown => true,
     }
 }
@@ -290,11 +289,9 @@ pub fn opens_block(code: Code) -> bool
         Code::Writes(_) => false,
         Code::Jump => false,
         Code::Escape => false,
-        Code::Conditional => true,
+        Code::Opens(_) => true,
         Code::Separator => false,
-        Code::EndConditional => false,
-        Code::Iteration => true,
-        Code::EndIteration => false,
+        Code::Closes(_) => false,
         Code::Unknown => false,
     }
 }
@@ -306,11 +303,12 @@ pub fn is_iteration(code: Code) -> bool
         Code::Writes(_) => false,
         Code::Jump => false,
         Code::Escape => false,
-        Code::Conditional => false,
+        Code::Opens(bracket) => match bracket {
+            Bracket::Conditional => false,
+            Bracket::Iteration => true,
+        },
         Code::Separator => false,
-        Code::EndConditional => false,
-        Code::Iteration => true,
-        Code::EndIteration => false,
+        Code::Closes(_) => false,
         Code::Unknown => false,
     }
 }

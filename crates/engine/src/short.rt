@@ -23,7 +23,7 @@ ghost use Rattle.rules.specs.Table.{viewOf};
 ghost use Rattle.rules.specs.Text.{levelsAt};
 ghost use Rattle.reader.specs.Shorts.{settingOf, shortForm, ShortIn, IsShort};
 ghost use Rattle.working.specs.Settling.{InHand, handAt};
-ghost use Rattle.acting.specs.Acting.{FormRight};
+ghost use Rattle.rules.specs.Directive.{FormRight};
 ghost use Rattle.engine.specs.Runs.{Steps, Strides};
 
 // A parameter as its setting, where none stands for one that is not written.

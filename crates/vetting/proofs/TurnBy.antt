@@ -239,7 +239,7 @@ of-form {d = d} e w = rw e at w
 
 -- the codes beside `Writes`, and the items beside `Literal` and `Written`
 abbrev other-codes : List ℕ
-other-codes = 1 ∷ 2 ∷ 3 ∷ 4 ∷ 5 ∷ 6 ∷ 7 ∷ 8 ∷ []
+other-codes = 1 ∷ 2 ∷ 3 ∷ 4 ∷ 5 ∷ 6 ∷ []
 
 abbrev other-items : List ℕ
 other-items = 0 ∷ 3 ∷ 4 ∷ []

@@ -23,7 +23,7 @@ use Rattle.acting.specs.declared.state.Ran.{Ran}
 use Rattle.engine.specs.Runs.{Runs, Steps, Blocks, Passes, restAt, choosing, iterating, overListed}
 use Rattle.acting.proofs.ActLaws.{settings-ill, argument-there, argument-none}
 use Rattle.engine.proofs.Strides.{strides-runs-on, runs-on, runs-left, runs-refused}
-use Rattle.engine.proofs.Bases.{code-right}
+use Rattle.rules.proofs.Bases.{code-right}
 use Rattle.engine.proofs.BlockArms.{passes-over, passes-none, passes-on, passes-left, passes-refused, blocks-nothing, blocks-clause, blocks-clause-left, blocks-clause-refused, blocks-same, blocks-list, blocks-as}
 use Rattle.engine.proofs.RunnerLaws.{Onto, is-ended, ended-as, runs-stopped, sequence-ends, literal-inside, no-other, acts-alone, is-iteration, is-conditional, block-deep, block-none, block-iterates, block-chooses, blocks-told, closes-after, over-other, over-none, over-not, over-list, passes-none-told, passes-on-told}
 use Rattle.rules.proofs.RunLaws.{choose-yes, choose-no}
