@@ -7,7 +7,6 @@ pub mod Choices
 pub mod Codes
 pub mod Encoded
 pub mod Filled
-pub mod Fits
 pub mod Items
 pub mod Lengths
 pub mod Loop
