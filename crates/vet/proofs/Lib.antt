@@ -1,7 +1,6 @@
 pub mod Before
 pub mod Below
 pub mod Bound
-pub mod Bytes
 pub mod Causes
 pub mod Choices
 pub mod Codes
