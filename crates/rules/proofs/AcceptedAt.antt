@@ -45,13 +45,16 @@ module _ (t : List ℕ) (p : ℕ) (a : AcceptedAt t p) where
         os : List Block
         os = a .blocks
 
+        s : Sound t os p
+        s = a .sound
+
         by : (c : Code) → d .code ≡ c → (wellWritten d ≡ true) × AcceptedAt t (d .next)
-        by (Writes f) k = let r = sound-writes t os p (a .sound) d e f k in (r .0, inside t os (d .next) (r .1))
-        by Jump k = let r = sound-jump t os p (a .sound) d e k in (r .0, inside t os (d .next) (r .1))
-        by Escape k = let r = sound-escape t os p (a .sound) d e k in (r .0, inside t os (d .next) (r .1))
-        by Conditional k = let r = sound-conditional t os p (a .sound) d e k in (r .written, inside t _ (d .next) (r .on))
-        by Separator k = let r = sound-separator t os p (a .sound) d e k in (r .written, inside t _ (d .next) (r .on))
-        by EndConditional k = let r = sound-end-conditional t os p (a .sound) d e k in (r .written, inside t _ (d .next) (r .on))
-        by Iteration k = let r = sound-iteration t os p (a .sound) d e k in (r .written, inside t _ (d .next) (r .on))
-        by EndIteration k = let r = sound-end-iteration t os p (a .sound) d e k in (r .written, inside t _ (d .next) (r .on))
-        by Unknown k = absurd (sound-known t os p (a .sound) d e k)
+        by (Writes f) k = let r = sound-writes t os p s d e f k in (r .0, inside t os (d .next) (r .1))
+        by Jump k = let r = sound-jump t os p s d e k in (r .0, inside t os (d .next) (r .1))
+        by Escape k = let r = sound-escape t os p s d e k in (r .0, inside t os (d .next) (r .1))
+        by Conditional k = let r = sound-conditional t os p s d e k in (r .written, inside t _ (d .next) (r .on))
+        by Separator k = let r = sound-separator t os p s d e k in (r .written, inside t _ (d .next) (r .on))
+        by EndConditional k = let r = sound-end-conditional t os p s d e k in (r .written, inside t _ (d .next) (r .on))
+        by Iteration k = let r = sound-iteration t os p s d e k in (r .written, inside t _ (d .next) (r .on))
+        by EndIteration k = let r = sound-end-iteration t os p s d e k in (r .written, inside t _ (d .next) (r .on))
+        by Unknown k = absurd (sound-known t os p s d e k)

@@ -128,7 +128,8 @@ module _ (format table : List ℕ) where
   by-table (Refused code p) on f r =
       check-answer code p (omega (arith, f .0)) (omega (arith, f .0)) (λ _. f .1) (λ l. absurd (omega (arith, f .0)))
 
-  by-text : (x : Verdict) (on : Bool → Answer) → TextFault format 2 x → (x ≡ Accepted → AnswerReports format table (on true))
+  by-text : (x : Verdict) (on : Bool → Answer) → TextFault format 2 x
+      → (x ≡ Accepted → AnswerReports format table (on true))
       → AnswerReports format table (unlessRefused x on)
   by-text Accepted on f r = r refl
   by-text (Refused code p) on f r =

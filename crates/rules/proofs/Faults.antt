@@ -34,7 +34,8 @@ entry-fault : (t : List ℕ) (n pool k i : ℕ) → i + k ≤ 1024 → TableFaul
 unfolding firstBad
 entry-fault t n pool zero i h = tt
 entry-fault t n pool (suc k) i h =
-    cond-fault (isRight n pool i (entryAt t i)) _ _ (λ _. entry-fault t n pool k (suc i) (omega arith)) (λ _. (refl, omega arith))
+    cond-fault (isRight n pool i (entryAt t i)) _ _ (λ _. entry-fault t n pool k (suc i) (omega arith))
+    (λ _. (refl, omega arith))
 
 pub table-fault : (t : List ℕ) → TableFault (tableVerdict t)
 unfolding tableVerdict

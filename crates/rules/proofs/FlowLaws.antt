@@ -39,7 +39,8 @@ fit-not room (put p left piece more) out o h =
       | yes t ↦ rw (lt-leb (length out + length piece) room t)
       | no t ↦
           rw (le-leb (length out + length piece) room (omega arith))
-          (fit-not room more (out ++ piece) (omega (arith, length-append out piece)) (omega (arith, length-append out piece, length-append piece (givenText more))))
+          (fit-not room more (out ++ piece) (omega (arith, length-append out piece))
+          (omega (arith, length-append out piece, length-append piece (givenText more))))
     ]
 
 -- 2. A flow that gives some text, and then goes on as another.

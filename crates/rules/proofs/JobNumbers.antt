@@ -31,7 +31,8 @@ four-back : (n : ℕ) → n < 4294967296
     → n / 16777216 % 256 * 16777216 + n / 65536 % 256 * 65536 + n / 256 % 256 * 256 + n % 256 ≡ n
 four-back n h = let top : n / 16777216 % 256 ≡ n / 16777216 = omega arith in rw top (omega arith)
 
-numbers-back : (a : Answer) (text : List ℕ) → a .code < 256 → a .position < 4294967296 → a .steps < 4294967296 → length (a .text) < 4294967296
+numbers-back : (a : Answer) (text : List ℕ)
+    → a .code < 256 → a .position < 4294967296 → a .steps < 4294967296 → length (a .text) < 4294967296
     → ReadBack (numbersOf (a .code) (a .position) (a .steps) (length (a .text)) ++ text) a text
 numbers-back a text c p s w = record {
   code-is = omega arith;
@@ -49,7 +50,8 @@ with-numbers : (format table : List ℕ) (room : ℕ) (text : List ℕ) → room
     → ReadBack (numbersIn (answerOf format table room) ++ text) (answerOf format table room) text
 with-numbers format table room text h =
     let w = answer-within format table room in
-    numbers-back (answerOf format table room) text (omega (arith, answer-reports format table room .code-most)) (position-small format table room)
+    let r = answer-reports format table room in
+    numbers-back (answerOf format table room) text (omega (arith, r .code-most)) (position-small format table room)
     (omega (arith, w .steps-in-limit)) (omega (arith, w .text-in-room))
 
 pub answer-back : (format table : List ℕ) (room : ℕ) → room < 4294967296
@@ -65,7 +67,15 @@ digit-back n h =
     elim (decLt n 10) [
       | yes k ↦ rw (lt-ltb n 10 k, le-leb 48 (48 + n) (omega arith), le-leb (48 + n) 57 (omega arith)) (omega arith)
       | no k ↦
-          rw (le-ltb n 10 (omega arith), le-leb 48 (87 + n) (omega arith), lt-leb (87 + n) 57 (omega arith), le-leb 65 (87 + n) (omega arith), lt-leb (87 + n) 70 (omega arith), le-leb 97 (87 + n) (omega arith), le-leb (87 + n) 102 (omega arith))
+          rw (
+            le-ltb n 10 (omega arith),
+            le-leb 48 (87 + n) (omega arith),
+            lt-leb (87 + n) 57 (omega arith),
+            le-leb 65 (87 + n) (omega arith),
+            lt-leb (87 + n) 70 (omega arith),
+            le-leb 97 (87 + n) (omega arith),
+            le-leb (87 + n) 102 (omega arith),
+          )
           (omega arith)
     ]
 

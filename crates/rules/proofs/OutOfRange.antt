@@ -35,7 +35,8 @@ pub data MeetsOutOfRange (v : View) (c : Context) : List Place → List Paramete
   here : {y : Place} {ys : List Place} {x : Parameter} {xs : List Parameter} {next : ℕ} → OutOfRange v c y x next
       → MeetsOutOfRange v c (y ∷ ys) (x ∷ xs) next
   later : {y : Place} {ys : List Place} {x : Parameter} {xs : List Parameter} {next after : ℕ} {s : Setting}
-      → workOut v c y x next ≡ worked s after → MeetsOutOfRange v c ys xs after → MeetsOutOfRange v c (y ∷ ys) (x ∷ xs) next
+      → workOut v c y x next ≡ worked s after → MeetsOutOfRange v c ys xs after
+      → MeetsOutOfRange v c (y ∷ ys) (x ∷ xs) next
 
 -- a refusal of the parameters, where `cause` is what 8 stands for
 pub record ParameterRefusal (cause : Type 0) (code : ℕ) : Type 0 where
@@ -102,7 +103,8 @@ module _ (v : View) (c : Context) where
   together-worked : (s : Setting) (z : Settled) (cause effect : Type 0) → (cause → effect) → AllWorked cause z
       → AllWorked effect (together s z)
   together-worked s (settled ss next) cause effect f h = tt
-  together-worked s (unsettled code) cause effect f h = record { least = h .least; most = h .most; range = λ e. f (h .range e) }
+  together-worked s (unsettled code) cause effect f h =
+      record { least = h .least; most = h .most; range = λ e. f (h .range e) }
 
   pub settle-worked : (ys : List Place) (xs : List Parameter) (next : ℕ) → eachSuits ys xs ≡ true
       → AllWorked (MeetsOutOfRange v c ys xs next) (settle v c ys xs next)
@@ -115,8 +117,9 @@ module _ (v : View) (c : Context) where
     where
       by : (z : Worked) → workOut v c y x next ≡ z → OneWorked (OutOfRange v c y x next) z
           → ((after : ℕ) → AllWorked (MeetsOutOfRange v c ys xs after) (settle v c ys xs after))
-          → AllWorked (MeetsOutOfRange v c (y ∷ ys) (x ∷ xs) next) (afterOne z (λ s after. together s (settle v c ys xs after)))
+          → AllWorked (MeetsOutOfRange v c (y ∷ ys) (x ∷ xs) next)
+          (afterOne z (λ s after. together s (settle v c ys xs after)))
       by (worked s after) e k more =
-          together-worked s (settle v c ys xs after) (MeetsOutOfRange v c ys xs after) (MeetsOutOfRange v c (y ∷ ys) (x ∷ xs) next)
-          (λ m. later e m) (more after)
+          together-worked s (settle v c ys xs after) (MeetsOutOfRange v c ys xs after)
+          (MeetsOutOfRange v c (y ∷ ys) (x ∷ xs) next) (λ m. later e m) (more after)
       by (wrong code) e k more = record { least = k .least; most = k .most; range = λ z. here (k .range z) }

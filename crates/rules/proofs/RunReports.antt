@@ -9,10 +9,10 @@ use lib.Dec.{ltb, leb, eqb}
 use lib.IntN.{ℤ, pos, negsuc}
 use lib.ListN.{length}
 use borrow.Author.Tests.{lt-ltb}
-use Rattle.rules.specs.Directive.{itemAt, placesOf, either, inOrder, eachSuits, takes, fitInto, wellWritten}
+use Rattle.rules.specs.Directive.{itemAt, Place, placesOf, either, inOrder, eachSuits, takes, fitInto, wellWritten}
 use Rattle.rules.specs.Flow.{Flow, done, refused, put}
 use Rattle.rules.specs.Piece.{orElse, textOf, kindOf, accepts}
-use Rattle.rules.specs.Run.{choose, begin, Outside, sameArguments, other, Frame, iteration, conditional, afterwards, usedUp, oneLess, fallbackOf, clauseAt, pickInteger, isFalse, onSettled, doneWith, withSettings, withArgument, write, writeFrom, jumpTo, jump, directiveActs, itemActs, Onward, pickBy, pickNumbered, pick, overList, enter, leave, nested, turn, walk, run}
+use Rattle.rules.specs.Run.{choose, begin, Outside, sameArguments, other, Frame, iteration, conditional, afterwards, usedUp, oneLess, fallbackOf, clauseAt, pickNumber, pickInteger, isFalse, onSettled, doneWith, withSettings, withArgument, write, writeFrom, jumpTo, jump, directiveActs, itemActs, Onward, pickBy, pickNumbered, pick, overList, enter, leave, nested, turn, walk, run}
 use Rattle.rules.specs.Table.{Value, boolean, integer, character, string, list, View}
 use Rattle.rules.specs.Text.{Sequence, end, acts, escapes, iterates, chooses, Clauses, none, clause, deepest, textVerdict, sequenceOf}
 use Rattle.rules.specs.Working.{Context, goTo, noneRemain, argumentIn, Settled, settled, unsettled, settle, settingsOf, Source, own, back, given, sourceOf}
@@ -30,12 +30,16 @@ use Rattle.rules.proofs.OutOfRange.{MeetsOutOfRange, AllWorked, settle-
 use Rattle.rules.proofs.Tests.{both-true}
 use Rattle.rules.proofs.WellFormed.{WrittenAt, ActsIn, WellFormed, WellFormedClauses, sequence-formed}
 
+-- the places of a directive's parameters
+abbrev pub placesIn : Directive → List Place
+placesIn d = placesOf (d .code) (either (d .colon) (d .at))
+
 -- the directive at p has a `v` or `#` whose value is outside its place's range, with some arguments in hand
 pub record OutOfRangeAt (v : View) (t : List ℕ) (p : ℕ) : Type 0 where
   pub directive : Directive
   pub stands : itemAt t p ≡ Written directive
   pub hand : Context
-  pub meets : MeetsOutOfRange v hand (placesOf (directive .code) (either (directive .colon) (directive .at))) (inOrder (directive .parameters)) (hand .next)
+  pub meets : MeetsOutOfRange v hand (placesIn directive) (inOrder (directive .parameters)) (hand .next)
 
 -- what a run may be refused for, at p and with so many steps left
 pub record RunRefusal (v : View) (t : List ℕ) (code p left : ℕ) : Type 0 where
@@ -87,12 +91,16 @@ module _ (t : List ℕ) (k : ℕ) where
   unfolding WellFormed
   end-formed = tt
 
+  number-formed : (cs : Clauses) (n : ℕ) → WellFormedClauses t k cs → WellFormed t k (pickNumber cs n)
+  number-formed cs n w = clause-formed cs n (fallbackOf cs) w (fallback-formed cs w)
+
   integer-formed : (cs : Clauses) (z : ℤ) → WellFormedClauses t k cs → WellFormed t k (pickInteger cs z)
-  integer-formed cs (pos n) w = clause-formed cs n (fallbackOf cs) w (fallback-formed cs w)
+  integer-formed cs (pos n) w = number-formed cs n w
   integer-formed cs (negsuc n) w = fallback-formed cs w
 
 module _ (v : View) (t : List ℕ) where
-  choose-reports : (b : Bool) (x y : Bool → Flow) → Reports v t (x true) → Reports v t (y false) → Reports v t (choose b x y)
+  choose-reports : (b : Bool) (x y : Bool → Flow) → Reports v t (x true) → Reports v t (y false)
+      → Reports v t (choose b x y)
   choose-reports true x y h k = h
   choose-reports false x y h k = k
 
@@ -129,23 +137,26 @@ module _ (v : View) (t : List ℕ) where
     argument-reports : (m : ℕ) (c : Context) (i : ℕ) (on : Value → Flow) → ((x : Value) → Reports v t (on x))
         → Reports v t (withArgument v p m c i on)
     argument-reports m c i on r =
-        choose-reports (ltb i (c .count)) (λ _. on (argumentIn v c i)) (λ _. refused 6 p m) (r (argumentIn v c i)) no-argument
+        choose-reports (ltb i (c .count)) (λ _. on (argumentIn v c i)) (λ _. refused 6 p m)
+        (r (argumentIn v c i)) no-argument
 
     write-reports : (m : ℕ) (f : Form) (d : Directive) (s : Settings) (x : Value) (next : ℕ) (on : ℕ → Flow)
         → Reports v t (on next) → Reports v t (write v p m f d s x next on)
     write-reports m f d s x next on r =
-        choose-reports (accepts f (kindOf x)) (λ _. put p m (textOf f (d .colon) (d .at) s x) (on next)) (λ _. refused 7 p m)
-        (h, r) wrong-kind
+        choose-reports (accepts f (kindOf x)) (λ _. put p m (textOf f (d .colon) (d .at) s x) (on next))
+        (λ _. refused 7 p m) (h, r) wrong-kind
 
     source-reports : (m : ℕ) (f : Form) (d : Directive) (c : Context) (s : Settings) (next : ℕ) (on : ℕ → Flow)
         → ((i : ℕ) → Reports v t (on i)) → (x : Source) → Reports v t (writeFrom v p m f d c s next on x)
     source-reports m f d c s next on r own =
-        argument-reports m c next (λ x. write v p m f d s x (next + 1) on) (λ x. write-reports m f d s x (next + 1) on (r (next + 1)))
+        argument-reports m c next (λ x. write v p m f d s x (next + 1) on)
+        (λ x. write-reports m f d s x (next + 1) on (r (next + 1)))
     source-reports m f d c s next on r back =
         choose-reports (eqb next 0) (λ _. refused 6 p m)
         (λ _. withArgument v p m c (next - 1) (λ x. write v p m f d s x next on))
         no-argument
-        (argument-reports m c (next - 1) (λ x. write v p m f d s x next on) (λ x. write-reports m f d s x next on (r next)))
+        (argument-reports m c (next - 1) (λ x. write v p m f d s x next on)
+        (λ x. write-reports m f d s x next on (r next)))
     source-reports m f d c s next on r (given x) = write-reports m f d s x next on (r next)
 
     to-reports : (m : ℕ) (c : Context) (i : ℕ) (on : ℕ → Flow) → ((i : ℕ) → Reports v t (on i))
@@ -154,31 +165,28 @@ module _ (v : View) (t : List ℕ) where
 
     jump-reports : (m : ℕ) (d : Directive) (c : Context) (s : Settings) (next : ℕ) (on : ℕ → Flow)
         → ((i : ℕ) → Reports v t (on i)) → Reports v t (jump v p m d c s next on)
-    jump-reports m d c s next on r = by (d .at) (d .colon)
-      where
-        by : (x y : Bool) → Reports v t (choose x (λ _. jumpTo v p m c (orElse (s .first) 0) on)
-            (λ _. choose y
-            (λ _. choose (leb (orElse (s .first) 1) next) (λ _. jumpTo v p m c (next - orElse (s .first) 1) on) (λ _. refused 6 p m))
-            (λ _. jumpTo v p m c (next + orElse (s .first) 1) on)))
-        by true y = to-reports m c (orElse (s .first) 0) on r
-        by false true =
-            choose-reports (leb (orElse (s .first) 1) next) (λ _. jumpTo v p m c (next - orElse (s .first) 1) on)
-            (λ _. refused 6 p m)
-            (to-reports m c (next - orElse (s .first) 1) on r) no-argument
-        by false false = to-reports m c (next + orElse (s .first) 1) on r
+    jump-reports m d c s next on r =
+        let n = orElse (s .first) 1 in
+        choose-reports (d .at) (λ _. jumpTo v p m c (orElse (s .first) 0) on) _
+        (to-reports m c (orElse (s .first) 0) on r)
+        (choose-reports (d .colon)
+        (λ _. choose (leb n next) (λ _. jumpTo v p m c (next - n) on) (λ _. refused 6 p m))
+        (λ _. jumpTo v p m c (next + n) on)
+        (choose-reports (leb n next) (λ _. jumpTo v p m c (next - n) on) (λ _. refused 6 p m)
+        (to-reports m c (next - n) on r) no-argument)
+        (to-reports m c (next + n) on r))
 
   -- a well-written directive's parameters
   module _ (p : ℕ) (d : Directive) (w : WrittenAt t p d) where
-    suited : eachSuits (placesOf (d .code) (either (d .colon) (d .at))) (inOrder (d .parameters)) ≡ true
+    suited : eachSuits (placesIn d) (inOrder (d .parameters)) ≡ true
     unfolding wellWritten
     suited =
-        let ys = placesOf (d .code) (either (d .colon) (d .at)) in
-        let b = both-true (takes (d .code) (d .colon) (d .at)) (fitInto ys (d .parameters)) (w .written) in
-        both-true (leb (d .parameters .count) (length ys)) (eachSuits ys (inOrder (d .parameters))) (b .1) .1
+        let b = both-true (takes (d .code) (d .colon) (d .at)) (fitInto (placesIn d) (d .parameters)) (w .written) in
+        both-true (leb (d .parameters .count) (length (placesIn d))) (eachSuits (placesIn d) (inOrder (d .parameters))) (b .1) .1
 
     settled-reports : (m : ℕ) (c : Context) (on : Settings → ℕ → Flow)
         → ((s : Settings) (i : ℕ) → Reports v t (on s i)) → (z : Settled)
-        → AllWorked (MeetsOutOfRange v c (placesOf (d .code) (either (d .colon) (d .at))) (inOrder (d .parameters)) (c .next)) z
+        → AllWorked (MeetsOutOfRange v c (placesIn d) (inOrder (d .parameters)) (c .next)) z
         → Reports v t (onSettled p m z on)
     settled-reports m c on r (settled ss next) a = r (settingsOf ss) next
     settled-reports m c on r (unsettled code) a = record {
@@ -192,7 +200,7 @@ module _ (v : View) (t : List ℕ) where
     settings-reports : (m : ℕ) (c : Context) (on : Settings → ℕ → Flow) → ((s : Settings) (i : ℕ) → Reports v t (on s i))
         → Reports v t (withSettings v p m d c on)
     settings-reports m c on r =
-        let ys = placesOf (d .code) (either (d .colon) (d .at)) in
+        let ys = placesIn d in
         let xs = inOrder (d .parameters) in
         rw (w .written) (settled-reports m c on r (settle v c ys xs (c .next)) (settle-worked v c ys xs (c .next) suited))
 
@@ -233,35 +241,41 @@ module _ (v : View) (t : List ℕ) where
 
       numbered-reports : (x : Setting) → Reports v t (pickNumbered v p m cs c next on x)
       numbered-reports Absent = argument-reports p h m c next (λ x. pickBy v p m cs c next on x) by-reports
-      numbered-reports (Is n) = r (clauseAt cs n (fallbackOf cs)) next (clause-formed t k cs n (fallbackOf cs) w (fallback-formed t k cs w))
+      numbered-reports (Is n) = r (pickNumber cs n) next (number-formed t k cs n w)
 
       picked : (b : Bool) → WellFormed t k (cond b end (clauseAt cs 0 end))
       picked true = end-formed t k
       picked false = clause-formed t k cs 0 end w (end-formed t k)
 
-      pick-reports : (d : Directive) (s : Settings) → Reports v t (pick v p m d cs c s next on)
-      pick-reports d s = by (d .colon) (d .at)
-        where
-          by : (x y : Bool) → Reports v t (choose x (λ _. withArgument v p m c next (λ x. on (clauseAt cs (cond (isFalse x) 0 1) end) (next + 1)))
-              (λ _. choose y
-              (λ _. withArgument v p m c next (λ x. on (cond (isFalse x) end (clauseAt cs 0 end)) (cond (isFalse x) (next + 1) next)))
-              (λ _. pickNumbered v p m cs c next on (s .first))))
-          by true y =
-              argument-reports p h m c next (λ x. on (clauseAt cs (cond (isFalse x) 0 1) end) (next + 1))
-              (λ x. r (clauseAt cs (cond (isFalse x) 0 1) end) (next + 1) (clause-formed t k cs (cond (isFalse x) 0 1) end w (end-formed t k)))
-          by false true =
-              argument-reports p h m c next (λ x. on (cond (isFalse x) end (clauseAt cs 0 end)) (cond (isFalse x) (next + 1) next))
-              (λ x. r (cond (isFalse x) end (clauseAt cs 0 end)) (cond (isFalse x) (next + 1) next) (picked (isFalse x)))
-          by false false = numbered-reports (s .first)
+      -- `~:[` and `~@[`
+      two-reports : Reports v t (withArgument v p m c next (λ x. on (clauseAt cs (cond (isFalse x) 0 1) end) (next + 1)))
+      two-reports =
+          argument-reports p h m c next (λ x. on (clauseAt cs (cond (isFalse x) 0 1) end) (next + 1))
+          (λ x. r (clauseAt cs (cond (isFalse x) 0 1) end) (next + 1)
+          (clause-formed t k cs (cond (isFalse x) 0 1) end w (end-formed t k)))
 
-    list-reports : (on : Context → Flow) → ((c : Context) → Reports v t (on c)) → (x : Value) → Reports v t (overList v p m on x)
+      one-reports : Reports v t (withArgument v p m c next
+          (λ x. on (cond (isFalse x) end (clauseAt cs 0 end)) (cond (isFalse x) (next + 1) next)))
+      one-reports =
+          argument-reports p h m c next
+          (λ x. on (cond (isFalse x) end (clauseAt cs 0 end)) (cond (isFalse x) (next + 1) next))
+          (λ x. r (cond (isFalse x) end (clauseAt cs 0 end)) (cond (isFalse x) (next + 1) next) (picked (isFalse x)))
+
+      pick-reports : (d : Directive) (s : Settings) → Reports v t (pick v p m d cs c s next on)
+      pick-reports d s =
+          choose-reports (d .colon) _ _ two-reports
+          (choose-reports (d .at) _ (λ _. pickNumbered v p m cs c next on (s .first)) one-reports (numbered-reports (s .first)))
+
+    list-reports : (on : Context → Flow) → ((c : Context) → Reports v t (on c)) → (x : Value)
+        → Reports v t (overList v p m on x)
     list-reports on r (boolean b) = wrong-kind p h
     list-reports on r (integer z) = wrong-kind p h
     list-reports on r (character b) = wrong-kind p h
     list-reports on r (string s) = wrong-kind p h
     list-reports on r (list first count) = r (record { first = first; count = count; next = 0 })
 
-    enter-reports : (d : Directive) (body rest : Sequence) (c : Context) (s : Settings) (next : ℕ) (on : Frame → Context → Flow)
+    enter-reports : (d : Directive) (body rest : Sequence) (c : Context) (s : Settings) (next : ℕ)
+        (on : Frame → Context → Flow)
         → ((passes : Setting) (out : Outside) (inner : Context) → Reports v t (on (iteration p passes body rest out) inner))
         → Reports v t (enter v p m d body rest c s next on)
     enter-reports d body rest c s next on r =
@@ -269,13 +283,14 @@ module _ (v : View) (t : List ℕ) where
         choose-reports (d .at) (λ _. on (iteration p (s .first) body rest sameArguments) (goTo c next))
         (λ _. withArgument v p m c next (λ x. overList v p m inside x))
         (r (s .first) sameArguments (goTo c next))
-        (argument-reports p h m c next (λ x. overList v p m inside x) (list-reports inside (r (s .first) (other (goTo c (next + 1))))))
+        (argument-reports p h m c next (λ x. overList v p m inside x)
+        (list-reports inside (r (s .first) (other (goTo c (next + 1))))))
 
   -- going on with a well-formed sequence inside well-formed blocks
   abbrev GoesOn : Onward v → Type 0
   GoesOn next =
-      (x : Sequence) (ks : List Frame) (c : Context) (k : ℕ) → length ks + k ≡ deepest → WellFormed t k x → WellFormedFrames t k ks
-      → Reports v t (next x ks c)
+      (x : Sequence) (ks : List Frame) (c : Context) (k : ℕ) → length ks + k ≡ deepest → WellFormed t k x
+      → WellFormedFrames t k ks → Reports v t (next x ks c)
 
   module _ (next : Onward v) (g : GoesOn next) (n : ℕ) where
     leave-reports : (m : ℕ) (ks : List Frame) (c : Context) (k : ℕ) → length ks + k ≡ deepest → WellFormedFrames t k ks
@@ -292,24 +307,28 @@ module _ (v : View) (t : List ℕ) where
 
     -- inside an iteration that is entered, and inside a clause that is picked
     module _ (p : ℕ) (d : Directive) (w : WrittenAt t p d) (rest : Sequence) (ks : List Frame) (k : ℕ)
-        (l : length ks + suc k ≡ deepest) (y : WellFormed t (suc k) rest) (f : WellFormedFrames t (suc k) ks) (c : Context) where
+        (l : length ks + suc k ≡ deepest) (y : WellFormed t (suc k) rest) (f : WellFormedFrames t (suc k) ks)
+        (c : Context) where
       iterates-reports : (body : Sequence) → WellFormed t k body → (m : ℕ)
           → Reports v t (withSettings v p m d c (λ s i. enter v p m d body rest c s i (λ z inner. next end (z ∷ ks) inner)))
       unfolding WellFormedFrames
       iterates-reports body b m =
           settings-reports p d w m c (λ s i. enter v p m d body rest c s i (λ z inner. next end (z ∷ ks) inner))
           (λ s i. enter-reports p (w .inside) m d body rest c s i (λ z inner. next end (z ∷ ks) inner)
-          (λ passes out inner. g end (iteration p passes body rest out ∷ ks) inner k (omega arith) (end-formed t k) (w .inside, b, y, f)))
+          (λ passes out inner. g end (iteration p passes body rest out ∷ ks) inner k (omega arith) (end-formed t k)
+          (w .inside, b, y, f)))
 
       chooses-reports : (cs : Clauses) → WellFormedClauses t k cs → (m : ℕ)
-          → Reports v t (withSettings v p m d c (λ s i. pick v p m d cs c s i (λ x after. next x (conditional rest ∷ ks) (goTo c after))))
+          → Reports v t (withSettings v p m d c
+          (λ s i. pick v p m d cs c s i (λ x after. next x (conditional rest ∷ ks) (goTo c after))))
       unfolding WellFormedFrames
       chooses-reports cs b m =
           settings-reports p d w m c (λ s i. pick v p m d cs c s i (λ x after. next x (conditional rest ∷ ks) (goTo c after)))
           (λ s i. pick-reports p (w .inside) m k cs b c i (λ x after. next x (conditional rest ∷ ks) (goTo c after))
           (λ x after q. g x (conditional rest ∷ ks) (goTo c after) k (omega arith) q (y, f)) d s)
 
-    turn-reports : (ks : List Frame) (ended : Context → Flow) → ((c : Context) → Reports v t (ended c)) → (x : Sequence) (c : Context) (k : ℕ)
+    turn-reports : (ks : List Frame) (ended : Context → Flow) → ((c : Context) → Reports v t (ended c))
+        → (x : Sequence) (c : Context) (k : ℕ)
         → length ks + k ≡ deepest → WellFormed t k x → WellFormedFrames t k ks → Reports v t (turn v next n ks ended x c)
     unfolding turn WellFormed
     turn-reports ks ended e end c k l w f = e c
@@ -318,13 +337,16 @@ module _ (v : View) (t : List ℕ) where
         (λ m. item-reports p m x c (λ i. next rest ks (goTo c i)) (w .0) (λ i. g rest ks (goTo c i) k l (w .1) f))
     turn-reports ks ended e (escapes p rest) c k l w f =
         begin-reports p (w .0) n _
-        (λ m. choose-reports (noneRemain c) (λ _. leave v next m ks c) (λ _. next rest ks c) (leave-reports m ks c k l f) (g rest ks c k l (w .1) f))
+        (λ m. choose-reports (noneRemain c) (λ _. leave v next m ks c) (λ _. next rest ks c)
+        (leave-reports m ks c k l f) (g rest ks c k l (w .1) f))
     turn-reports ks ended e (iterates p d body rest) c zero l w f = absurd w
     turn-reports ks ended e (iterates p d body rest) c (suc k) l w f =
-        nested-reports p ks _ (omega arith) (begin-reports p (w .0 .inside) n _ (iterates-reports p d (w .0) rest ks k l (w .2) f c body (w .1)))
+        nested-reports p ks _ (omega arith)
+        (begin-reports p (w .0 .inside) n _ (iterates-reports p d (w .0) rest ks k l (w .2) f c body (w .1)))
     turn-reports ks ended e (chooses p d cs rest) c zero l w f = absurd w
     turn-reports ks ended e (chooses p d cs rest) c (suc k) l w f =
-        nested-reports p ks _ (omega arith) (begin-reports p (w .0 .inside) n _ (chooses-reports p d (w .0) rest ks k l (w .2) f c cs (w .1)))
+        nested-reports p ks _ (omega arith)
+        (begin-reports p (w .0 .inside) n _ (chooses-reports p d (w .0) rest ks k l (w .2) f c cs (w .1)))
 
     walk-reports : (ks : List Frame) (x : Sequence) (c : Context) (k : ℕ) → length ks + k ≡ deepest → WellFormed t k x
         → WellFormedFrames t k ks → Reports v t (walk v next n ks x c)

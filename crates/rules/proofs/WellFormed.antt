@@ -51,7 +51,8 @@ WellFormedLevels t k (x ∷ xs) = WellFormed t k (x .rest) × WellFormedClauses 
 
 -- the innermost and those around it
 parted : (t : List ℕ) (k : ℕ) (xs : List Level) → WellFormedLevels t k xs
-    → WellFormed t k (innermost xs .rest) × WellFormedClauses t k (innermost xs .more) × WellFormedLevels t (suc k) (outer xs)
+    → WellFormed t k (innermost xs .rest) × WellFormedClauses t k (innermost xs .more)
+    × WellFormedLevels t (suc k) (outer xs)
 unfolding WellFormedLevels WellFormed
 parted t k [] w = (tt, tt, tt)
 parted t k (x ∷ xs) w = w
@@ -82,7 +83,8 @@ module _ (t : List ℕ) (k p : ℕ) (xs : List Level) (w : WellFormedLevels t k 
       let o = parted t (suc k) (outer xs) (h .2) in
       ((a, (h .0, h .1), o .0), o .1, o .2)
 
-  separator-formed : (d : Directive) → WellFormedLevels t k (record { rest = end; more = asClauses (d .colon) xs } ∷ outer xs)
+  separator-formed : (d : Directive)
+      → WellFormedLevels t k (record { rest = end; more = asClauses (d .colon) xs } ∷ outer xs)
   unfolding WellFormedLevels WellFormed
   separator-formed d = let h = parted t k xs w in (tt, (h .0, h .1), h .2)
 
@@ -132,11 +134,13 @@ module _ (t : List ℕ) (p : ℕ) (d : Directive) (e : itemAt t p ≡ Written d)
   directive-formed EndConditional q k h =
       let r = sound-end-conditional t os p s d e q in
       let n : suc (length (r .others)) + k ≡ deepest = rw (r .is) at h in
-      rw (levels-end-conditional t p d e q) (closer-formed t k (levelsAt t (d .next)) (on (r .others) (suc k) (omega arith) (r .on)))
+      rw (levels-end-conditional t p d e q)
+      (closer-formed t k (levelsAt t (d .next)) (on (r .others) (suc k) (omega arith) (r .on)))
   directive-formed EndIteration q k h =
       let r = sound-end-iteration t os p s d e q in
       let n : suc (length (r .others)) + k ≡ deepest = rw (r .is) at h in
-      rw (levels-end-iteration t p d e q) (closer-formed t k (levelsAt t (d .next)) (on (r .others) (suc k) (omega arith) (r .on)))
+      rw (levels-end-iteration t p d e q)
+      (closer-formed t k (levelsAt t (d .next)) (on (r .others) (suc k) (omega arith) (r .on)))
   directive-formed Unknown q k h = absurd (sound-known t os p s d e q)
 
 item-formed : (t : List ℕ) (p : ℕ) → ((q : ℕ) → p < q → q ≤ length t → FormedFrom t q) → FormedFrom t p
@@ -147,8 +151,8 @@ item-formed t p on os k h s = by (itemAt t p) refl
     by End e = rw (levels-end t p e) tt
     by (Literal b) e =
         let w : p < length t = stands t p (Literal b) e in
-        rw (levels-literal t p b e)
-        (acts-formed t k p (levelsAt t (p + 1)) (on (p + 1) (omega arith) (omega arith) os k h (sound-literal t os p s b e)) (Literal b) w)
+        let more = on (p + 1) (omega arith) (omega arith) os k h (sound-literal t os p s b e) in
+        rw (levels-literal t p b e) (acts-formed t k p (levelsAt t (p + 1)) more (Literal b) w)
     by (Written d) e =
         let w = next-inside t p d e in
         directive-formed t p d e (on (d .next) (omega (arith, w .above)) (w .most)) os s (d .code) refl k h
