@@ -3,7 +3,7 @@
 use Prim.Native.Nat.{ℕ, _+_}
 use mathlib.Core.Path.{_≡_, refl}
 use mathlib.Core.Bool.{true}
-use mathlib.Core.List.{List, [], _∷_}
+use mathlib.Core.List.{List, []}
 use Rattle.rules.specs.Directive.{itemAt, wellWritten}
 use Rattle.rules.specs.Text.{Block, textVerdict}
 use Rattle.rules.specs.declared.Code.{Code}

@@ -2,15 +2,14 @@
 -- and so is the text where it is made of bytes. Assumes nothing.
 use Prim.Native.Nat.{ℕ, _+_, _*_, _/_, _%_, _<_, _≤_}
 use mathlib.Core.Path.{_≡_, refl, sym, ap, _∙_}
-use mathlib.Core.Bool.{Bool, true, false}
+use mathlib.Core.Bool.{true}
 use mathlib.Core.List.{List, [], _∷_, _++_, append-nil}
 use native.Mathlib.Decide.{decLt}
 use native.Mathlib.Omega.{arith}
-use lib.Dec.{leb, ltb}
 use lib.ListN.{length, getD, drop}
 use borrow.Author.Tests.{lt-ltb, le-ltb, le-leb, lt-leb}
 use Rattle.rules.specs.Answer.{Answer, answerOf}
-use Rattle.rules.specs.Job.{digitValue, inPairs, frameOf, formatIn, tableIn, isWhole, hexOf, fourBytes, numbersOf, answerBytes, ifFrame, jobRoom, answerFrame, answerLine}
+use Rattle.rules.specs.Job.{digitValue, inPairs, frameOf, formatIn, tableIn, isWhole, hexOf, fourBytes, numbersOf, answerBytes, jobRoom, answerFrame, answerLine}
 use Rattle.rules.specs.Number.{digitByte}
 use Rattle.rules.specs.Table.{be32At}
 use Rattle.rules.proofs.AnswerBounds.{answer-within}

@@ -11,7 +11,7 @@ use borrow.Author.Tests.{ltb-true}
 use Rattle.rules.specs.Choice.{both}
 use Rattle.rules.specs.Directive.{Place, number, character as characterPlace, suits, eachSuits}
 use Rattle.rules.specs.Table.{Value, boolean, integer, character, string, list, View}
-use Rattle.rules.specs.Working.{Context, argumentIn, Worked, worked, wrong, inRange, fromValue, fromCount, workOut, Settled, settled, unsettled, afterOne, together, settle}
+use Rattle.rules.specs.Working.{Context, argumentIn, Worked, worked, wrong, inRange, fromValue, workOut, Settled, settled, unsettled, afterOne, together, settle}
 use Rattle.rules.specs.declared.Parameter.{Parameter}
 use Rattle.rules.specs.declared.Parameter.the-variants.{Default, Number, Character, Next, Remaining}
 use Rattle.rules.specs.declared.Setting.{Setting}
