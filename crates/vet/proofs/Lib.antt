@@ -1,13 +1,11 @@
 pub mod Before
 pub mod Below
 pub mod Bound
-pub mod Bytes
 pub mod Causes
 pub mod Choices
 pub mod Codes
 pub mod Encoded
 pub mod Filled
-pub mod Fits
 pub mod Items
 pub mod Lengths
 pub mod Loop

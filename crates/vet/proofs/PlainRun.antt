@@ -12,7 +12,8 @@ use Rattle.rules.specs.Directive.{formPlaces, placesOf, either, inOrder}
 use Rattle.rules.specs.Text.{Token, acts, Level, innermost, itemBefore, levelsOf}
 use Rattle.rules.specs.Piece.{textOf, kindOf, accepts}
 use Rattle.rules.specs.Working.{Settled, settled, unsettled, settle, settingsOf, Source, own, back, glyphSource, sourceOf}
-use Rattle.rules.specs.Run.{Flow, done, refused, put, choose, write, writeFrom, onSettled, directiveActs, itemActs, turn, walk, run}
+use Rattle.rules.specs.Flow.{Flow, done, refused, put}
+use Rattle.rules.specs.Run.{choose, write, writeFrom, onSettled, directiveActs, itemActs, turn, walk, run}
 use Rattle.rules.specs.declared.Code.{Code}
 use Rattle.rules.specs.declared.Directive.{Directive}
 use Rattle.rules.specs.declared.Form.{Form}
@@ -41,7 +42,7 @@ module _ (v : View) (count : ℕ) where
 
   -- the flow of items
   unfoldable pub flowFrom : List Token → ℕ → ℕ → Flow
-  flowFrom [] n next = done n
+  flowFrom [] n next = done n (count - next)
   flowFrom (x ∷ xs) n next = flowBy (x .at) (n - 1) (useOf count (x .item) next) (λ i. flowFrom xs (n - 1) i)
 
   flow-same : (p m : ℕ) (u : Use) (k l : ℕ → Flow) → ((i : ℕ) → k i ≡ l i) → flowBy p m u k ≡ flowBy p m u l

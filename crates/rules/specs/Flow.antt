@@ -1,0 +1,32 @@
+-- What a run gives, whatever the room: its pieces in order and how it ends. Assumes nothing: these are definitions.
+use Prim.Native.Nat.{ℕ, _-_}
+use mathlib.Core.List.{List, [], _++_}
+
+-- What a run gives: `put`, a piece with its position, the steps left once it is begun, its bytes, and what follows it;
+-- and its end, `done` with the steps left and the number of arguments left over, or `refused` with the code, the
+-- position and the steps left
+pub data Flow : Type 0 where
+  done : ℕ → ℕ → Flow
+  refused : ℕ → ℕ → ℕ → Flow
+  put : ℕ → ℕ → List ℕ → Flow → Flow
+
+-- "A call does at most 65,536."
+abbrev pub limit : ℕ
+limit = 65536
+
+-- "the text that these rules give": the pieces of a run, together
+unfoldable pub givenText : Flow → List ℕ
+givenText (done left over) = []
+givenText (refused code p left) = []
+givenText (put p left piece more) = piece ++ givenText more
+
+-- how a run ends where all its pieces fit
+pub record Finish : Type 0 where
+  pub code : ℕ
+  pub position : ℕ
+  pub steps : ℕ
+
+abbrev pub finishOf : Flow → Finish
+finishOf (done left over) = record { code = 0; position = 0; steps = limit - left }
+finishOf (refused code p left) = record { code = code; position = p; steps = limit - left }
+finishOf (put p left piece more) = finishOf more
