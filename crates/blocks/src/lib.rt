@@ -1,0 +1,6 @@
+// Blocks as a run meets them, before anything is written: which clause a conditional wants and where it stands, the
+// passes of an iteration, and where sequences and blocks end.
+pub mod clauses;
+pub mod ends;
+pub mod passes;
+pub mod wanting;

@@ -1,0 +1,4 @@
+pub mod Arms
+pub mod BlockArms
+pub mod Places
+pub mod Strides
