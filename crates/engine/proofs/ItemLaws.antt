@@ -26,11 +26,11 @@ use Rattle.acting.specs.declared.state.Ran.{Ran}
 use Rattle.acting.specs.declared.state.Spot.{Spot}
 use Rattle.acting.specs.Acting.{Performed}
 use Rattle.acting.specs.Ran.{refusedRan, endedRan, hand, Acts}
-use Rattle.engine.specs.Runs.{ActsAt, Steps}
+use Rattle.running.specs.Runs.{ActsAt, Steps}
 use Rattle.engine.specs.Running.{ActsAlone, PutsLiterals, leftRan, escaped}
-use Rattle.engine.proofs.Arms.{literal-acts, literal-full, steps-acts-none, steps-acts, steps-escape-none, steps-escape-left, steps-escape-on}
-use Rattle.engine.proofs.Strides.{strides, strides-none, strides-on}
-use Rattle.engine.proofs.Places.{literal-at, writes-at, jump-at, escape-at}
+use Rattle.running.proofs.Arms.{literal-acts, literal-full, steps-acts-none, steps-acts, steps-escape-none, steps-escape-left, steps-escape-on}
+use Rattle.running.proofs.Strides.{strides, strides-none, strides-on}
+use Rattle.running.proofs.Places.{literal-at, writes-at, jump-at, escape-at}
 
 -- a literal byte
 module _ (t : List ℕ) (v : View) (first count level p byte i left at : ℕ) (b : List ℕ) (r : Ran) (e : itemAt t p ≡ Literal byte) where

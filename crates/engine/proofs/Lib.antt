@@ -1,9 +1,4 @@
-pub mod Arms
-pub mod BlockArms
-pub mod ClauseLaws
-pub mod Places
 pub mod ShortRuns
-pub mod Strides
 pub mod ItemLaws
 pub mod RunnerLaws
 pub mod WholeLaws

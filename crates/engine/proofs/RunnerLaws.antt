@@ -29,12 +29,13 @@ use Rattle.acting.specs.declared.state.Ran.{Ran}
 use Rattle.acting.specs.declared.state.Stop.{Stop}
 use Rattle.acting.specs.declared.state.Stop.the-variants.{Ended, Left, Refused}
 use Rattle.acting.specs.Ran.{refusedRan, endedRan, hand}
-use Rattle.engine.specs.Runs.{EndsAt, After, restAt, Runs, Steps, Strides, Blocks, Passes, choosing, iterating, overListed}
-use Rattle.engine.specs.Running.{isEnded, endsSequence, endsAt, opensBlock, iterates, ActsAlone, isListValue}
-use Rattle.engine.proofs.Arms.{runs-end, steps-deep, steps-block-none, steps-block}
-use Rattle.engine.proofs.BlockArms.{chooses-run, iterates-run, blocks-refused, passes-none, passes-on}
-use Rattle.engine.proofs.Strides.{strides-runs-left, strides-runs-refused}
-use Rattle.engine.proofs.Places.{end-at, bad-at, unfinished-at, separator-at, closer-at, unknown-at, iteration-at, conditional-at}
+use Rattle.running.specs.Runs.{EndsAt, After, restAt, Runs, Steps, Strides, Blocks, Passes, choosing, iterating, overListed}
+use Rattle.blocks.specs.Parts.{endsSequence, endsAt, opensBlock, iterates, isListValue}
+use Rattle.engine.specs.Running.{isEnded, ActsAlone}
+use Rattle.running.proofs.Arms.{runs-end, steps-deep, steps-block-none, steps-block}
+use Rattle.running.proofs.BlockArms.{chooses-run, iterates-run, blocks-refused, passes-none, passes-on}
+use Rattle.running.proofs.Strides.{strides-runs-left, strides-runs-refused}
+use Rattle.running.proofs.Places.{end-at, bad-at, unfinished-at, separator-at, closer-at, unknown-at, iteration-at, conditional-at}
 
 not-both : {b : Bool} → b ≡ true → b ≡ false → ⊥
 not-both p q = let z : _≡_ {A = ℕ} 0 1 = cc in omega arith

@@ -27,9 +27,9 @@ use Rattle.acting.specs.Acting.{Performed}
 use Rattle.acting.specs.Ran.{refusedRan, hand}
 use Rattle.acting.proofs.ActLaws.{performed-as, acts-writes, settings-well, write-anywhere}
 use Rattle.acting.proofs.Sources.{worked-in}
-use Rattle.engine.specs.Runs.{Steps}
+use Rattle.running.specs.Runs.{Steps}
 use Rattle.engine.proofs.ItemLaws.{alone-none, alone-acts}
-use Rattle.engine.proofs.Places.{writes-at}
+use Rattle.running.proofs.Places.{writes-at}
 
 -- a number x and a character y as settings
 abbrev pub shortSettings : Setting → Setting → Settings

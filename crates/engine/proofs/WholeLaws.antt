@@ -19,7 +19,7 @@ use Rattle.acting.specs.declared.state.Stop.{Stop}
 use Rattle.acting.specs.declared.state.Stop.the-variants.{Ended, Left, Refused as RefusedAt}
 use Rattle.acting.specs.Ran.{hand, onward}
 use Rattle.engine.specs.declared.formatting.Outcome.{Outcome}
-use Rattle.engine.specs.Runs.{leaving, restAt, Runs}
+use Rattle.running.specs.Runs.{leaving, restAt, Runs}
 use Rattle.engine.specs.Whole.{codeOf, positionOf, outcomeOf}
 
 -- the answer of a call whose table and text are accepted

@@ -1,4 +1,2 @@
-pub mod Clauses
-pub mod Runs
 pub mod Running
 pub mod Whole

@@ -6,23 +6,16 @@ use mathlib.Core.List.{List}
 use lib.Dec.{leb}
 use lib.ListN.{length}
 use Rattle.rules.specs.Directive.{FormRight}
-use Rattle.rules.specs.Table.{Value, boolean, integer, character, string, list, View, meant, entryCount, Holds}
+use Rattle.rules.specs.Table.{View}
 use Rattle.rules.specs.Text.{levelsAt}
-use Rattle.rules.specs.declared.Argument.{Argument}
-use Rattle.rules.specs.declared.Bracket.the-variants.{Conditional, Iteration}
 use Rattle.rules.specs.declared.Code.{Code}
 use Rattle.rules.specs.declared.Code.the-variants.{Writes, Jump, Escape, Opens, Separator, Closes, Unknown}
-use Rattle.rules.specs.declared.Item.{Item}
-use Rattle.rules.specs.declared.Item.the-variants.{End, Literal, Written, BadNumber, Unfinished}
-use Rattle.working.specs.declared.Hand.{Hand}
 use Rattle.acting.specs.declared.state.Ran.{Ran}
 use Rattle.acting.specs.declared.state.Spot.{Spot}
 use Rattle.acting.specs.declared.state.Stop.{Stop}
 use Rattle.acting.specs.declared.state.Stop.the-variants.{Ended, Left, Refused}
 use Rattle.acting.specs.Ran.{endedRan, hand}
-use Rattle.engine.specs.declared.items.Listed.{Listed}
-use Rattle.engine.specs.declared.items.Listed.the-variants.{Is, Not}
-use Rattle.engine.specs.Runs.{Strides}
+use Rattle.running.specs.Runs.{Strides}
 
 -- a directive that neither opens a block nor ends a sequence
 abbrev pub ActsAlone : Code → Type 0

@@ -1,4 +1,4 @@
-// The parts of a run that open no block: a literal byte, a directive that acts alone, the ends of sequences and passes.
+// The parts of a run that open no block: a literal byte, and a directive that acts alone.
 use acting::acting::act_form;
 use acting::acting::act_jump;
 use acting::state::Ran;
@@ -6,39 +6,21 @@ use acting::state::Spot;
 use acting::state::Stop;
 use acting::state::go_on;
 use acting::state::refuse;
-use checking::text::ClauseEnd;
-use checking::text::after_block;
-use checking::text::next_clause;
-use fitting::places::is_well_written;
-use reader::directive::item_at;
-use rules::Argument;
 use rules::ArgumentPosition;
-use rules::Bracket;
 use rules::Code;
 use rules::Directive;
-use rules::EntryIndex;
-use rules::Item;
-use rules::Setting;
-use rules::Settings;
 use working::Hand;
-use working::SettledOut;
-use working::argument_at;
-use working::settle_directive;
 ghost use mathlib.Core.Path.{_≡_};
-ghost use mathlib.Core.Bool.{false};
-ghost use mathlib.Core.List.{List, _∷_};
+ghost use mathlib.Core.List.{List};
 ghost use Prim.Native.Nat.{ℕ, _≤_, _<_};
 ghost use lib.ListN.{length};
-ghost use Rattle.rules.specs.Directive.{either, itemAt};
-ghost use Rattle.rules.specs.Table.{View, meant, viewOf};
-ghost use Rattle.rules.specs.Text.{innermost, outer, levelsAt};
-ghost use Rattle.rules.specs.Working.{noneRemain};
-ghost use Rattle.rules.specs.Run.{Flow, Frame, conditional, usedUp, oneLess, overList, run};
+ghost use Rattle.rules.specs.Directive.{itemAt};
+ghost use Rattle.rules.specs.Table.{View, viewOf};
+ghost use Rattle.rules.specs.Text.{levelsAt};
 ghost use Rattle.rules.specs.declared.Item.the-variants.{Literal, Written};
 ghost use Rattle.working.specs.Settling.{InHand, handAt};
-ghost use Rattle.checking.specs.Ends.{AfterBlock};
-ghost use Rattle.engine.specs.Runs.{Runs, Steps, Blocks, Passes, choosing, iterating, restAt};
-ghost use Rattle.engine.specs.Running.{isEnded, endsSequence, endsAt, opensBlock, iterates, escaped, ActsAlone, ListsTo, PutsLiterals};
+ghost use Rattle.running.specs.Runs.{Steps};
+ghost use Rattle.engine.specs.Running.{isEnded, escaped, ActsAlone, PutsLiterals};
 
 // A literal byte.
 pub fn put_literal(

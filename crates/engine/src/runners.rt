@@ -1,23 +1,23 @@
 // The runners. The runner of a sequence calls the runners of blocks and is called by them: the levels left for blocks
 // fall at each block, and the text or the steps that are left fall in each turn of a loop.
-use crate::clauses::Chosen;
-use crate::clauses::choose_clause;
-use crate::items::Listed;
 use crate::items::act;
-use crate::items::close_from;
-use crate::items::ends_here;
 use crate::items::is_ended;
-use crate::items::is_iteration;
-use crate::items::is_over;
-use crate::items::list_of;
-use crate::items::one_less;
-use crate::items::opens_block;
 use crate::items::put_literal;
 use crate::short::run_short;
 use acting::state::Ran;
 use acting::state::Spot;
 use acting::state::Stop;
 use acting::state::refuse;
+use blocks::clauses::Chosen;
+use blocks::clauses::choose_clause;
+use blocks::ends::close_from;
+use blocks::ends::ends_here;
+use blocks::ends::is_iteration;
+use blocks::ends::opens_block;
+use blocks::passes::Listed;
+use blocks::passes::is_over;
+use blocks::passes::list_of;
+use blocks::passes::one_less;
 use checking::text::after_block;
 use fitting::places::is_well_written;
 use reader::directive::item_at;
@@ -38,8 +38,8 @@ ghost use Rattle.rules.specs.Table.{viewOf};
 ghost use Rattle.rules.specs.Text.{levelsAt};
 ghost use Rattle.rules.specs.declared.Item.the-variants.{Written};
 ghost use Rattle.working.specs.Settling.{InHand, handAt};
-ghost use Rattle.engine.specs.Runs.{Runs, Steps, Blocks, Passes, RunsClause, EndsBlock, choosing, iterating, overListed};
-ghost use Rattle.engine.specs.Running.{endsAt, opensBlock};
+ghost use Rattle.running.specs.Runs.{Runs, Steps, Blocks, Passes, RunsClause, EndsBlock, choosing, iterating, overListed};
+ghost use Rattle.blocks.specs.Parts.{endsAt, opensBlock};
 
 // The sequence that is read at start, with level levels left for blocks.
 pub fn run_sequence(
@@ -232,14 +232,14 @@ fn run_conditional(
                     j,
                     out,
                 ),
-                Chosen::Nothing { next: j } => end_block(text, spot, d.next, j),
+                Chosen::Nothing { inside, next: j } => end_block(text, spot, inside, j),
                 Chosen::Wrong(code) => refuse(spot, code, next),
             }
         }
     }
 }
 
-// On after the block whose inside is at q, with nothing written.
+// On after the block in which q stands, with nothing written.
 fn end_block(text: &[u8], spot: Spot, q: usize, next: ArgumentPosition) -> Ran
     requires { ⌜ q ≤ length (now text) ⌝ }
     ensures { λ r. ⌜ EndsBlock (levelsAt (now (text .entry))) (length (now (text .entry))) spot q (next .0) r ⌝ }

@@ -24,7 +24,7 @@ ghost use Rattle.rules.specs.Text.{levelsAt};
 ghost use Rattle.reader.specs.Shorts.{settingOf, shortForm, ShortIn, IsShort};
 ghost use Rattle.working.specs.Settling.{InHand, handAt};
 ghost use Rattle.rules.specs.Directive.{FormRight};
-ghost use Rattle.engine.specs.Runs.{Steps, Strides};
+ghost use Rattle.running.specs.Runs.{Steps, Strides};
 
 // A parameter as its setting, where none stands for one that is not written.
 fn setting_of(n: usize, none: usize) -> Setting

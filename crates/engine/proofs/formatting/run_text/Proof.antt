@@ -2,7 +2,7 @@
 use Rattle.engine.proofs.WholeLaws.{whole-told}
 use Rattle.engine.proofs.WholeLaws.{whole}
 use Rattle.acting.specs.Ran.{hand}
-use Rattle.engine.specs.Runs.{Runs}
+use Rattle.running.specs.Runs.{Runs}
 use Rattle.rules.proofs.TableLaws.{accepted-sound}
 use Rattle.rules.specs.Text.{levelsAt}
 use Rattle.rules.specs.Table.{viewOf, argumentCount}

@@ -1,6 +1,6 @@
 -- A directive that holds no clause acts as 01 has it. Assumes nothing.
 use Rattle.engine.proofs.ItemLaws.{alone-none, alone-acts, alone-escape, only-escape}
-use Rattle.engine.proofs.Places.{writes-at, jump-at}
+use Rattle.running.proofs.Places.{writes-at, jump-at}
 use Rattle.rules.specs.declared.Code.{Code}
 use Rattle.engine.specs.Running.{ActsAlone}
 use mathlib.Core.Path.{_≡_, refl, subst}

@@ -15,16 +15,16 @@ use Rattle.rules.specs.declared.Item.{Item}
 use Rattle.rules.specs.declared.Setting.{Setting}
 use Rattle.working.specs.Settling.{InHand, handAt}
 use Rattle.working.proofs.Answers.{next-reaches, run-settled, run-refused}
-use Rattle.engine.specs.Clauses.{onChosen, ChosenIn}
-use Rattle.engine.specs.declared.clauses.Chosen.{Chosen}
-use Rattle.engine.specs.Running.{endsAt, endsSequence, ListsTo}
-use Rattle.engine.specs.declared.items.Listed.{Listed}
+use Rattle.blocks.specs.Clauses.{onChosen, ChosenIn}
+use Rattle.blocks.specs.declared.clauses.Chosen.{Chosen}
+use Rattle.blocks.specs.Parts.{endsAt, endsSequence, ListsTo}
+use Rattle.blocks.specs.declared.passes.Listed.{Listed}
 use Rattle.acting.specs.declared.state.Ran.{Ran}
-use Rattle.engine.specs.Runs.{Runs, Steps, Blocks, Passes, restAt, choosing, iterating, overListed}
+use Rattle.running.specs.Runs.{Runs, Steps, Blocks, Passes, restAt, choosing, iterating, overListed}
 use Rattle.acting.proofs.ActLaws.{settings-ill, argument-there, argument-none}
-use Rattle.engine.proofs.Strides.{strides-runs-on, runs-on, runs-left, runs-refused}
+use Rattle.running.proofs.Strides.{strides-runs-on, runs-on, runs-left, runs-refused}
 use Rattle.rules.proofs.Bases.{code-right}
-use Rattle.engine.proofs.BlockArms.{passes-over, passes-none, passes-on, passes-left, passes-refused, blocks-nothing, blocks-clause, blocks-clause-left, blocks-clause-refused, blocks-same, blocks-list, blocks-as}
+use Rattle.running.proofs.BlockArms.{passes-over, passes-none, passes-on, passes-left, passes-refused, blocks-nothing, blocks-clause, blocks-clause-left, blocks-clause-refused, blocks-same, blocks-list, blocks-as}
 use Rattle.engine.proofs.RunnerLaws.{Onto, is-ended, ended-as, runs-stopped, sequence-ends, literal-inside, no-other, acts-alone, is-iteration, is-conditional, block-deep, block-none, block-iterates, block-chooses, blocks-told, closes-after, over-other, over-none, over-not, over-list, passes-none-told, passes-on-told}
 use Rattle.rules.proofs.RunLaws.{choose-yes, choose-no}
 use Rattle.rules.proofs.TextLaws.{next-inside}
@@ -55,15 +55,15 @@ use Rattle.engine.proofs.runners.+run_block+run_clause+run_conditional+
 use Rattle.engine.proofs.runners.run_sequence.Reads as run-sequence
 use Rattle.engine.proofs.runners.run_sequence.Kinds as run-sequence-kinds
 use Rattle.engine.proofs.runners.+run_block+run_clause+run_conditional+run_item+run_iteration+run_over_list+run_passes+run_sequence.Lts-run_sequence as run-sequence-lts
-use Rattle.engine.proofs.clauses.choose_clause.Reads as choose-clause-reads
+use Rattle.blocks.proofs.clauses.choose_clause.Reads as choose-clause-reads
 use Rattle.engine.proofs.items.act.Reads as act-reads
-use Rattle.engine.proofs.items.close_from.Reads as close-from-reads
-use Rattle.engine.proofs.items.ends_here.Reads as ends-here-reads
-use Rattle.engine.proofs.items.is_iteration.Reads as is-iteration-reads
-use Rattle.engine.proofs.items.is_over.Reads as is-over-reads
-use Rattle.engine.proofs.items.list_of.Reads as list-of-reads
-use Rattle.engine.proofs.items.one_less.Reads as one-less-reads
-use Rattle.engine.proofs.items.opens_block.Reads as opens-block-reads
+use Rattle.blocks.proofs.ends.close_from.Reads as close-from-reads
+use Rattle.blocks.proofs.ends.ends_here.Reads as ends-here-reads
+use Rattle.blocks.proofs.ends.is_iteration.Reads as is-iteration-reads
+use Rattle.blocks.proofs.passes.is_over.Reads as is-over-reads
+use Rattle.blocks.proofs.passes.list_of.Reads as list-of-reads
+use Rattle.blocks.proofs.passes.one_less.Reads as one-less-reads
+use Rattle.blocks.proofs.ends.opens_block.Reads as opens-block-reads
 use Rattle.engine.proofs.items.put_literal.Reads as put-literal-reads
 use Rattle.engine.proofs.runners.end_block.Reads as end-block-reads
 use Rattle.engine.proofs.short.run_short.Reads as run-short-reads
@@ -322,13 +322,15 @@ run-conditional-run-clause-requires : (t : ℕ) → run-conditional-lts.Need-run
 run-conditional-run-clause-requires t c κs =
     let a = (c .before .before .before .before .before .before .before .before .before .before .before .before .before .before .args) in
     let w = subst (ChosenIn (a .text .now) (a .d .next) (a .hand .count)) (c .before .before .chosen .given .1) (c .before .before .before .before .choose-clause .ensures .inside) in
-    (omega (arith, (c .before .before .before .before .before .before .before .before .before .before .before .before .before .before .pre .0)), ((c .before .before .before .before .before .before .before .before .before .before .before .before .before .before .pre .1 .0), (w .next, (w .most, (c .before .before .before .before .before .before .before .before .before .before .before .before .before .before .pre .1 .1 .1 .1)))))
+    (omega (arith, (c .before .before .before .before .before .before .before .before .before .before .before .before .before .before .pre .0)), ((c .before .before .before .before .before .before .before .before .before .before .before .before .before .before .pre .1 .0), (w .1, (w .0 .most, (c .before .before .before .before .before .before .before .before .before .before .before .before .before .before .pre .1 .1 .1 .1)))))
 
 run-conditional-enum-known-chosen-2 : (t : ℕ) → run-conditional-lts.Need-enum-known-chosen-2 (run-conditional-claims t) (run-conditional-at t) run-conditional.Post
 run-conditional-enum-known-chosen-2 t c = search needs
 
 run-conditional-end-block-requires : (t : ℕ) → run-conditional-lts.Need-end-block-requires (run-conditional-claims t) (run-conditional-at t) run-conditional.Post
-run-conditional-end-block-requires t c κs = (c .before .before .before .before .before .before .before .before .before .before .before .before .before .pre .1 .1 .1 .0)
+run-conditional-end-block-requires t c κs =
+    let a = (c .before .before .before .before .before .before .before .before .before .before .before .before .before .args) in
+    (subst (ChosenIn (a .text .now) (a .d .next) (a .hand .count)) (c .before .chosen2 .given .1) (c .before .before .before .choose-clause .ensures .inside)) .0 .most
 
 run-conditional-enum-known-chosen-3 : (t : ℕ) → run-conditional-lts.Need-enum-known-chosen-3 (run-conditional-claims t) (run-conditional-at t) run-conditional.Post
 run-conditional-enum-known-chosen-3 t c = search needs
@@ -345,7 +347,7 @@ run-conditional-same-length : (t : ℕ) → run-conditional-lts.Need-same-length
 run-conditional-same-length t c =
     let a = (c .before .before .before .before .before .before .before .before .before .before .before .before .before .before .before .before .before .args) in
     let w = subst (ChosenIn (a .text .now) (a .d .next) (a .hand .count)) (c .before .before .before .before .before .chosen .given .1) (c .before .before .before .before .before .before .before .choose-clause .ensures .inside) in
-    (c .before .before .run-clause .ensures .is) (a .d .next) _ (λ ks. refl) (w .outside) (w .least) .does .size
+    (c .before .before .run-clause .ensures .is) (a .d .next) _ (λ ks. refl) (w .0 .outside) (w .0 .least) .does .size
 
 run-conditional-returns-3 : (t : ℕ) → run-conditional-lts.Need-returns-3 (run-conditional-claims t) (run-conditional-at t) run-conditional.Post
 run-conditional-returns-3 t c =
@@ -354,7 +356,7 @@ run-conditional-returns-3 t c =
     (c .before .before .run-clause .ensures .is) (a .d .next) (choosing (levelsAt (a .text .now)) (viewOf (a .table .now)) (handAt (a .hand)) (a .spot .position) (a .d) (a .d .next) (a .next .0) (a .spot .left))
     (λ ks. run-settled (c .before .before .before .before .before .before .before .before .before .before .before .settle-directive .ensures) (sym (c .before .before .before .before .before .before .before .before .before .before .before .before .before .is-well-written .ensures) ∙ not-false _ (c .before .before .before .before .before .before .before .before .before .before .before .before .if1 .left)) (a .spot .position) (a .spot .left) _ (c .before .before .before .before .before .before .before .before .before .settled2 .given .1)
     ∙ (c .before .before .before .before .before .before .before .choose-clause .ensures .is) (a .spot .position) (a .spot .left) (a .next .0) _
-    ∙ ap (λ (x : Chosen). onChosen (levelsAt (a .text .now)) (a .spot .position) (a .spot .left) x (λ y after. run (viewOf (a .table .now)) (a .spot .left) y (conditional (innermost (outer (levelsAt (a .text .now) (a .d .next))) .rest) ∷ ks) (handAt (a .hand) after))) (c .before .before .before .before .before .chosen .given .1)) (w .outside) (w .least)
+    ∙ ap (λ (x : Chosen). onChosen (levelsAt (a .text .now)) (a .spot .position) (a .spot .left) x (λ y after. run (viewOf (a .table .now)) (a .spot .left) y (conditional (innermost (outer (levelsAt (a .text .now) (a .d .next))) .rest) ∷ ks) (handAt (a .hand) after))) (c .before .before .before .before .before .chosen .given .1)) (w .0 .outside) (w .0 .least)
 
 run-conditional-returns-4 : (t : ℕ) → run-conditional-lts.Need-returns-4 (run-conditional-claims t) (run-conditional-at t) run-conditional.Post
 run-conditional-returns-4 t c =
@@ -365,7 +367,7 @@ run-conditional-returns-4 t c =
     (blocks-nothing (levelsAt (a .text .now)) (length (a .text .now)) (viewOf (a .table .now)) (a .hand .first .0) (a .hand .count) (a .level) (a .d .next) (choosing (levelsAt (a .text .now)) (viewOf (a .table .now)) (handAt (a .hand)) (a .spot .position) (a .d) (a .d .next) (a .next .0) (a .spot .left)) (a .spot .left) (a .spot .at) (a .out .now) _ _
     (λ ks. run-settled (c .before .before .before .before .before .before .before .before .settle-directive .ensures) (sym (c .before .before .before .before .before .before .before .before .before .before .is-well-written .ensures) ∙ not-false _ (c .before .before .before .before .before .before .before .before .before .if1 .left)) (a .spot .position) (a .spot .left) _ (c .before .before .before .before .before .before .settled2 .given .1)
     ∙ (c .before .before .before .before .choose-clause .ensures .is) (a .spot .position) (a .spot .left) (a .next .0) _
-    ∙ ap (λ (x : Chosen). onChosen (levelsAt (a .text .now)) (a .spot .position) (a .spot .left) x (λ y after. run (viewOf (a .table .now)) (a .spot .left) y (conditional (innermost (outer (levelsAt (a .text .now) (a .d .next))) .rest) ∷ ks) (handAt (a .hand) after))) (c .before .before .chosen2 .given .1)) (u .after) (c .before .before .before .before .before .before .before .before .before .before .before .before .before .before .pre .1 .1 .1 .1) w)
+    ∙ ap (λ (x : Chosen). onChosen (levelsAt (a .text .now)) (a .spot .position) (a .spot .left) x (λ y after. run (viewOf (a .table .now)) (a .spot .left) y (conditional (innermost (outer (levelsAt (a .text .now) (a .d .next))) .rest) ∷ ks) (handAt (a .hand) after))) (c .before .before .chosen2 .given .1)) (record { is = u .after .is ∙ w .0 .outside; least = omega (arith, u .after .least, w .0 .least); most = u .after .most }) (c .before .before .before .before .before .before .before .before .before .before .before .before .before .before .pre .1 .1 .1 .1) (w .1))
 
 run-conditional-returns-5 : (t : ℕ) → run-conditional-lts.Need-returns-5 (run-conditional-claims t) (run-conditional-at t) run-conditional.Post
 run-conditional-returns-5 t c =

@@ -6,7 +6,7 @@ use Rattle.rules.specs.Table.{viewOf}
 use Rattle.rules.specs.Text.{levelsAt}
 use Rattle.reader.specs.Shorts.{ShortAt}
 use Rattle.rules.proofs.Bases.{code-right}
-use Rattle.engine.proofs.Strides.{strides, strides-none}
+use Rattle.running.proofs.Strides.{strides, strides-none}
 use Rattle.engine.proofs.short.run_one.Statement.{statement}
 use Rattle.engine.proofs.short.run_one.Tie as tie
 

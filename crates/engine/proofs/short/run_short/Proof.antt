@@ -7,9 +7,9 @@ use lib.ListN.{length}
 use Rattle.rules.specs.Table.{viewOf}
 use Rattle.rules.specs.Text.{levelsAt}
 use Rattle.working.specs.Settling.{handAt}
-use Rattle.engine.specs.Runs.{Strides}
+use Rattle.running.specs.Runs.{Strides}
 use Rattle.engine.proofs.RunnerLaws.{Onto, is-ended}
-use Rattle.engine.proofs.Strides.{strides-on}
+use Rattle.running.proofs.Strides.{strides-on}
 use borrow.Author.Needs.{needs}
 use Rattle.engine.proofs.short.run_short.Statement.{statement}
 use Rattle.engine.proofs.short.run_short.Tie as tie
