@@ -12,7 +12,7 @@ use lib.Dec.{ltb, eqb}
 use lib.ListN.{length, getD, drop}
 use Rattle.rules.specs.Choice.{both}
 use Rattle.rules.specs.Directive.{Reading, start as starting, whole, modifiers, scan, blank, having, closed, pending, withParameter, noParameters, isDigit, codeNamed, codeOf, itemAt, wellWritten}
-use Rattle.rules.specs.Text.{Block, directiveMet, verdictAt}
+use Rattle.rules.specs.Text.{Block, directiveMet, verdictAt, innermost, outer, levelsAt}
 use Rattle.rules.specs.declared.Code.{Code}
 use Rattle.rules.specs.declared.Code.the-variants.{Writes, Jump, Escape, Opens, Separator, Closes, Unknown}
 use Rattle.rules.specs.declared.Directive.{Directive}
@@ -24,7 +24,7 @@ use Rattle.rules.specs.declared.Parameters.{Parameters}
 use Rattle.rules.specs.declared.Setting.{Setting}
 use Rattle.rules.specs.declared.Setting.the-variants.{Absent, Is}
 use Rattle.rules.proofs.Reading.{item-tilde, item-literal}
-use Rattle.rules.proofs.TextLaws.{next-inside, verdict-literal, verdict-written}
+use Rattle.rules.proofs.TextLaws.{next-inside, verdict-literal, verdict-written, levels-literal, levels-writes}
 use Rattle.reader.specs.Scans.{digitAt, commaAt, afterAt, skippedBy, Numbers}
 use Rattle.reader.specs.declared.directive.NumberRead.{NumberRead}
 use Rattle.reader.specs.declared.directive.NumberRead.the-variants.{Whole as WholeOne}
@@ -255,14 +255,20 @@ short-well (Repeat b) x (Is c) next s = absurd (s .1)
 short-well Fold x y next s = absurd s
 
 pub skip-none : (t : List ℕ) (p : ℕ) → Skips t p p
-skip-none t p = record { same = λ os. refl; least = omega arith }
+skip-none t p = record { same = λ os. refl; more = refl; outside = refl; least = omega arith; most = λ h. h }
 
 module _ {t : List ℕ} {first p : ℕ} (k : Skips t first p) where
   pub skip-literal : p < length t → (getD t p 0 ≡ 126 → ⊥) → Skips t first (p + 1)
-  skip-literal h e = record {
-    same = λ os. k .same os ∙ verdict-literal t os p _ (item-literal t p h e);
-    least = omega (arith, k .least);
-  }
+  skip-literal h e =
+      let i = item-literal t p h e in
+      let l = levels-literal t p _ i in
+      record {
+        same = λ os. k .same os ∙ verdict-literal t os p _ i;
+        more = k .more ∙ ap (λ xs. innermost xs .more) l;
+        outside = k .outside ∙ ap outer l;
+        least = omega (arith, k .least);
+        most = λ z. omega arith;
+      }
 
   module _ {f : Form} {x y : Setting} {next : ℕ} (u : IsShort t p f x y next) where
     pub skip-on : (p < next) × (next ≤ length t)
@@ -270,7 +276,12 @@ module _ {t : List ℕ} {first p : ℕ} (k : Skips t first p) where
 
     pub skip-directive : Skips t first next
     unfolding directiveMet
-    skip-directive = record {
-      same = λ os. k .same os ∙ verdict-written t os p (shortDirective f x y next) (u .item) ∙ rw (short-well f x y next (u .suits));
-      least = omega (arith, k .least, skip-on .0);
-    }
+    skip-directive =
+        let l = levels-writes t p (shortDirective f x y next) (u .item) f refl in
+        record {
+          same = λ os. k .same os ∙ verdict-written t os p (shortDirective f x y next) (u .item) ∙ rw (short-well f x y next (u .suits));
+          more = k .more ∙ ap (λ xs. innermost xs .more) l;
+          outside = k .outside ∙ ap outer l;
+          least = omega (arith, k .least, skip-on .0);
+          most = λ z. skip-on .1;
+        }

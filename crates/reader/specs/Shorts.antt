@@ -8,7 +8,7 @@ use mathlib.Core.List.{List}
 use lib.Dec.{eqb}
 use lib.ListN.{length, getD, drop}
 use Rattle.rules.specs.Directive.{Reading, start as starting, whole, scan, codeNamed, codeOf, itemAt, noParameters}
-use Rattle.rules.specs.Text.{Block, verdictAt}
+use Rattle.rules.specs.Text.{Block, verdictAt, innermost, outer, levelsAt}
 use Rattle.rules.specs.declared.Code.the-variants.{Writes}
 use Rattle.rules.specs.declared.Directive.{Directive}
 use Rattle.rules.specs.declared.Form.{Form}
@@ -131,7 +131,10 @@ abbrev pub CodeAt : List ℕ → ℕ → ℕ → ℕ → Short → Type 0
 CodeAt t i number byte Other = Unit {0}
 CodeAt t i number byte (IsOne kind detail number₂ byte₂ next) = Coded t i number byte kind detail number₂ byte₂ next
 
--- whatever blocks are open, what is found in reading from `first` on is found from r on
+-- whatever blocks are open, what is found in reading from `first` on is found from r on, and both stand in one clause
 pub record Skips (t : List ℕ) (first r : ℕ) : Type 0 where
   pub same : (os : List Block) → verdictAt t os first ≡ verdictAt t os r
+  pub more : innermost (levelsAt t first) .more ≡ innermost (levelsAt t r) .more
+  pub outside : outer (levelsAt t first) ≡ outer (levelsAt t r)
   pub least : first ≤ r
+  pub most : first ≤ length t → r ≤ length t

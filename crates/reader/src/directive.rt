@@ -10,7 +10,7 @@ ghost use mathlib.Core.Path.{_≡_};
 ghost use mathlib.Core.Bool.{true, cond, not};
 ghost use Prim.Native.Nat.{_+_, _≤_, _<_};
 ghost use lib.Dec.{eqb};
-ghost use lib.ListN.{length, drop};
+ghost use lib.ListN.{length, getD, drop};
 ghost use Rattle.rules.specs.Choice.{both};
 ghost use Rattle.rules.specs.Directive.{withParameter, noParameters, isDigit, isBlank, blanks, blank, having, closed};
 ghost use Rattle.rules.specs.Directive.{scan, start as starting, modifiers, itemAt};
@@ -95,6 +95,16 @@ pub fn digit_at(text: &[u8], i: usize) -> bool
     } else {
         false
     }
+}
+
+// The byte at i; past the end of the text 0, which is no code.
+pub fn byte_at(text: &[u8], i: usize) -> u8
+    ensures { λ r. ⌜ r ≡ getD (now (text .entry)) i 0 ⌝ }
+{
+    if i < text.len() {
+        return text[i];
+    }
+    0
 }
 
 pub fn wide(b: u8) -> usize
