@@ -1,14 +1,17 @@
 -- How the search for the end of a clause or a block goes on by one item. Assumes nothing.
-use Prim.Native.Nat.{ℕ, suc, _+_, _-_, _<_, _≤_}
+use Prim.Native.Nat.{ℕ, zero, suc, _+_, _-_, _<_, _≤_}
 use mathlib.Core.Path.{_≡_, refl, sym, ap, subst, _∙_}
-use mathlib.Core.Bool.{Bool, false}
+use mathlib.Core.Bool.{Bool, true, false, cond}
 use mathlib.Core.List.{List, [], _∷_}
+use native.Mathlib.Decide.{ℕ-discrete as decEq}
 use native.Mathlib.Omega.{arith}
 use native.Mathlib.Numerals.{add-one}
+use lib.Dec.{eqb}
 use lib.ListN.{length, drop}
+use borrow.Author.Tests.{ne-eqb}
 use lib.Seq.{drop-nil}
 use Rattle.rules.specs.Directive.{itemAt}
-use Rattle.rules.specs.Text.{Sequence, end, acts, escapes, iterates, chooses, none, Level, innermost, outer, before, asClauses, levelsAt}
+use Rattle.rules.specs.Text.{Sequence, end, acts, escapes, iterates, chooses, Clauses, none, Level, innermost, outer, before, asClauses, levelsAt}
 use Rattle.rules.specs.declared.Bracket.the-variants.{Conditional, Iteration}
 use Rattle.rules.specs.declared.Code.{Code}
 use Rattle.rules.specs.declared.Code.the-variants.{Writes, Jump, Escape, Opens, Separator, Closes, Unknown}
@@ -18,6 +21,8 @@ use Rattle.rules.specs.declared.Item.the-variants.{End, Literal, Written, BadNu
 use Rattle.rules.proofs.TextLaws.{Within, stands, next-inside, levels-end, levels-literal, levels-bad, levels-unfinished, levels-written}
 use Rattle.checking.specs.declared.text.Shape.{Shape}
 use Rattle.checking.specs.declared.text.Shape.the-variants.{Stops, Passes, Begins, Splits, Finishes}
+use Rattle.reader.specs.Marks.{markCode}
+use Rattle.reader.specs.Shorts.{Skips}
 use Rattle.checking.specs.Ends.{shapeOfCode, shapeOf, AfterBlock, ClauseAt, LastClause, AnotherClause}
 
 -- 1. What the shape of an item says of the sequences that are open there.
@@ -74,135 +79,157 @@ shaped-item t p Unfinished e = levels-unfinished t p e
 pub shaped : (t : List ℕ) (p : ℕ) (s : Shape) → shapeOf p (itemAt t p) ≡ s → Shaped t p s
 shaped t p s e = subst (Shaped t p) e (shaped-item t p (itemAt t p) refl)
 
--- 2. The end of a block: depth more blocks are to be closed before it.
+-- 2. The end of a clause. The blocks that began since its start, so many, have their levels above that of the clause.
 
-drop-outer : (n : ℕ) (xs : List Level) → drop n (outer xs) ≡ drop (n + 1) xs
-drop-outer n [] = drop-nil n ∙ sym (drop-nil (n + 1))
-drop-outer n (x ∷ xs) = rw add-one
+-- the level of the clause has these clauses to come, and stands above those levels
+pub record Clause (xs : List Level) (more : Clauses) (outside : List Level) : Type 0 where
+  pub more-is : innermost xs .more ≡ more
+  pub outside-is : outer xs ≡ outside
 
-drop-more : (n : ℕ) (x : Level) (xs : List Level) → drop (n + 1) (x ∷ xs) ≡ drop n xs
-drop-more n x xs = rw add-one
+down : (n : ℕ) (xs : List Level) → drop (suc n) xs ≡ drop n (outer xs)
+down n [] = sym (drop-nil n)
+down n (x ∷ xs) = refl
 
-pub record Skipping (t : List ℕ) (start depth p : ℕ) : Type 0 where
-  pub is : outer (levelsAt t start) ≡ drop (depth + 1) (levelsAt t p)
+module _ (xs ys : List Level) {more : Clauses} {outside : List Level} (e : outer xs ≡ outer ys) where
+  -- below the innermost level nothing changes
+  keep-below : (n : ℕ) → Clause (drop (suc n) xs) more outside → Clause (drop (suc n) ys) more outside
+  keep-below n c = subst (λ (zs : List Level). Clause zs more outside) (down n xs ∙ ap (drop n) e ∙ sym (down n ys)) c
+
+  keep : innermost xs .more ≡ innermost ys .more → (n : ℕ) → Clause (drop n xs) more outside → Clause (drop n ys) more outside
+  keep m zero c = record { more-is = sym m ∙ c .more-is; outside-is = sym e ∙ c .outside-is }
+  keep m (suc n) c = keep-below n c
+
+-- reading stands at p, in the clause that start stands in or in `depth` blocks of it
+pub record InClause (t : List ℕ) (start depth p : ℕ) : Type 0 where
+  pub clause : Clause (drop depth (levelsAt t p)) (innermost (levelsAt t start) .more) (outer (levelsAt t start))
   pub least : start ≤ p
   pub most : p ≤ length t
   pub few : depth ≤ p
 
-pub skip-start : (t : List ℕ) (start : ℕ) → start ≤ length t → Skipping t start 0 start
-skip-start t start h = record { is = drop-outer 0 (levelsAt t start); least = omega arith; most = h; few = omega arith }
+pub clause-start : (t : List ℕ) (start : ℕ) → start ≤ length t → InClause t start 0 start
+clause-start t start h = record { clause = record { more-is = refl; outside-is = refl }; least = omega arith; most = h; few = omega arith }
 
-module _ {t : List ℕ} {start n p : ℕ} (k : Skipping t start n p) where
-  pub skip-stops : levelsAt t p ≡ [] → AfterBlock t start p
-  skip-stops e = record { is = e ∙ sym (k .is ∙ ap (drop (n + 1)) e ∙ drop-nil (n + 1)); least = k .least; most = k .most }
+module _ {t : List ℕ} {start depth p : ℕ} (k : InClause t start depth p) where
+  abbrev ClauseHere : List Level → Type 0
+  ClauseHere xs = Clause xs (innermost (levelsAt t start) .more) (outer (levelsAt t start))
 
-  -- an item that leaves the blocks alone, or splits the clauses
-  skip-on : (q : ℕ) (x : Level) → levelsAt t p ≡ x ∷ outer (levelsAt t q) → Within p (length t) q → Skipping t start n q
-  skip-on q x e w = record {
-    is = k .is ∙ ap (drop (n + 1)) e ∙ drop-more n x (outer (levelsAt t q)) ∙ drop-outer n (levelsAt t q);
-    least = omega (arith, k .least);
-    most = w .most;
-    few = omega (arith, k .few);
+  -- literal bytes and short directives
+  pub clause-over : {q : ℕ} → Skips t p q → InClause t start depth q
+  clause-over {q} s = record {
+    clause = keep (levelsAt t p) (levelsAt t q) (s .outside) (s .more) depth (k .clause);
+    least = omega (arith, k .least, s .least);
+    most = s .most (k .most);
+    few = omega (arith, k .few, s .least);
   }
 
-  pub skip-passes : {q : ℕ} → Passed t p q → Skipping t start n q
-  skip-passes {q} s = skip-on q _ (s .is) (s .place)
+  onward : {q n : ℕ} → Within p (length t) q → n ≤ depth + 1 → ClauseHere (drop n (levelsAt t q)) → InClause t start n q
+  onward w h c = record { clause = c; least = omega (arith, k .least, w .above); most = w .most; few = omega (arith, k .few, w .above) }
 
-  pub skip-splits : {colon : Bool} {q : ℕ} → Split t p colon q → Skipping t start n q
-  skip-splits {colon} {q} s = skip-on q _ (s .is) (s .place)
+  pub clause-passes : {q : ℕ} → Passed t p q → InClause t start depth q
+  clause-passes {q} s = onward (s .place) (omega arith) (keep (levelsAt t p) (levelsAt t q) (ap outer (s .is)) (ap (λ xs. innermost xs .more) (s .is)) depth (k .clause))
 
-  pub skip-begins : {q : ℕ} → Begun t p q → Skipping t start (n + 1) q
-  skip-begins {q} s =
-      let w = s .place in
-      record {
-        is = k .is ∙ ap (drop (n + 1)) (s .is) ∙ drop-more n _ (outer (outer (levelsAt t q))) ∙ drop-outer n (outer (levelsAt t q)) ∙ drop-outer (n + 1) (levelsAt t q);
-        least = omega (arith, k .least);
-        most = w .most;
-        few = omega (arith, k .few);
-      }
+  pub clause-begins : {q : ℕ} → Begun t p q → InClause t start (depth + 1) q
+  clause-begins {q} s =
+      let up : drop depth (outer (levelsAt t q)) ≡ drop (depth + 1) (levelsAt t q) = sym (rw (add-one) (down depth (levelsAt t q))) in
+      onward (s .place) (omega arith) (subst ClauseHere up (keep (levelsAt t p) (outer (levelsAt t q)) (ap outer (s .is)) (ap (λ xs. innermost xs .more) (s .is)) depth (k .clause)))
 
-  pub skip-last : {q : ℕ} → Finished t p q → n ≡ 0 → AfterBlock t start q
-  skip-last {q} s z =
-      let w = s .place in
-      record {
-        is = sym (k .is ∙ ap (drop (n + 1)) (s .is) ∙ drop-more n _ (levelsAt t q) ∙ ap (λ m. drop m (levelsAt t q)) z);
-        least = omega (arith, k .least);
-        most = w .most;
-      }
+  -- in a block of the clause
+  module _ (z : depth ≡ 0 → ⊥) where
+    deep : suc (depth - 1) ≡ depth
+    deep = omega arith
 
-  pub skip-finishes : {q : ℕ} → Finished t p q → (n ≡ 0 → ⊥) → Skipping t start (n - 1) q
-  skip-finishes {q} s z =
-      let w = s .place in
-      let m : n ≡ n - 1 + 1 = omega arith in
-      record {
-        is = k .is ∙ ap (drop (n + 1)) (s .is) ∙ drop-more n _ (levelsAt t q) ∙ ap (λ m. drop m (levelsAt t q)) m;
-        least = omega (arith, k .least);
-        most = w .most;
-        few = omega (arith, k .few);
-      }
+    within : ClauseHere (drop (suc (depth - 1)) (levelsAt t p))
+    within = subst (λ (n : ℕ). ClauseHere (drop n (levelsAt t p))) (sym deep) (k .clause)
 
--- 3. The end of a clause.
+    pub clause-splits-below : {colon : Bool} {q : ℕ} → Split t p colon q → InClause t start depth q
+    clause-splits-below {colon} {q} s =
+        onward (s .place) (omega arith)
+        (subst (λ (n : ℕ). ClauseHere (drop n (levelsAt t q))) deep (keep-below (levelsAt t p) (levelsAt t q) (ap outer (s .is)) (depth - 1) within))
 
-pub record InClause (t : List ℕ) (start p : ℕ) : Type 0 where
-  pub more : innermost (levelsAt t p) .more ≡ innermost (levelsAt t start) .more
-  pub outside : outer (levelsAt t p) ≡ outer (levelsAt t start)
-  pub least : start ≤ p
-  pub most : p ≤ length t
-
-pub clause-start : (t : List ℕ) (start : ℕ) → start ≤ length t → InClause t start start
-clause-start t start h = record { more = refl; outside = refl; least = omega arith; most = h }
-
-module _ {t : List ℕ} {start p : ℕ} (k : InClause t start p) where
-  clause-here : innermost (levelsAt t p) .rest ≡ end → ClauseAt t start p
-  clause-here e = record { rest = e; more = k .more; outside = k .outside; least = k .least }
+    pub clause-finishes-below : {q : ℕ} → Finished t p q → InClause t start (depth - 1) q
+    clause-finishes-below {q} s =
+        onward (s .place) (omega arith) (subst ClauseHere (down (depth - 1) (levelsAt t p) ∙ ap (λ xs. drop (depth - 1) (outer xs)) (s .is)) within)
 
   pub clause-stops : levelsAt t p ≡ [] → LastClause t start p p
-  clause-stops e = record {
-    here = clause-here (ap (λ xs. innermost xs .rest) e);
-    more = sym (k .more) ∙ ap (λ xs. innermost xs .more) e;
-    on = e ∙ sym (ap outer e) ∙ k .outside;
-    least = omega arith;
-    most = k .most;
-  }
-
-  pub clause-passes : {q : ℕ} → Passed t p q → InClause t start q
-  clause-passes {q} s =
-      let w = s .place in
+  clause-stops e =
+      let c : ClauseHere [] = subst ClauseHere (ap (drop depth) e ∙ drop-nil depth) (k .clause) in
       record {
-        more = sym (ap (λ xs. innermost xs .more) (s .is)) ∙ k .more;
-        outside = sym (ap outer (s .is)) ∙ k .outside;
-        least = omega (arith, k .least);
-        most = w .most;
-      }
-
-  pub clause-skips : {q r : ℕ} → Begun t p q → AfterBlock t q r → InClause t start r
-  clause-skips {q} {r} s a =
-      let w = s .place in
-      record {
-        more = ap (λ xs. innermost xs .more) (a .is) ∙ sym (ap (λ xs. innermost xs .more) (s .is)) ∙ k .more;
-        outside = ap outer (a .is) ∙ sym (ap outer (s .is)) ∙ k .outside;
-        least = omega (arith, k .least, a .least);
-        most = a .most;
-      }
-
-  pub clause-splits : {colon : Bool} {q : ℕ} → Split t p colon q → AnotherClause t start p colon q
-  clause-splits {colon} {q} s =
-      let w = s .place in
-      record {
-        here = clause-here (ap (λ xs. innermost xs .rest) (s .is));
-        more = sym (k .more) ∙ ap (λ xs. innermost xs .more) (s .is);
-        on = sym (ap outer (s .is)) ∙ k .outside;
+        here = record {
+          rest = ap (λ xs. innermost xs .rest) e;
+          more = ap (λ xs. innermost xs .more) e ∙ c .more-is;
+          outside = ap outer e ∙ c .outside-is;
+          least = k .least;
+        };
+        more = sym (c .more-is);
+        on = e ∙ c .outside-is;
         least = omega arith;
-        most = w .most;
+        most = k .most;
       }
 
-  pub clause-finishes : {q : ℕ} → Finished t p q → LastClause t start p q
-  clause-finishes {q} s =
-      let w = s .place in
-      record {
-        here = clause-here (ap (λ xs. innermost xs .rest) (s .is));
-        more = sym (k .more) ∙ ap (λ xs. innermost xs .more) (s .is);
-        on = sym (ap outer (s .is)) ∙ k .outside;
-        least = omega arith;
-        most = w .most;
-      }
+  -- in the clause itself
+  module _ (z : depth ≡ 0) where
+    own : ClauseHere (levelsAt t p)
+    own = subst (λ (n : ℕ). ClauseHere (drop n (levelsAt t p))) z (k .clause)
+
+    here : innermost (levelsAt t p) .rest ≡ end → ClauseAt t start p
+    here e = record { rest = e; more = own .more-is; outside = own .outside-is; least = k .least }
+
+    pub clause-splits : {colon : Bool} {q : ℕ} → Split t p colon q → AnotherClause t start p colon q
+    clause-splits {colon} {q} s =
+        let w = s .place in
+        record {
+          here = here (ap (λ xs. innermost xs .rest) (s .is));
+          more = sym (own .more-is) ∙ ap (λ xs. innermost xs .more) (s .is);
+          on = sym (ap outer (s .is)) ∙ own .outside-is;
+          least = omega (arith, w .above);
+          most = w .most;
+        }
+
+    pub clause-finishes : {q : ℕ} → Finished t p q → LastClause t start p q
+    clause-finishes {q} s =
+        let w = s .place in
+        record {
+          here = here (ap (λ xs. innermost xs .rest) (s .is));
+          more = sym (own .more-is) ∙ ap (λ xs. innermost xs .more) (s .is);
+          on = sym (ap outer (s .is)) ∙ own .outside-is;
+          least = omega (arith, w .above);
+          most = w .most;
+        }
+
+-- 3. The end of a block: its clauses one after another.
+
+pub record InBlock (t : List ℕ) (start z : ℕ) : Type 0 where
+  pub outside : outer (levelsAt t z) ≡ outer (levelsAt t start)
+  pub least : start ≤ z
+  pub most : z ≤ length t
+
+pub block-start : (t : List ℕ) (start : ℕ) → start ≤ length t → InBlock t start start
+block-start t start h = record { outside = refl; least = omega arith; most = h }
+
+module _ {t : List ℕ} {start z : ℕ} (k : InBlock t start z) where
+  pub block-on : {q next : ℕ} {colon : Bool} → AnotherClause t z q colon next → InBlock t start next
+  block-on a = record { outside = a .on ∙ k .outside; least = omega (arith, k .least, a .here .least, a .least); most = a .most }
+
+  pub block-after : {q next : ℕ} → LastClause t z q next → AfterBlock t start next
+  block-after a = record { is = a .on ∙ k .outside; least = omega (arith, k .least, a .here .least, a .least); most = a .most }
+
+-- 4. The shape of a mark.
+
+opens-shape : (x y z colon : Bool) (next : ℕ)
+    → Begins next ≡ shapeOfCode (cond x (Opens Conditional) (cond y (Opens Conditional) (cond z (Opens Conditional) (Opens Iteration)))) colon next
+opens-shape true y z colon next = refl
+opens-shape false true z colon next = refl
+opens-shape false false true colon next = refl
+opens-shape false false false colon next = refl
+
+module _ (m next : ℕ) where
+  pub mark-finishes : (m ≡ 0 → ⊥) → (m ≡ 1 → ⊥) → m ≤ 3 → Finishes next ≡ shapeOfCode (markCode m) (eqb m 5) next
+  mark-finishes a b c = elim (decEq m 2) [
+    | yes z ↦ rw z
+    | no z ↦ let y : m ≡ 3 = omega arith in rw y
+  ]
+
+  pub mark-begins : 3 < m → Begins next ≡ shapeOfCode (markCode m) (eqb m 5) next
+  mark-begins h =
+      rw (ne-eqb m 1 (λ z. omega (arith, z)), ne-eqb m 2 (λ z. omega (arith, z)), ne-eqb m 3 (λ z. omega (arith, z)))
+      (opens-shape (eqb m 4) (eqb m 5) (eqb m 6) (eqb m 5) next)

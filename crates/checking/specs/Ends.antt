@@ -1,6 +1,6 @@
 -- Where the clauses and blocks of a text end, in terms of the sequences that are open at a place.
 -- Assumes nothing: these are definitions.
-use Prim.Native.Nat.{ℕ, _+_, _≤_}
+use Prim.Native.Nat.{ℕ, _+_, _<_, _≤_}
 use mathlib.Core.Path.{_≡_}
 use mathlib.Core.Bool.{Bool}
 use mathlib.Core.List.{List}
@@ -57,7 +57,7 @@ pub record AnotherClause (t : List ℕ) (start q : ℕ) (colon : Bool) (next : �
   pub here : ClauseAt t start q
   pub more : innermost (levelsAt t start) .more ≡ asClauses colon (levelsAt t next)
   pub on : outer (levelsAt t next) ≡ outer (levelsAt t start)
-  pub least : q ≤ next
+  pub least : q < next
   pub most : next ≤ length t
 
 abbrev pub EndsClause : List ℕ → ℕ → ClauseEnd → Type 0

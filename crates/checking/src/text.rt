@@ -4,6 +4,11 @@ use fitting::places::either;
 use fitting::places::is_well_written;
 use fitting::places::not;
 use reader::directive::item_at;
+use reader::marks::END_ITERATION;
+use reader::marks::NO_MARK;
+use reader::marks::SEPARATOR;
+use reader::marks::after_mark;
+use reader::marks::mark_at;
 use reader::short::skip_short;
 use rules::Bracket;
 use rules::Code;
@@ -14,9 +19,11 @@ ghost use mathlib.Core.Path.{_≡_};
 ghost use mathlib.Core.Bool.{false};
 ghost use mathlib.Core.List.{[]};
 ghost use Prim.Native.Nat.{ℕ, _≤_};
+ghost use lib.Dec.{eqb};
 ghost use lib.ListN.{length};
 ghost use Rattle.rules.specs.Directive.{itemAt};
 ghost use Rattle.rules.specs.Text.{opensConditional, maySeparate, rightCount, hasBody, isCloserOf, isWhole, atEnd, textVerdict};
+ghost use Rattle.reader.specs.Marks.{markCode};
 ghost use Rattle.checking.specs.Checks.{blockOf, blocks, unless, metOpener, metSeparator, metCloser, metOf, Checks};
 ghost use Rattle.checking.specs.Ends.{shapeOfCode, shapeOf, AfterBlock, EndsClause};
 
@@ -293,9 +300,27 @@ fn shape_of(code: Code, colon: bool, next: usize) -> Shape
     }
 }
 
+// The shape of a mark, after which the text goes on at next.
+fn shape_of_mark(mark: u8, next: usize) -> Shape
+    requires { ⌜ (mark ≡ 0 → ⊥) ⌝ }
+    ensures { λ r. ⌜ r ≡ shapeOfCode (markCode mark) (eqb mark 5) next ⌝ }
+{
+    if mark == SEPARATOR {
+        return Shape::Splits { colon: false, next };
+    }
+    if mark <= END_ITERATION {
+        return Shape::Finishes(next);
+    }
+    Shape::Begins(next)
+}
+
 fn shape_at(text: &[u8], p: usize) -> Shape
     ensures { λ r. ⌜ r ≡ shapeOf p (itemAt (now (text .entry)) p) ⌝ }
 {
+    let mark = mark_at(text, p);
+    if mark != NO_MARK {
+        return shape_of_mark(mark, after_mark(mark, p));
+    }
     let i = item_at(text, p);
     match i {
         Item::End => Shape::Stops,
@@ -309,26 +334,38 @@ fn shape_at(text: &[u8], p: usize) -> Shape
     }
 }
 
-// From a place inside a block, the place after its closer.
-pub fn after_block(text: &[u8], start: usize) -> usize
+// How a clause ends: at a closer, or at a ~; after which another clause begins at next.
+pub enum ClauseEnd {
+    Last { at: usize, next: usize },
+    Another { at: usize, colon: bool, next: usize },
+}
+
+// From a place inside a clause, its end. Blocks that begin on the way are gone over: depth of them are open.
+pub fn next_clause(text: &[u8], start: usize) -> ClauseEnd
     requires { ⌜ start ≤ length (now text) ⌝ }
-    ensures { λ r. ⌜ AfterBlock (now (text .entry)) start r ⌝ }
+    ensures { λ r. ⌜ EndsClause (now (text .entry)) start r ⌝ }
 {
     let mut p = start;
     let mut depth: usize = 0;
     loop {
+        p = skip_short(text, p);
         let s = shape_at(text, p);
         match s {
-            Shape::Stops => return p,
+            Shape::Stops => return ClauseEnd::Last { at: p, next: p },
             Shape::Passes(q) => p = q,
-            Shape::Splits { colon: _, next } => p = next,
             Shape::Begins(q) => {
                 depth += 1;
                 p = q;
             }
+            Shape::Splits { colon, next } => {
+                if depth == 0 {
+                    return ClauseEnd::Another { at: p, colon, next };
+                }
+                p = next;
+            }
             Shape::Finishes(q) => {
                 if depth == 0 {
-                    return q;
+                    return ClauseEnd::Last { at: p, next: q };
                 }
                 depth -= 1;
                 p = q;
@@ -337,32 +374,21 @@ pub fn after_block(text: &[u8], start: usize) -> usize
     }
 }
 
-// How a clause ends: at a closer, or at a ~; after which another clause begins at next.
-pub enum ClauseEnd {
-    Last { at: usize, next: usize },
-    Another { at: usize, colon: bool, next: usize },
-}
-
-// From a place inside a clause, its end.
-pub fn next_clause(text: &[u8], start: usize) -> ClauseEnd
+// From a place inside a block, the place after its closer.
+pub fn after_block(text: &[u8], start: usize) -> usize
     requires { ⌜ start ≤ length (now text) ⌝ }
-    ensures { λ r. ⌜ EndsClause (now (text .entry)) start r ⌝ }
+    ensures { λ r. ⌜ AfterBlock (now (text .entry)) start r ⌝ }
 {
-    let mut p = start;
+    let mut z = start;
     loop {
-        let s = shape_at(text, p);
-        match s {
-            Shape::Stops => {
-                return ClauseEnd::Last { at: p, next: p };
-            }
-            Shape::Passes(q) => p = q,
-            Shape::Splits { colon, next } => {
-                return ClauseEnd::Another { at: p, colon, next };
-            }
-            Shape::Begins(q) => p = after_block(text, q),
-            Shape::Finishes(q) => {
-                return ClauseEnd::Last { at: p, next: q };
-            }
+        let e = next_clause(text, z);
+        match e {
+            ClauseEnd::Last { at: _, next } => return next,
+            ClauseEnd::Another {
+                at: _,
+                colon: _,
+                next,
+            } => z = next,
         }
     }
 }
