@@ -22,6 +22,11 @@ gives-same e g = record { good = g .good; is = g .is ∙ e }
 pub makes-size : {t : List ℕ} {b : Body} {xs : List ℕ} → Makes t b xs → b .size ≡ length xs
 makes-size m = m .good .size ∙ ap length (m .is)
 
+-- the part that is lent of a string is short
+pub lent-short : {t : List ℕ} {start end : ℕ} {p : List ℕ} → StringIn t start end → p ≡ part start (end - start) t
+    → length p ≤ 65536
+lent-short {t} s l = omega (arith, ap length l, lent-length t (s .order) (s .inside), s .short)
+
 module _ (t word : List ℕ) where
   pub made-run : (byte n : ℕ) → n ≤ 4096
       → Makes t (record { size = n; word = word; source = Run byte n }) (replicate n byte)
@@ -51,12 +56,17 @@ module _ (t word : List ℕ) where
     is = refl;
   }
 
-  pub made-quoted : (start end size : ℕ) → StringIn t start end → size ≡ length (quotedOf (part start (end - start) t))
-      → size ≤ 131074
+  -- the size is that of the part p that is lent of the table
+  pub made-quoted : (start end size : ℕ) {p : List ℕ} → StringIn t start end → p ≡ part start (end - start) t
+      → size ≡ length (quotedOf p) → size ≤ 131074
       → Makes t (record { size = size; word = word; source = Quoted start end }) (quotedOf (part start (end - start) t))
   unfolding sourceOf Inside
-  made-quoted start end size s e h = record {
-    good = record { size = e; small = h; inside = (s .order, s .inside) };
+  made-quoted start end size s l e h = record {
+    good = record {
+      size = e ∙ ap (λ (x : List ℕ). length (quotedOf x)) l;
+      small = h;
+      inside = (s .order, s .inside);
+    };
     is = refl;
   }
 

@@ -18,6 +18,7 @@ use super::words::written_body;
 use rules::Argument;
 use rules::Form;
 use rules::Settings;
+use table::string_part;
 ghost use mathlib.Core.List.{List, _++_};
 ghost use mathlib.Core.Path.{_≡_};
 ghost use Prim.Native.Nat.{ℕ, _-_};
@@ -34,7 +35,7 @@ fn string_body(quoted: bool, start: usize, end: usize, table: &[u8]) -> Body
 {
     let word = [0; 12];
     if quoted {
-        let size = quoted_size(&table[start..end]);
+        let size = quoted_size(string_part(table, start, end));
         return Body {
             size,
             word,
