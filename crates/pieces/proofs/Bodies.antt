@@ -1,5 +1,5 @@
 -- What a good body says of each of its sources, and the length of a piece. Assumes nothing.
-use mathlib.Core.Path.{_≡_, _∙_}
+use mathlib.Core.Path.{_≡_, sym, ap, _∙_}
 use mathlib.Core.List.{List, _++_}
 use Prim.Native.Nat.{ℕ, _+_, _-_, _≤_}
 use native.Mathlib.Nat.{sub-zero}
@@ -33,15 +33,24 @@ module _ {t : List ℕ} {b : Body} (g : GoodBody t b) where
     places = rw (e, length-replicate n byte) at (g .size);
   }
 
-  pub is-copied : (start end : ℕ) → b .source ≡ Copied start end
-      → Is t b (part start (end - start) t) ((start ≤ end) × (end ≤ length t))
+  -- of a string, as the part p that is lent of the table
+  pub is-copied : (start end : ℕ) {p : List ℕ} → p ≡ part start (end - start) t → b .source ≡ Copied start end
+      → Is t b p ((start ≤ end) × (end ≤ length t))
   unfolding sourceOf Inside
-  is-copied start end e = record { size = rw e at (g .size); text = rw e; places = rw e at (g .inside) }
+  is-copied start end l e = record {
+    size = rw (e, ← l) at (g .size);
+    text = rw e (sym l);
+    places = rw e at (g .inside);
+  }
 
-  pub is-quoted : (start end : ℕ) → b .source ≡ Quoted start end
-      → Is t b (quotedOf (part start (end - start) t)) ((start ≤ end) × (end ≤ length t))
+  pub is-quoted : (start end : ℕ) {p : List ℕ} → p ≡ part start (end - start) t → b .source ≡ Quoted start end
+      → Is t b (quotedOf p) ((start ≤ end) × (end ≤ length t))
   unfolding sourceOf Inside
-  is-quoted start end e = record { size = rw e at (g .size); text = rw e; places = rw e at (g .inside) }
+  is-quoted start end l e = record {
+    size = rw (e, ← l) at (g .size);
+    text = rw e (ap quotedOf (sym l));
+    places = rw e at (g .inside);
+  }
 
   pub is-figures : (x : Figure) → b .source ≡ Figures x → Is t b (figureOf x) (GoodFigure x)
   unfolding sourceOf Inside

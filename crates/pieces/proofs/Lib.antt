@@ -3,6 +3,3 @@ pub mod Segments
 pub mod Escapes
 pub mod Numerals
 pub mod Bodies
-pub mod Made
-pub mod Spelled
-pub mod Callers

@@ -39,11 +39,6 @@ fill-same n m b e = ap (λ (k : ℕ). replicate k b) e
 pub part-all : (n : ℕ) (xs : List ℕ) → n ≡ length xs → part 0 n xs ≡ xs
 part-all n xs e = take-all n xs (omega arith)
 
--- a part of a table that is lent is as long as it says
-pub lent-length : {start end : ℕ} (t : List ℕ) → start ≤ end → end ≤ length t
-    → length (part start (end - start) t) ≡ end - start
-lent-length {start} {end} t h k = length-part start (end - start) t (omega arith)
-
 -- The loop that fills a slice of a size with the text v from its front, i bytes of it so far
 pub record Copying (v : List ℕ) (size : ℕ) (out : List ℕ) (i : ℕ) : Type 0 where
   pub ahead : Writing v out i (drop i v)

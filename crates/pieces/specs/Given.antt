@@ -1,14 +1,9 @@
 -- What a piece is made from: parameters that are worked out, and an argument that lies in the table.
 -- Assumes nothing: these are definitions.
-use mathlib.Core.Path.{_≡_}
 use Prim.Native.Nat.{ℕ, _-_, _≤_, _<_}
-use mathlib.Core.Bool.{Bool, true, false, cond}
-use mathlib.Core.List.{List, [], _∷_, _++_}
-use lib.Dec.{ltb, eqb}
-use lib.IntN.{ℤ}
+use mathlib.Core.List.{List, [], _∷_}
 use lib.ListN.{length}
 use Rattle.rules.specs.Directive.{FormRight, Place, number, character, formPlaces}
-use Rattle.rules.specs.Number.{digitsOf, grouped, magnitudeOf, signOf}
 use Rattle.rules.specs.declared.Argument.{Argument}
 use Rattle.rules.specs.declared.Argument.the-variants.{Boolean, Integer, Character, Text, Entries}
 use Rattle.rules.specs.declared.Form.{Form}
@@ -45,13 +40,3 @@ Reachable t (Integer z) = Unit
 Reachable t (Character c) = Unit
 Reachable t (Text start end) = StringIn t start end
 Reachable t (Entries first count) = Unit
-
--- the text of a number before padding; a width of 0 is no groups
-abbrev pub numberOf : ℕ → Bool → ℕ → ℕ → ℤ → List ℕ
-numberOf base plus width comma z =
-    signOf plus z
-    ++ cond (eqb width 0) (digitsOf base (magnitudeOf z)) (grouped width comma (digitsOf base (magnitudeOf z)))
-
--- the written form of a character that has no name
-abbrev pub unnamedOf : ℕ → List ℕ
-unnamedOf c = 35 ∷ 92 ∷ cond (ltb c 32) (120 ∷ digitsOf 16 c) (c ∷ [])

@@ -1,21 +1,14 @@
 // A number with its sign: its size, the whole of it, and a part of it.
-use super::Body;
 use super::Figure;
-use super::Source;
 use super::copying::copy_part;
 use numbers::digit_count;
 use numbers::fill_digits;
 use numbers::grouped_size;
-use numbers::is_negative;
-use numbers::magnitude;
 use numbers::write_grouped;
 ghost use mathlib.Core.Path.{_≡_};
-ghost use mathlib.Core.List.{List};
-ghost use Prim.Native.Nat.{ℕ, _-_, _≤_};
+ghost use Prim.Native.Nat.{_-_, _≤_};
 ghost use lib.ListN.{length};
-ghost use Rattle.rules.specs.Number.{signOf};
-ghost use Rattle.pieces.specs.Bytes.{part, digitsIn, signed, figureOf, GoodFigure, Makes};
-ghost use Rattle.pieces.specs.Given.{numberOf};
+ghost use Rattle.pieces.specs.Bytes.{part, digitsIn, figureOf, GoodFigure};
 
 // The size of the digits, with their separators.
 fn digits_size(x: Figure) -> usize
@@ -80,39 +73,4 @@ pub fn figure_part(x: Figure, size: usize, from: usize, out: &mut [u8])
     let mut text = [0; 128];
     figure_whole(x, &mut text[0..size]);
     copy_part(&text[0..size], from, out);
-}
-
-// The sign that is written, as a byte; 0 is none.
-fn sign_byte(plus: bool, x: i64) -> u8
-    ensures { λ r. ⌜ signed r ≡ signOf plus x ⌝ }
-{
-    if is_negative(x) {
-        return b'-';
-    }
-    if magnitude(x) == 0 {
-        return 0;
-    }
-    if plus { b'+' } else { 0 }
-}
-
-// A number, with + before a positive one or not, in groups of a width that is not 0.
-pub fn figure_body(base: u64, plus: bool, width: usize, comma: u8, x: i64) -> Body
-    requires { ⌜ (2 ≤ base) × (base ≤ 36) ⌝ }
-    requires { ⌜ width ≤ 4096 ⌝ }
-    ensures { λ r. ⌜ ((t : List ℕ) → Makes t r (numberOf base plus width comma x)) ⌝ }
-{
-    let figure = Figure {
-        base,
-        magnitude: magnitude(x),
-        sign: sign_byte(plus, x),
-        width,
-        comma,
-    };
-    let size = figure_size(figure);
-    let word = [0; 12];
-    Body {
-        size,
-        word,
-        source: Source::Figures(figure),
-    }
 }

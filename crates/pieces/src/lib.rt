@@ -1,12 +1,9 @@
-// What a directive writes, as a value of a few words: it is made from the directive and its argument, measured, and
-// written whole or in part. What the values stand for is in specs/Bytes.
+// What a directive writes, as a value of a few words, which is measured, and written whole or in part. What it stands
+// for is in specs/Bytes, and what it may be made from in specs/Given.
 pub mod copying; // fills and copies
 pub mod window; // where a window falls in a text of three segments
 pub mod quoting; // a string in quotes
 pub mod figuring; // a number with its sign
-pub mod words; // short texts
-pub mod padding; // parameters, and the padding that they ask for
-pub mod making; // a piece from a directive and its argument
 pub mod writing; // a piece: its length and its writers
 
 // A number: a sign, 0 for none, and the digits of a magnitude, in groups of a width that is not 0.

@@ -9,6 +9,7 @@ use super::figuring::figure_whole;
 use super::quoting::quote_part;
 use super::quoting::quote_whole;
 use super::window::cut;
+use table::string_part;
 ghost use mathlib.Core.List.{List};
 ghost use mathlib.Core.Path.{_≡_};
 ghost use Prim.Native.Nat.{ℕ, _+_, _-_, _≤_};
@@ -35,8 +36,13 @@ fn body_part(body: Body, table: &[u8], from: usize, out: &mut [u8])
     let source = body.source;
     match source {
         Source::Run { byte, count: _ } => fill(byte, out),
-        Source::Copied { start, end } => copy_part(&table[start..end], from, out),
-        Source::Quoted { start, end } => quote_part(&table[start..end], size, from, out),
+        Source::Copied { start, end } => copy_part(string_part(table, start, end), from, out),
+        Source::Quoted { start, end } => quote_part(
+            string_part(table, start, end),
+            size,
+            from,
+            out,
+        ),
         Source::Figures(x) => figure_part(x, size, from, out),
         Source::Word(n) => copy_part(&word[0..n], from, out),
     }
@@ -72,8 +78,8 @@ fn body_whole(body: Body, table: &[u8], out: &mut [u8])
     let source = body.source;
     match source {
         Source::Run { byte, count: _ } => fill(byte, out),
-        Source::Copied { start, end } => copy_part(&table[start..end], 0, out),
-        Source::Quoted { start, end } => quote_whole(&table[start..end], out),
+        Source::Copied { start, end } => copy_part(string_part(table, start, end), 0, out),
+        Source::Quoted { start, end } => quote_whole(string_part(table, start, end), out),
         Source::Figures(x) => figure_whole(x, out),
         Source::Word(n) => copy_part(&word[0..n], 0, out),
     }

@@ -1,20 +1,15 @@
 -- What reading an entry of an accepted table may answer, kind by kind. Assumes nothing.
 use Prim.Native.Nat.{ℕ, zero, suc, _+_, _-_, _*_, _≤_, _<_}
 use mathlib.Core.Path.{_≡_, refl, sym, ap}
-use mathlib.Core.List.{List, [], _∷_}
-use mathlib.Core.Logic.{⊎-elim}
+use mathlib.Core.List.{List}
 use native.Mathlib.Omega.{arith}
 use lib.Dec.{eqb}
 use lib.ListN.{length, getD, take, drop}
 use lib.Seq.{drop-drop}
-use types.Run.{OneOf}
-use denote.Enum.Declared.{tagOf}
 use borrow.Author.Tests.{le-leb, lt-ltb}
-use Rattle.rules.specs.Table.{be32At, entryCount, poolLength, entryPlace, poolOf, entryAt, signedOf, valueBy, valueAt, string, list, stringIn, Holds, tableVerdict}
+use Rattle.rules.specs.Table.{be32At, entryCount, poolLength, entryPlace, poolOf, entryAt, signedOf, valueBy, valueAt, string, list, Holds, tableVerdict}
 use Rattle.rules.specs.declared.Verdict.the-variants.{Accepted}
-use Rattle.rules.specs.declared.Argument.{Argument}
 use Rattle.rules.specs.declared.Argument.the-variants.{Boolean, Integer, Character, Text, Entries}
-use Rattle.rules.proofs.Argument.{the-type}
 use Rattle.rules.proofs.Tests.{true-both}
 use Rattle.rules.proofs.TableLaws.{Sound, RightEntry, accepted-sound, accepted-entry}
 
@@ -97,12 +92,3 @@ module _ {t : List ℕ} {i high low : ℕ} (at : AtEntry t i high low) where
         value = rw (at .is-high, at .is-low) (sym (other-kinds (poolOf t) (getD t (entryPlace i) 0) (be32At t (entryPlace i + 4)) (be32At t (entryPlace i + 8)) a b c d));
         inside = true-both (lt-ltb i high (omega (arith, facts .0))) (le-leb (high + low) (entryCount t) (omega (arith, facts .1)));
       }
-
--- an answer of another kind than a string: `k` says that its tag is one of the others
-pub no-string : (t : List ℕ) (i : ℕ) (r : Argument) → Holds t i r → OneOf (0 ∷ 1 ∷ 2 ∷ 4 ∷ []) (tagOf the-type r) → [] ≡ stringIn (valueAt t i)
-no-string t i (Boolean b) h k = ap stringIn (h .value)
-no-string t i (Integer z) h k = ap stringIn (h .value)
-no-string t i (Character c) h k = ap stringIn (h .value)
-no-string t i (Text start end) h k =
-    absurd (⊎-elim (λ a. omega arith) (λ b. ⊎-elim (λ a. omega arith) (λ c. ⊎-elim (λ a. omega arith) (λ a. omega arith) c) b) k)
-no-string t i (Entries first count) h k = ap stringIn (h .value)

@@ -6,7 +6,7 @@ use rules::Verdict;
 ghost use mathlib.Core.Path.{_≡_};
 ghost use Prim.Native.Nat.{_+_, _-_, _*_, _≤_, _<_};
 ghost use lib.ListN.{length, take, drop};
-ghost use Rattle.rules.specs.Table.{be16At, be32At, entryCount, argumentCount, poolLength, entryPlace, zerosAfter, entryAt, rightFor, isRight, firstBad, tableVerdict, signedOf, valueAt, stringIn, Holds};
+ghost use Rattle.rules.specs.Table.{be16At, be32At, entryCount, argumentCount, poolLength, entryPlace, zerosAfter, entryAt, rightFor, isRight, firstBad, tableVerdict, signedOf, Holds};
 ghost use Rattle.rules.specs.declared.Verdict.the-variants.{Accepted};
 
 // How many bytes the header takes.
@@ -206,17 +206,4 @@ pub fn string_part(table: &[u8], start: usize, end: usize) -> &[u8]
     ensures { λ r. ⌜ now r ≡ take (end - start) (drop start (now (table .entry))) ⌝ }
 {
     &table[start..end]
-}
-
-// The bytes of a string entry, where they lie in the table; no bytes for an entry of another kind.
-pub fn read_string(table: &[u8], entry: EntryIndex) -> &[u8]
-    requires { ⌜ tableVerdict (now table) ≡ Accepted ⌝ }
-    requires { ⌜ entry .0 < entryCount (now table) ⌝ }
-    ensures { λ r. ⌜ now r ≡ stringIn (valueAt (now (table .entry)) (entry .0)) ⌝ }
-{
-    let argument = read_argument(table, entry);
-    match argument {
-        Argument::Text { start, end } => string_part(table, start, end),
-        _ => &table[0..0],
-    }
 }

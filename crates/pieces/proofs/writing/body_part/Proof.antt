@@ -1,5 +1,5 @@
 -- `pieces::writing::body_part` meets its contract: each source has its own writer of a part. Assumes nothing.
-use mathlib.Core.Path.{sym, _∙_}
+use mathlib.Core.Path.{refl, sym, _∙_}
 use borrow.Author.Needs.{needs}
 use Rattle.pieces.proofs.Parts.{part-fill}
 use Rattle.pieces.proofs.Bodies.{is-run, is-copied, is-quoted, is-figures, is-word}
@@ -15,48 +15,32 @@ fill-requires c κs = search needs
 enum-known-source-2 : tie.Need-enum-known-source-2
 enum-known-source-2 c = search needs
 
-sub-copy-part : tie.Need-sub-copy-part
-sub-copy-part c =
-    (is-copied (c .before .before .before .before .before .before .pre .0) _ _
-    (c .before .source2 .given .1)) .places .0
-
-part-copy-part-start : tie.Need-part-copy-part-start
-part-copy-part-start c =
-    (is-copied (c .before .before .before .before .before .before .pre .0) _ _
-    (c .before .source2 .given .1)) .places .0
-
-part-copy-part-end : tie.Need-part-copy-part-end
-part-copy-part-end c =
-    (is-copied (c .before .before .before .before .before .before .pre .0) _ _
-    (c .before .source2 .given .1)) .places .1
+string-part-requires : tie.Need-string-part-requires
+string-part-requires c κs =
+    (is-copied (c .before .before .before .before .before .before .pre .0) _ _ refl
+    (c .before .source2 .given .1)) .places
 
 copy-part-requires : tie.Need-copy-part-requires
 copy-part-requires c κs =
     let start = c .before .before .before .before .before .before .before .before in
-    rw ((is-copied (start .pre .0) _ _ (c .before .before .before .source2 .given .1)) .size) at (start .pre .1)
+    let lent =
+    is-copied (start .pre .0) _ _ (c .before .string-part .ensures) (c .before .before .before .source2 .given .1) in
+    rw (lent .size) at (start .pre .1)
 
 enum-known-source-3 : tie.Need-enum-known-source-3
 enum-known-source-3 c = search needs
 
-sub-quote-part : tie.Need-sub-quote-part
-sub-quote-part c =
-    (is-quoted (c .before .before .before .before .before .before .pre .0) _ _
-    (c .before .source3 .given .1)) .places .0
-
-part-quote-part-start : tie.Need-part-quote-part-start
-part-quote-part-start c =
-    (is-quoted (c .before .before .before .before .before .before .pre .0) _ _
-    (c .before .source3 .given .1)) .places .0
-
-part-quote-part-end : tie.Need-part-quote-part-end
-part-quote-part-end c =
-    (is-quoted (c .before .before .before .before .before .before .pre .0) _ _
-    (c .before .source3 .given .1)) .places .1
+string-part-requires-2 : tie.Need-string-part-requires-2
+string-part-requires-2 c κs =
+    (is-quoted (c .before .before .before .before .before .before .pre .0) _ _ refl
+    (c .before .source3 .given .1)) .places
 
 quote-part-requires : tie.Need-quote-part-requires
 quote-part-requires c κs =
-    let start = c .before .before .before .before .before .before .before .before in (
-      (is-quoted (start .pre .0) _ _ (c .before .before .before .source3 .given .1)) .size,
+    let start = c .before .before .before .before .before .before .before .before in
+    let lent =
+    is-quoted (start .pre .0) _ _ (c .before .string-part2 .ensures) (c .before .before .before .source3 .given .1) in (
+      lent .size,
       ((start .pre .0 .small), (start .pre .1)),
     )
 
@@ -73,14 +57,14 @@ figure-part-requires c κs =
 enum-known-source-5 : tie.Need-enum-known-source-5
 enum-known-source-5 c = search needs
 
-sub-copy-part-2 : tie.Need-sub-copy-part-2
-sub-copy-part-2 c = search needs
+sub-copy-part : tie.Need-sub-copy-part
+sub-copy-part c = search needs
 
-part-copy-part-start-2 : tie.Need-part-copy-part-start-2
-part-copy-part-start-2 c = search needs
+part-copy-part-start : tie.Need-part-copy-part-start
+part-copy-part-start c = search needs
 
-part-copy-part-end-2 : tie.Need-part-copy-part-end-2
-part-copy-part-end-2 c =
+part-copy-part-end : tie.Need-part-copy-part-end
+part-copy-part-end c =
     (is-word (c .before .before .before .before .before .before .before .pre .0) _
     (c .before .before .source5 .given .1)) .places
 
@@ -107,7 +91,10 @@ same-length-2 c = search needs
 returns-2 : tie.Need-returns-2
 returns-2 c =
     let start = c .before .before .before .before .before .before .before .before .before .before .before in
-    rw ((is-copied (start .pre .0) _ _ (c .before .before .before .before .before .before .source2 .given .1)) .text)
+    let lent =
+    is-copied (start .pre .0) _ _ (c .before .before .before .before .string-part .ensures)
+    (c .before .before .before .before .before .before .source2 .given .1) in
+    rw (lent .text)
     (c .before .before .copy-part .ensures)
 
 same-length-3 : tie.Need-same-length-3
@@ -116,7 +103,10 @@ same-length-3 c = search needs
 returns-3 : tie.Need-returns-3
 returns-3 c =
     let start = c .before .before .before .before .before .before .before .before .before .before .before in
-    rw ((is-quoted (start .pre .0) _ _ (c .before .before .before .before .before .before .source3 .given .1)) .text)
+    let lent =
+    is-quoted (start .pre .0) _ _ (c .before .before .before .before .string-part2 .ensures)
+    (c .before .before .before .before .before .before .source3 .given .1) in
+    rw (lent .text)
     (c .before .before .quote-part .ensures)
 
 same-length-4 : tie.Need-same-length-4
@@ -145,21 +135,17 @@ body-part-spec =
     enum-known-source
     fill-requires
     enum-known-source-2
-    sub-copy-part
-    part-copy-part-start
-    part-copy-part-end
+    string-part-requires
     copy-part-requires
     enum-known-source-3
-    sub-quote-part
-    part-quote-part-start
-    part-quote-part-end
+    string-part-requires-2
     quote-part-requires
     enum-known-source-4
     figure-part-requires
     enum-known-source-5
-    sub-copy-part-2
-    part-copy-part-start-2
-    part-copy-part-end-2
+    sub-copy-part
+    part-copy-part-start
+    part-copy-part-end
     copy-part-requires-2
     same-length
     returns

@@ -1,5 +1,5 @@
 -- `pieces::writing::body_whole` meets its contract: each source has its own writer of the whole. Assumes nothing.
-use mathlib.Core.Path.{sym, _∙_}
+use mathlib.Core.Path.{refl, sym, _∙_}
 use native.Mathlib.Omega.{arith}
 use borrow.Author.Needs.{needs}
 use Rattle.pieces.proofs.Parts.{fill-same, part-all}
@@ -16,48 +16,32 @@ fill-requires c κs = search needs
 enum-known-source-2 : tie.Need-enum-known-source-2
 enum-known-source-2 c = search needs
 
-sub-copy-part : tie.Need-sub-copy-part
-sub-copy-part c =
-    (is-copied (c .before .before .before .before .before .before .pre .0) _ _
-    (c .before .source2 .given .1)) .places .0
-
-part-copy-part-start : tie.Need-part-copy-part-start
-part-copy-part-start c =
-    (is-copied (c .before .before .before .before .before .before .pre .0) _ _
-    (c .before .source2 .given .1)) .places .0
-
-part-copy-part-end : tie.Need-part-copy-part-end
-part-copy-part-end c =
-    (is-copied (c .before .before .before .before .before .before .pre .0) _ _
-    (c .before .source2 .given .1)) .places .1
+string-part-requires : tie.Need-string-part-requires
+string-part-requires c κs =
+    (is-copied (c .before .before .before .before .before .before .pre .0) _ _ refl
+    (c .before .source2 .given .1)) .places
 
 copy-part-requires : tie.Need-copy-part-requires
 copy-part-requires c κs =
     let start = c .before .before .before .before .before .before .before .before in
-    omega (arith, (start .pre .1), (is-copied (start .pre .0) _ _ (c .before .before .before .source2 .given .1)) .size)
+    let lent =
+    is-copied (start .pre .0) _ _ (c .before .string-part .ensures) (c .before .before .before .source2 .given .1) in
+    omega (arith, (start .pre .1), lent .size)
 
 enum-known-source-3 : tie.Need-enum-known-source-3
 enum-known-source-3 c = search needs
 
-sub-quote-whole : tie.Need-sub-quote-whole
-sub-quote-whole c =
-    (is-quoted (c .before .before .before .before .before .before .pre .0) _ _
-    (c .before .source3 .given .1)) .places .0
-
-part-quote-whole-start : tie.Need-part-quote-whole-start
-part-quote-whole-start c =
-    (is-quoted (c .before .before .before .before .before .before .pre .0) _ _
-    (c .before .source3 .given .1)) .places .0
-
-part-quote-whole-end : tie.Need-part-quote-whole-end
-part-quote-whole-end c =
-    (is-quoted (c .before .before .before .before .before .before .pre .0) _ _
-    (c .before .source3 .given .1)) .places .1
+string-part-requires-2 : tie.Need-string-part-requires-2
+string-part-requires-2 c κs =
+    (is-quoted (c .before .before .before .before .before .before .pre .0) _ _ refl
+    (c .before .source3 .given .1)) .places
 
 quote-whole-requires : tie.Need-quote-whole-requires
 quote-whole-requires c κs =
     let start = c .before .before .before .before .before .before .before .before in
-    (start .pre .1) ∙ (is-quoted (start .pre .0) _ _ (c .before .before .before .source3 .given .1)) .size
+    let lent =
+    is-quoted (start .pre .0) _ _ (c .before .string-part2 .ensures) (c .before .before .before .source3 .given .1) in
+    (start .pre .1) ∙ lent .size
 
 enum-known-source-4 : tie.Need-enum-known-source-4
 enum-known-source-4 c = search needs
@@ -73,14 +57,14 @@ figure-whole-requires c κs =
 enum-known-source-5 : tie.Need-enum-known-source-5
 enum-known-source-5 c = search needs
 
-sub-copy-part-2 : tie.Need-sub-copy-part-2
-sub-copy-part-2 c = search needs
+sub-copy-part : tie.Need-sub-copy-part
+sub-copy-part c = search needs
 
-part-copy-part-start-2 : tie.Need-part-copy-part-start-2
-part-copy-part-start-2 c = search needs
+part-copy-part-start : tie.Need-part-copy-part-start
+part-copy-part-start c = search needs
 
-part-copy-part-end-2 : tie.Need-part-copy-part-end-2
-part-copy-part-end-2 c =
+part-copy-part-end : tie.Need-part-copy-part-end
+part-copy-part-end c =
     (is-word (c .before .before .before .before .before .before .before .pre .0) _
     (c .before .before .source5 .given .1)) .places
 
@@ -110,10 +94,13 @@ same-length-2 c = search needs
 returns-2 : tie.Need-returns-2
 returns-2 c =
     let start = c .before .before .before .before .before .before .before .before .before .before .before in
+    let lent =
+    is-copied (start .pre .0) _ _ (c .before .before .before .before .string-part .ensures)
+    (c .before .before .before .before .before .before .source2 .given .1) in
     (c .before .before .copy-part .ensures)
     ∙ part-all _ _ ((start .pre .1)
-    ∙ (is-copied (start .pre .0) _ _ (c .before .before .before .before .before .before .source2 .given .1)) .size)
-    ∙ sym ((is-copied (start .pre .0) _ _ (c .before .before .before .before .before .before .source2 .given .1)) .text)
+    ∙ lent .size)
+    ∙ sym (lent .text)
 
 same-length-3 : tie.Need-same-length-3
 same-length-3 c = search needs
@@ -121,8 +108,11 @@ same-length-3 c = search needs
 returns-3 : tie.Need-returns-3
 returns-3 c =
     let start = c .before .before .before .before .before .before .before .before .before .before .before in
+    let lent =
+    is-quoted (start .pre .0) _ _ (c .before .before .before .before .string-part2 .ensures)
+    (c .before .before .before .before .before .before .source3 .given .1) in
     (c .before .before .quote-whole .ensures)
-    ∙ sym ((is-quoted (start .pre .0) _ _ (c .before .before .before .before .before .before .source3 .given .1)) .text)
+    ∙ sym (lent .text)
 
 same-length-4 : tie.Need-same-length-4
 same-length-4 c = search needs
@@ -152,21 +142,17 @@ body-whole-spec =
     enum-known-source
     fill-requires
     enum-known-source-2
-    sub-copy-part
-    part-copy-part-start
-    part-copy-part-end
+    string-part-requires
     copy-part-requires
     enum-known-source-3
-    sub-quote-whole
-    part-quote-whole-start
-    part-quote-whole-end
+    string-part-requires-2
     quote-whole-requires
     enum-known-source-4
     figure-whole-requires
     enum-known-source-5
-    sub-copy-part-2
-    part-copy-part-start-2
-    part-copy-part-end-2
+    sub-copy-part
+    part-copy-part-start
+    part-copy-part-end
     copy-part-requires-2
     same-length
     returns

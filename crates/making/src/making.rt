@@ -1,0 +1,189 @@
+// A piece from a directive, its worked-out parameters and its argument.
+use super::numerals::figure_body;
+use super::padding::byte_or;
+use super::padding::lacking;
+use super::padding::number_or;
+use super::padding::padded_piece;
+use super::padding::padding;
+use super::words::flag_body;
+use super::words::fold_body;
+use super::words::glyph_body;
+use super::words::plural_body;
+use super::words::run_body;
+use super::words::written_body;
+use pieces::Body;
+use pieces::Piece;
+use pieces::Source;
+use pieces::quoting::quoted_size;
+use rules::Argument;
+use rules::Form;
+use rules::Settings;
+use table::string_part;
+ghost use mathlib.Core.List.{List, _++_};
+ghost use mathlib.Core.Path.{_≡_};
+ghost use Prim.Native.Nat.{ℕ, _-_};
+ghost use Rattle.rules.specs.Number.{digitsOf, magnitudeOf, signOf};
+ghost use Rattle.rules.specs.Piece.{bareOf, objectOf, digitsIn, numeralOf, integerIn, codeIn, isOne, textOf};
+ghost use Rattle.rules.specs.Table.{string, meant};
+ghost use Rattle.pieces.specs.Bytes.{part, Makes, Gives};
+ghost use Rattle.pieces.specs.Given.{Worked, StringIn, Reachable};
+
+// A string of the table, as it is or in quotes.
+fn string_body(quoted: bool, start: usize, end: usize, table: &[u8]) -> Body
+    requires { ⌜ StringIn (now table) start end ⌝ }
+    ensures { λ r. ⌜ Makes (now (table .entry)) r (bareOf quoted (string (part start (end - start) (now (table .entry))))) ⌝ }
+{
+    let word = [0; 12];
+    if quoted {
+        let size = quoted_size(string_part(table, start, end));
+        return Body {
+            size,
+            word,
+            source: Source::Quoted { start, end },
+        };
+    }
+    Body {
+        size: end - start,
+        word,
+        source: Source::Copied { start, end },
+    }
+}
+
+// The text of an argument for ~a, or for ~s, before padding.
+fn bare_body(quoted: bool, argument: Argument, table: &[u8]) -> Body
+    requires { ⌜ Reachable (now table) argument ⌝ }
+    ensures { λ r. ⌜ Makes (now (table .entry)) r (bareOf quoted (meant (now (table .entry)) argument)) ⌝ }
+{
+    match argument {
+        Argument::Boolean(flag) => flag_body(flag),
+        Argument::Integer(x) => figure_body(10, false, 0, b',', x),
+        Argument::Character(code) => {
+            if quoted {
+                written_body(code)
+            } else {
+                run_body(code, 1)
+            }
+        }
+        Argument::Text { start, end } => string_body(quoted, start, end, table),
+        Argument::Entries { first: _, count: _ } => run_body(b' ', 0),
+    }
+}
+
+// ~a and ~s
+fn make_object(
+    quoted: bool,
+    at: bool,
+    settings: Settings,
+    argument: Argument,
+    table: &[u8],
+) -> Piece
+    requires { ⌜ Worked (Form.Object quoted) settings ⌝ }
+    requires { ⌜ Reachable (now table) argument ⌝ }
+    ensures { λ r. ⌜ Gives (now (table .entry)) r (objectOf quoted at settings (meant (now (table .entry)) argument)) ⌝ }
+{
+    let first = settings.first;
+    let second = settings.second;
+    let third = settings.third;
+    let fourth = settings.fourth;
+    let body = bare_body(quoted, argument, table);
+    let minwidth = number_or(first, 0);
+    let padinc = number_or(second, 1);
+    let minpad = number_or(third, 0);
+    let pad = byte_or(fourth, b' ');
+    let count = padding(minwidth, padinc, minpad, body.size);
+    if at {
+        return padded_piece(body, count, 0, pad);
+    }
+    padded_piece(body, 0, count, pad)
+}
+
+// The text of ~d, ~x, ~o and ~b before padding.
+fn numeral_body(base: u64, colon: bool, at: bool, settings: Settings, x: i64) -> Body
+    requires { ⌜ Worked (Form.Numeral base) settings ⌝ }
+    ensures { λ r. ⌜ ((t : List ℕ) → Makes t r (signOf at x ++ digitsIn colon settings (digitsOf base (magnitudeOf x)))) ⌝ }
+{
+    let third = settings.third;
+    let fourth = settings.fourth;
+    if colon {
+        let comma = byte_or(third, b',');
+        let width = number_or(fourth, 3);
+        return figure_body(base, at, width, comma, x);
+    }
+    figure_body(base, at, 0, b',', x)
+}
+
+// ~d, ~x, ~o and ~b: padding stands left of the sign.
+fn make_numeral(base: u64, colon: bool, at: bool, settings: Settings, x: i64) -> Piece
+    requires { ⌜ Worked (Form.Numeral base) settings ⌝ }
+    ensures { λ r. ⌜ ((t : List ℕ) → Gives t r (numeralOf base colon at settings x)) ⌝ }
+{
+    let first = settings.first;
+    let second = settings.second;
+    let body = numeral_body(base, colon, at, settings, x);
+    let width = number_or(first, 0);
+    let pad = byte_or(second, b' ');
+    let missing = lacking(width, body.size);
+    padded_piece(body, missing, 0, pad)
+}
+
+fn integer_of(argument: Argument) -> i64
+    ensures { λ r. ⌜ ((t : List ℕ) → r ≡ integerIn (meant t argument)) ⌝ }
+{
+    match argument {
+        Argument::Boolean(_) => 0,
+        Argument::Integer(x) => x,
+        Argument::Character(_) => 0,
+        Argument::Text { start: _, end: _ } => 0,
+        Argument::Entries { first: _, count: _ } => 0,
+    }
+}
+
+fn code_of(argument: Argument) -> u8
+    ensures { λ r. ⌜ ((t : List ℕ) → r ≡ codeIn (meant t argument)) ⌝ }
+{
+    match argument {
+        Argument::Boolean(_) => 0,
+        Argument::Integer(_) => 0,
+        Argument::Character(code) => code,
+        Argument::Text { start: _, end: _ } => 0,
+        Argument::Entries { first: _, count: _ } => 0,
+    }
+}
+
+fn is_one(argument: Argument) -> bool
+    ensures { λ r. ⌜ ((t : List ℕ) → r ≡ isOne (meant t argument)) ⌝ }
+{
+    match argument {
+        Argument::Boolean(_) => false,
+        Argument::Integer(x) => x == 1,
+        Argument::Character(_) => false,
+        Argument::Text { start: _, end: _ } => false,
+        Argument::Entries { first: _, count: _ } => false,
+    }
+}
+
+// What a directive writes.
+pub fn make_piece(
+    form: Form,
+    colon: bool,
+    at: bool,
+    settings: Settings,
+    argument: Argument,
+    table: &[u8],
+) -> Piece
+    requires { ⌜ Worked form settings ⌝ }
+    requires { ⌜ Reachable (now table) argument ⌝ }
+    ensures { λ r. ⌜ Gives (now (table .entry)) r (textOf form colon at settings (meant (now (table .entry)) argument)) ⌝ }
+{
+    match form {
+        Form::Object(quoted) => make_object(quoted, at, settings, argument, table),
+        Form::Numeral(base) => make_numeral(base, colon, at, settings, integer_of(argument)),
+        Form::Glyph => padded_piece(glyph_body(colon, at, code_of(argument)), 0, 0, b' '),
+        Form::Plural => padded_piece(plural_body(at, is_one(argument)), 0, 0, b' '),
+        Form::Repeat(byte) => {
+            let first = settings.first;
+            padded_piece(run_body(byte, number_or(first, 1)), 0, 0, b' ')
+        }
+        Form::Fold => padded_piece(fold_body(at), 0, 0, b' '),
+    }
+}

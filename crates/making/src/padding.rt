@@ -1,0 +1,67 @@
+// Worked-out parameters, and the padding that they ask for.
+use pieces::Body;
+use pieces::Piece;
+use rules::Setting;
+ghost use mathlib.Core.List.{List};
+ghost use mathlib.Core.Path.{_≡_};
+ghost use Prim.Native.Nat.{ℕ, _+_, _-_, _≤_};
+ghost use Rattle.rules.specs.Directive.{character};
+ghost use Rattle.rules.specs.Piece.{orElse, paddingOf};
+ghost use Rattle.pieces.specs.Bytes.{beside, Makes, Gives};
+ghost use Rattle.pieces.specs.Given.{Allowed};
+
+pub fn number_or(setting: Setting, default: usize) -> usize
+    ensures { λ r. ⌜ r ≡ orElse setting default ⌝ }
+{
+    match setting {
+        Setting::Absent => default,
+        Setting::Is(n) => n,
+    }
+}
+
+pub fn byte_or(setting: Setting, default: u8) -> u8
+    requires { ⌜ Allowed character setting ⌝ }
+    ensures { λ r. ⌜ r ≡ orElse setting default ⌝ }
+{
+    match setting {
+        Setting::Absent => default,
+        Setting::Is(n) => n as u8,
+    }
+}
+
+// How many bytes a text lacks to a width.
+pub fn lacking(width: usize, size: usize) -> usize
+    ensures { λ r. ⌜ r ≡ width - size ⌝ }
+{
+    if width <= size { 0 } else { width - size }
+}
+
+// The padding of ~a and ~s: minpad, and the least multiple of padinc that brings the total to minwidth.
+pub fn padding(minwidth: usize, padinc: usize, minpad: usize, size: usize) -> usize
+    requires { ⌜ (minwidth ≤ 4096) × (minpad ≤ 4096) ⌝ }
+    requires { ⌜ (1 ≤ padinc) × (padinc ≤ 4096) ⌝ }
+    requires { ⌜ size ≤ 131074 ⌝ }
+    ensures padding { λ r. ⌜ r ≡ paddingOf minwidth padinc minpad size ⌝ }
+    ensures within { λ r. ⌜ r ≤ 16384 ⌝ }
+{
+    let least = size + minpad;
+    if minwidth <= least {
+        return minpad;
+    }
+    let shortfall = minwidth - least;
+    let times = (shortfall + (padinc - 1)) / padinc;
+    minpad + times * padinc
+}
+
+// A text with padding on its two sides.
+pub fn padded_piece(body: Body, left: usize, right: usize, pad: u8) -> Piece
+    requires { ⌜ left + right ≤ 16384 ⌝ }
+    ensures { λ r. ⌜ ((t text : List ℕ) → Makes t body text → Gives t r (beside left right pad text)) ⌝ }
+{
+    Piece {
+        left,
+        right,
+        pad,
+        body,
+    }
+}
