@@ -1,8 +1,8 @@
 -- Texts that are put straight into the buffer: what is put, and that it is what the definition writes. Assumes nothing.
 use Prim.Native.Nat.{ℕ, zero, suc, _+_, _-_, _<_, _≤_}
 use mathlib.Core.Path.{_≡_, refl, sym, ap, subst, _∙_}
-use mathlib.Core.Bool.{Bool, true, false}
-use mathlib.Core.List.{List, [], _∷_, _++_, append-assoc}
+use mathlib.Core.Bool.{true, false}
+use mathlib.Core.List.{List, _++_, append-assoc}
 use native.Mathlib.Omega.{arith}
 use borrow.Rule.Slice.PartMut.{putMid}
 use lib.Dec.{T}
@@ -184,14 +184,14 @@ module _ (t : List ℕ) (hand : Hand) (s : Settings) (spot : Spot) (i : ℕ) (d 
         (object-text (d .colon) s string-of e₂ e₃ e₄ ∙ ap (λ (m : ℕ). string-of ++ replicate m 32) n))
         k
 
-    pub decimal-written : (z : ℤ) (width pad : ℕ) {count : ℕ} {b e : List ℕ} {r : Ran} → x ≡ Integer z → d .colon ≡ false → d .at ≡ false → width ≡ orElse (s .first) 0 → pad ≡ orElse (s .second) 32
-        → Performed (λ on. put (spot .position) (spot .left) (padLeft width pad (signOf false z ++ digitsOf 10 (magnitudeOf z))) (on (i + 1))) count spot b e r
+    -- z′ is the number that the machine reads back from the bits of z
+    pub decimal-written : (z z′ : ℤ) (width pad : ℕ) {count : ℕ} {b e : List ℕ} {r : Ran} → x ≡ Integer z → z′ ≡ z → d .colon ≡ false → d .at ≡ false → width ≡ orElse (s .first) 0 → pad ≡ orElse (s .second) 32
+        → Performed (λ on. put (spot .position) (spot .left) (padLeft width pad (signOf false z′ ++ digitsOf 10 (magnitudeOf z′))) (on (i + 1))) count spot b e r
         → Performed (λ on. writeFrom (viewOf t) (spot .position) (spot .left) (Numeral 10) d (handAt hand 0) s i on (sourceOf (Numeral 10) false s)) count spot b e r
-    decimal-written z width pad q c a w p k =
-        let text = signOf false z ++ digitsOf 10 (magnitudeOf z) in
+    decimal-written z z′ width pad q v c a w p k =
         performed-as _
         (λ on. own-taken (Numeral 10) on q
         ∙ write-yes (viewOf t) (spot .position) (spot .left) d (handAt hand 0) (Numeral 10) s on (integer z) (i + 1) c a refl
         ∙ ap (λ (w : List ℕ). put (spot .position) (spot .left) w (on (i + 1)))
-        (decimal-text s z ∙ ap (λ (m : ℕ). padLeft m (orElse (s .second) 32) text) (sym w) ∙ ap (λ (m : ℕ). padLeft width m text) (sym p)))
+        (decimal-text s z ∙ rw (v, w, p)))
         k

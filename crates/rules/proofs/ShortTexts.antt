@@ -3,12 +3,12 @@
 use mathlib.Core.Path.{_≡_, refl}
 use mathlib.Core.Bool.{Bool, false}
 use mathlib.Core.List.{List, _++_}
-use Prim.Native.Nat.{ℕ, _+_, _-_, _*_}
+use Prim.Native.Nat.{ℕ, _+_, _-_}
 use native.Mathlib.Omega.{arith}
 use lib.IntN.{ℤ}
 use lib.ListN.{length, replicate}
 use Rattle.rules.specs.Number.{digitsOf, magnitudeOf, signOf, padLeft}
-use Rattle.rules.specs.Piece.{orElse, timesPadded, paddingOf, bareOf, textOf}
+use Rattle.rules.specs.Piece.{orElse, paddingOf, bareOf, textOf}
 use Rattle.rules.specs.Table.{Value, integer, string}
 use Rattle.rules.specs.declared.Form.the-variants.{Object, Numeral, Repeat}
 use Rattle.rules.specs.declared.Setting.the-variants.{Absent}

@@ -1,8 +1,8 @@
--- A byte is repeated, or refused for want of room. Assumes nothing.
-use lib.ListN.{replicate, length-replicate}
+-- `acting::direct::put_run` meets its contract: the byte is repeated, or a refusal for want of room. Assumes nothing.
 use mathlib.Core.Path.{sym}
-use Rattle.acting.proofs.DirectLaws.{direct-put, direct-full, run-put}
 use borrow.Author.Needs.{needs}
+use lib.ListN.{replicate, length-replicate}
+use Rattle.acting.proofs.DirectLaws.{direct-put, direct-full, run-put}
 use Rattle.acting.proofs.direct.put_run.Statement.{statement}
 use Rattle.acting.proofs.direct.put_run.Tie as tie
 

@@ -1,10 +1,7 @@
--- A string of the table is put with its spaces, or refused for want of room. Assumes nothing.
-use lib.ListN.{replicate}
-use mathlib.Core.List.{_++_}
-use Prim.Native.Nat.{_-_}
-use Rattle.pieces.specs.Bytes.{part}
-use Rattle.acting.proofs.DirectLaws.{direct-put, direct-full, text-length, text-put}
+-- `acting::direct::put_text` meets its contract: the string and then spaces, or a refusal for want of room.
+-- Assumes nothing.
 use borrow.Author.Needs.{needs}
+use Rattle.acting.proofs.DirectLaws.{direct-put, direct-full, text-length, text-put}
 use Rattle.acting.proofs.direct.put_text.Statement.{statement}
 use Rattle.acting.proofs.direct.put_text.Tie as tie
 
