@@ -1,4 +1,5 @@
 pub mod ActLaws
 pub mod Buffer
+pub mod DirectLaws
 pub mod Joining
 pub mod Sources

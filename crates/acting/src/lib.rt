@@ -1,3 +1,4 @@
 // What one directive does: its argument, its piece, a jump.
 pub mod acting;
+pub mod direct;
 pub mod state;

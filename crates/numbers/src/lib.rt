@@ -98,6 +98,21 @@ pub fn fill_digits(base: u64, n: u64, out: &mut [u8])
     }
 }
 
+// The two at base ten, without the choice of a loop.
+pub fn count_decimal(n: u64) -> usize
+    ensures count { λ r. ⌜ r ≡ length (digitsOf 10 n) ⌝ }
+    ensures within { λ r. ⌜ (1 ≤ r) × (r ≤ 20) ⌝ }
+{
+    count_in(10, n)
+}
+
+pub fn fill_decimal(n: u64, out: &mut [u8])
+    requires { ⌜ length (now out) ≡ length (digitsOf 10 n) ⌝ }
+    ensures { λ _. ⌜ now (out .exit) ≡ digitsOf 10 n ⌝ }
+{
+    fill_in(10, n, out);
+}
+
 // How long the text of so many digits in groups is.
 pub fn grouped_size(count: usize, width: usize) -> usize
     requires { ⌜ (1 ≤ count) × (count ≤ 64) ⌝ }
