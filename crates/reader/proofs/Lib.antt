@@ -1,4 +1,6 @@
+pub mod KindLaws
 pub mod MarkLaws
+pub mod PassLaws
 pub mod ScanLaws
 pub mod ShortLaws
 pub mod SkipLaws

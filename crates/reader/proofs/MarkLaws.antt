@@ -7,7 +7,7 @@ use mathlib.Core.List.{List}
 use native.Mathlib.Decide.{decLt, ℕ-discrete as decEq}
 use native.Mathlib.Omega.{arith}
 use borrow.Author.Tests.{lt-leb, eq-eqb, ne-eqb}
-use lib.ListN.{length, getD, List·getD-eq-default}
+use lib.ListN.{length, getD}
 use Rattle.rules.specs.Directive.{start, modifiers, goes, ends, step, skips, going, blank, noParameters, codeNamed, itemAt, wellWritten}
 use Rattle.rules.specs.Text.{end, innermost, levelsAt}
 use Rattle.rules.specs.declared.Bracket.the-variants.{Conditional, Iteration}
@@ -15,16 +15,9 @@ use Rattle.rules.specs.declared.Directive.{Directive}
 use Rattle.rules.proofs.Reading.{scan-on, item-end, item-tilde}
 use Rattle.rules.proofs.TextLaws.{levels-end, levels-separator, levels-closer}
 use Rattle.reader.specs.Marks.{means, markAfterColon, markAfterAt, markOf, markAt, markSize, markDirective, IsMark, closesAt}
-use Rattle.reader.proofs.ScanLaws.{no-both, marked}
+use Rattle.reader.proofs.ScanLaws.{no-both, byte-inside, marked}
 
 -- 1. The bytes of a mark.
-
--- only in the text stands a byte that is not 0
-pub byte-inside : (t : List ℕ) (i : ℕ) → (getD t i 0 ≡ 0 → ⊥) → i < length t
-byte-inside t i e = elim (decLt i (length t)) [
-  | yes h ↦ h
-  | no h ↦ absurd (e (List·getD-eq-default t 0 (omega arith)))
-]
 
 module _ (t : List ℕ) (p : ℕ) {a : ℕ} (first : a ≡ getD t p 0) where
   pub no-tilde : (a ≡ 126 → ⊥) → 0 ≡ markAt t p

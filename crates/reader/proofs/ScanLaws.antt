@@ -9,7 +9,7 @@ use native.Mathlib.Numerals.{add-one}
 use native.Mathlib.Omega.{arith}
 use borrow.Author.Tests.{lt-ltb, le-ltb, le-leb, lt-leb, ne-eqb, ltb-true, leb-true}
 use lib.Dec.{ltb, leb, eqb}
-use lib.ListN.{length, getD, drop, drop-of-length-le}
+use lib.ListN.{length, getD, drop, drop-of-length-le, List·getD-eq-default}
 use lib.Seq.{drop-cons}
 use Rattle.rules.specs.Choice.{both}
 use Rattle.rules.specs.Directive.{Reading, start, signed, digits, quote, whole, modifiers, step, scan, blank, having}
@@ -25,7 +25,7 @@ use Rattle.rules.specs.declared.Parameter.the-variants.{Number, Character, Next
 use Rattle.rules.specs.declared.Parameters.{Parameters}
 use Rattle.rules.proofs.Reading.{scan-on, scan-end}
 use Rattle.reader.specs.Scans.{digitAt, commaAt, greatestOf, afterAt, reading, skippedBy, Numbers}
-use Rattle.reader.specs.Scans.{numberParameter, Ends, Advances, Parametrises}
+use Rattle.reader.specs.Scans.{numberParameter, numberFrom, Ends, Advances, Parametrises}
 use Rattle.reader.specs.declared.directive.NumberRead.{NumberRead}
 use Rattle.reader.specs.declared.directive.NumberRead.the-variants.{Bad as BadOne, Whole as WholeOne}
 use Rattle.reader.specs.declared.directive.ParameterRead.{ParameterRead}
@@ -41,6 +41,13 @@ both-first false b e = e
 both-second : (a b : Bool) → both a b ≡ true → b ≡ true
 both-second true b e = e
 both-second false b e = absurd (no-both e)
+
+-- only in the text stands a byte that is not 0
+pub byte-inside : (t : List ℕ) (i : ℕ) → (getD t i 0 ≡ 0 → ⊥) → i < length t
+byte-inside t i e = elim (decLt i (length t)) [
+  | yes h ↦ h
+  | no h ↦ absurd (e (List·getD-eq-default t 0 (omega arith)))
+]
 
 module _ (t : List ℕ) (p : ℕ) where
   -- a test of the byte at p, where the text has one
@@ -107,6 +114,37 @@ module _ (t : List ℕ) (p : ℕ) (m : Bool) (n : ℕ) (d : Directive) where
           test-false t p (isDigit (getD t p 0)) h e,
         )
         | no h ↦ rw (scan-end t p (digits m n) d (omega arith), le-ltb p (length t) (omega arith))
+      ]
+
+module _ (t : List ℕ) (p : ℕ) (n most : ℕ) where
+  number-on : digitAt t p ≡ true → oneMore n (getD t p 0) ≤ most
+      → numberFrom most n (drop p t) p ≡ numberFrom most (oneMore n (getD t p 0)) (drop (p + 1) t) (p + 1)
+  unfolding numberFrom
+  number-on e k =
+      rw (
+        drop-cons t p 0 (test-inside t p (isDigit (getD t p 0)) e),
+        add-one,
+        numberFrom,
+        test-true t p (isDigit (getD t p 0)) e,
+        le-leb _ _ k,
+      )
+
+  number-over : digitAt t p ≡ true → most < oneMore n (getD t p 0) → numberFrom most n (drop p t) p ≡ BadOne
+  unfolding numberFrom
+  number-over e k =
+      rw (
+        drop-cons t p 0 (test-inside t p (isDigit (getD t p 0)) e),
+        numberFrom,
+        test-true t p (isDigit (getD t p 0)) e,
+        lt-leb _ _ k,
+      )
+
+  number-end : digitAt t p ≡ false → numberFrom most n (drop p t) p ≡ WholeOne n p
+  unfolding numberFrom
+  number-end e =
+      elim (decLt p (length t)) [
+        | yes h ↦ rw (drop-cons t p 0 h, numberFrom, test-false t p (isDigit (getD t p 0)) h e)
+        | no h ↦ let k : length t ≤ p = omega arith in rw (drop-of-length-le t k, numberFrom)
       ]
 
 -- neither `v` nor `V`
@@ -245,6 +283,7 @@ module _ (t : List ℕ) (p : ℕ) where
 pub record Numbering (t : List ℕ) (first : ℕ) (m : Bool) (n i : ℕ) : Type 0 where
   pub same : digitAt t first ≡ true → (d : Directive)
       → scan (signed m) d (drop first t) first ≡ scan (digits m n) d (drop i t) i
+  pub through : numberFrom (greatestOf m) 0 (drop first t) first ≡ numberFrom (greatestOf m) n (drop i t) i
   pub begun : (i ≡ first → ⊥) → digitAt t first ≡ true
   pub within : (i ≡ first → ⊥) → i ≤ length t
   pub small : n ≤ 4096
@@ -253,6 +292,7 @@ pub record Numbering (t : List ℕ) (first : ℕ) (m : Bool) (n i : ℕ) : Type 
 pub number-first : (t : List ℕ) (p : ℕ) (m : Bool) → Numbering t p m 0 p
 number-first t p m = record {
   same = λ e d. signed-digits t p m d e;
+  through = refl;
   begun = λ z. absurd (z refl);
   within = λ z. absurd (z refl);
   small = omega arith;
@@ -261,10 +301,16 @@ number-first t p m = record {
 
 module _ {t : List ℕ} {first : ℕ} {m : Bool} {n i : ℕ} (s : Numbering t first m n i) where
   pub number-none : digitAt t i ≡ false → i ≡ first → Numbers t first m BadOne
-  number-none e z = record { is = λ d. signed-none t first m d (rw z at e); advances = tt; few = tt }
+  number-none e z = record {
+    same = rw (rw z at e);
+    is = λ d. signed-none t first m d (rw z at e);
+    advances = tt;
+    few = tt;
+  }
 
   pub number-whole : digitAt t i ≡ false → (i ≡ first → ⊥) → Numbers t first m (WholeOne n i)
   number-whole e z = record {
+    same = rw (s .begun z) (sym (s .through ∙ number-end t i n (greatestOf m) e));
     is = λ d. s .same (s .begun z) d ∙ digits-end t i m n d e;
     advances = record { on = s .forth; within = s .within z; empty = refl };
     few = s .small;
@@ -282,6 +328,7 @@ module _ {t : List ℕ} {first : ℕ} {m : Bool} {n i : ℕ} (s : Numbering t fi
         let low : oneMore n (getD t i 0) ≤ greatestOf m = omega (arith, is, top .0) in
         record {
           same = λ z d. s .same z d ∙ rw is (digits-on t i m n d e low);
+          through = s .through ∙ rw is (number-on t i n (greatestOf m) e low);
           begun = λ z. begins;
           within = λ z. omega arith;
           small = omega (arith, top .1);
@@ -291,7 +338,12 @@ module _ {t : List ℕ} {first : ℕ} {m : Bool} {n i : ℕ} (s : Numbering t fi
     pub number-out : most < n * 10 + (b - 48) → Numbers t first m BadOne
     number-out k =
         let high : greatestOf m < oneMore n (getD t i 0) = omega (arith, is, top .0) in
-        record { is = λ d. s .same begins d ∙ digits-out t i m n d e high; advances = tt; few = tt }
+        record {
+          same = rw begins (sym (s .through ∙ number-over t i n (greatestOf m) e high));
+          is = λ d. s .same begins d ∙ digits-out t i m n d e high;
+          advances = tt;
+          few = tt;
+        }
 
 -- a number that begins at i or after it, where a parameter begins at i
 later : (t : List ℕ) (i j : ℕ) → i ≤ j → (r : NumberRead) → Advances t j (numberParameter r)

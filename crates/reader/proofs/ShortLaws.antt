@@ -1,65 +1,90 @@
--- A short directive: it is the directive that the definition reads, it is well written, and it leaves the check of a text
--- as it was. Assumes nothing.
+-- A short directive: it is the directive that the definition reads, and it is well written. Assumes nothing.
 use mathlib.Core.Path.{_≡_, refl, sym, ap, subst, _∙_}
 use mathlib.Core.Logic.{_⊎_, inl, inr}
-use mathlib.Core.Bool.{Bool, true, false, not}
+use mathlib.Core.Bool.{Bool, true, false, cond}
 use mathlib.Core.List.{List}
 use Prim.Native.Nat.{ℕ, _+_, _≤_, _<_}
 use native.Mathlib.Decide.{ℕ-discrete as decEq}
 use native.Mathlib.Omega.{arith}
 use borrow.Author.Tests.{lt-ltb, le-leb, eq-eqb, ne-eqb}
-use lib.Dec.{ltb, eqb}
-use lib.ListN.{length, getD, drop}
-use Rattle.rules.specs.Choice.{both}
-use Rattle.rules.specs.Directive.{Reading, start as starting, whole, modifiers, scan, blank, having, closed, pending, withParameter, noParameters, isDigit, codeNamed, codeOf, itemAt, wellWritten}
-use Rattle.rules.specs.Text.{Block, directiveMet, verdictAt, innermost, outer, levelsAt}
+use lib.ListN.{length, getD, drop, List·getD-eq-default}
+use Rattle.rules.specs.Directive.{Reading, whole, modifiers, scan, blank, having, closed, pending, withParameter, noParameters, isDigit, codeNamed, codeOf, itemAt, wellWritten}
 use Rattle.rules.specs.declared.Code.{Code}
 use Rattle.rules.specs.declared.Code.the-variants.{Writes, Jump, Escape, Opens, Separator, Closes, Unknown}
 use Rattle.rules.specs.declared.Directive.{Directive}
 use Rattle.rules.specs.declared.Form.{Form}
 use Rattle.rules.specs.declared.Form.the-variants.{Object, Numeral, Glyph, Plural, Repeat, Fold}
-use Rattle.rules.specs.declared.Item.the-variants.{Literal, Written}
-use Rattle.rules.specs.declared.Parameter.the-variants.{Number, Character}
+use Rattle.rules.specs.declared.Item.the-variants.{Written}
+use Rattle.rules.specs.declared.Parameter.the-variants.{Character}
 use Rattle.rules.specs.declared.Parameters.{Parameters}
 use Rattle.rules.specs.declared.Setting.{Setting}
 use Rattle.rules.specs.declared.Setting.the-variants.{Absent, Is}
-use Rattle.rules.proofs.Reading.{item-tilde, item-literal}
-use Rattle.rules.proofs.TextLaws.{next-inside, verdict-literal, verdict-written, levels-literal, levels-writes}
-use Rattle.reader.specs.Scans.{digitAt, commaAt, afterAt, skippedBy, Numbers}
+use Rattle.rules.proofs.Reading.{item-tilde}
+use Rattle.reader.specs.Scans.{digitAt, numberFrom, afterAt, skippedBy, Numbers}
 use Rattle.reader.specs.declared.directive.NumberRead.{NumberRead}
-use Rattle.reader.specs.declared.directive.NumberRead.the-variants.{Whole as WholeOne}
-use Rattle.reader.specs.Shorts.{settingOf, shortForm, shortParameters, shortDirective, NumberIn, CharacterIn, NoneIn, ShortIn, IsShort, leading, NoSign, Leads, SecondAt, Fits, Coded, CodeAt, ShortAt, Skips}
+use Rattle.reader.specs.declared.directive.NumberRead.the-variants.{Bad as BadOne, Whole as WholeOne}
+use Rattle.reader.specs.Shorts.{settingOf, shortForm, shortParameters, shortDirective, NumberIn, CharacterIn, NoneIn, ShortIn, ShortAt, leading, NoSign, Leads}
+use Rattle.reader.specs.Shorts.{kindOf, detailOf, fitsIn, codedAt, secondAt, afterSecond, shortAfter, leadingAt, shortAt, nextOr, ShortRead, AfterShort}
 use Rattle.reader.specs.declared.short.Short.{Short}
 use Rattle.reader.specs.declared.short.Short.the-variants.{Other, Is as IsOne}
-use Rattle.reader.proofs.ScanLaws.{test-false, start-digit, start-other, comma-on, comma-none, quote-whole, marked, code-ends}
+use Rattle.reader.proofs.ScanLaws.{byte-inside, test-inside, test-true, test-false, start-digit, start-other, comma-on, comma-none, quote-whole, marked, code-ends}
+use Rattle.reader.proofs.KindLaws.{Fits, fits-is, kind-is}
 
 -- 1. A number that may be left out.
 
 setting-is : (none n : ℕ) → (n ≡ none → ⊥) → settingOf none n ≡ Is n
 setting-is none n z = rw (ne-eqb n none z)
 
+-- nothing short stands at the end
+module _ (t : List ℕ) (number : ℕ) where
+  past : getD t (length t) 0 ≡ 0
+  past = let h : length t ≤ length t = omega arith in List·getD-eq-default t 0 h
+
+  uncoded : codedAt t number 256 (length t) ≡ Other
+  unfolding codeNamed codedAt
+  uncoded = rw past
+
+  none-past : shortAfter t (WholeOne number (length t)) ≡ Other
+  none-past =
+      let e : secondAt t (length t) ≡ 256 = rw past in
+      ap (λ (c : ℕ). codedAt t number c (afterSecond (length t) c)) e ∙ uncoded
+
 module _ (t : List ℕ) (first : ℕ) (h : first ≤ length t) where
   pub leads-none : digitAt t first ≡ false → Leads t first 4097 first
   leads-none e = record {
+    same = rw e;
     is = λ k s d. start-other t first d k (test-false t first (isDigit (getD t first 0)) k e)
         (s .plus) (s .minus) (s .quoted) (s .taken) (s .counted);
     within = h;
     few = omega arith;
   }
 
-  pub leads-bad : Leads t first 4097 (length t)
-  leads-bad = record { is = λ k. absurd (omega (arith, k)); within = omega arith; few = omega arith }
+  module _ (r : NumberRead) (e : digitAt t first ≡ true) (s : Numbers t first false r) where
+    leads-same : shortAfter t (leadingAt t first) ≡ shortAfter t r
+    leads-same =
+        let q : r ≡ numberFrom 4096 0 (drop first t) first = s .same ∙ rw e in
+        rw e (ap (shortAfter t) (sym q))
 
-  pub leads-number : (n next : ℕ) (r : NumberRead) → r ≡ WholeOne n next → first < length t → isDigit (getD t first 0) ≡ true
-      → Numbers t first false r → Leads t first n next
-  leads-number n next r q k e s =
-      let u : Numbers t first false (WholeOne n next) = subst (Numbers t first false) q s in
-      let z : n ≡ 4097 → ⊥ = λ y. omega (arith, y, u .few) in
-      record {
-        is = λ i o d. start-digit t first d k e ∙ u .is d ∙ ap (λ (x : Setting). afterAt t (leading x) d next) (sym (setting-is 4097 n z));
-        within = u .advances .within;
-        few = omega (arith, u .few);
-      }
+    pub leads-bad : r ≡ BadOne → Leads t first 4097 (length t)
+    leads-bad q = record {
+      same = leads-same ∙ ap (shortAfter t) q ∙ sym (none-past t 4097);
+      is = λ k. absurd (omega (arith, k));
+      within = omega arith;
+      few = omega arith;
+    }
+
+    pub leads-number : (n next : ℕ) → r ≡ WholeOne n next → Leads t first n next
+    leads-number n next q =
+        let u : Numbers t first false (WholeOne n next) = subst (Numbers t first false) q s in
+        let z : n ≡ 4097 → ⊥ = λ y. omega (arith, y, u .few) in
+        let k = test-inside t first (isDigit (getD t first 0)) e in
+        record {
+          same = leads-same ∙ ap (shortAfter t) q;
+          is = λ i o d. start-digit t first d k (test-true t first (isDigit (getD t first 0)) e)
+              ∙ u .is d ∙ ap (λ (x : Setting). afterAt t (leading x) d next) (sym (setting-is 4097 n z));
+          within = u .advances .within;
+          few = omega (arith, u .few);
+        }
 
 -- 2. A code that writes begins no parameter and is no modifier.
 
@@ -165,7 +190,7 @@ module _ (t : List ℕ) (p number i : ℕ) (f : Form) (h : p < length t) (e : ge
       ∙ rw (← q, ← is)
       (code-read t j f lead (Is c) m w s (whole (Character c)) (having blank (withParameter noParameters (pending (leading lead)))) (shortParameters lead (Is c)) (closed-two lead c))
 
--- 4. What its parts make of it.
+-- 4. What is read is what the definition reads.
 
 number-in : (n : ℕ) → n ≤ 4097 → NumberIn (settingOf 4097 n)
 number-in n h = elim (decEq n 4097) [
@@ -182,7 +207,8 @@ character-in c h = elim (decEq c 256) [
 none-in : (c : ℕ) → c ≡ 256 → NoneIn (settingOf 256 c)
 none-in c z = rw (eq-eqb c 256 z) tt
 
-short-in : (kind detail number byte : ℕ) → Fits kind byte → number ≤ 4097 → byte ≤ 256 → ShortIn (shortForm kind detail) (settingOf 4097 number) (settingOf 256 byte)
+short-in : (kind detail number byte : ℕ) → Fits kind byte → number ≤ 4097 → byte ≤ 256
+    → ShortIn (shortForm kind detail) (settingOf 4097 number) (settingOf 256 byte)
 short-in kind detail number byte u h k = elim (decEq kind 0) [
   | yes z ↦ rw (eq-eqb kind 0 z) (number-in number h, none-in byte (u .alone (λ o. omega (arith, z, o))))
   | no z ↦ elim (decEq kind 1) [
@@ -191,52 +217,79 @@ short-in kind detail number byte u h k = elim (decEq kind 0) [
   ]
 ]
 
-module _ {t : List ℕ} {p number i byte : ℕ} (h : p < length t) (e : getD t p 0 ≡ 126) (l : Leads t (p + 1) number i) (y : SecondAt t i byte)
-    {kind detail number₂ byte₂ next : ℕ} where
-  pub short-one : byte ≡ 256 → Coded t i number byte kind detail number₂ byte₂ next
-      → IsShort t p (shortForm kind detail) (settingOf 4097 number₂) (settingOf 256 byte₂) next
-  short-one z c =
-      let s = short-in kind detail number byte (c .fits) (l .few) (y .few) in
-      let s₂ : ShortIn (shortForm kind detail) (settingOf 4097 number) Absent = rw (eq-eqb byte 256 z) at s in
-      rw (c .same-number, c .same-byte, c .after) (record {
-        item = rw (eq-eqb byte 256 z) (one-read t p number i (shortForm kind detail) h e l (c .inside) (c .code) s₂);
-        suits = s;
-      })
+-- a character that is written
+record Second (t : List ℕ) (i c : ℕ) : Type 0 where
+  comma : getD t i 0 ≡ 44
+  mark : getD t (i + 1) 0 ≡ 39
+  is : c ≡ getD t (i + 2) 0
 
-  pub short-two : (byte ≡ 256 → ⊥) → Coded t (i + 3) number byte kind detail number₂ byte₂ next
-      → IsShort t p (shortForm kind detail) (settingOf 4097 number₂) (settingOf 256 byte₂) next
-  short-two z c =
-      let s = short-in kind detail number byte (c .fits) (l .few) (y .few) in
-      let s₂ : ShortIn (shortForm kind detail) (settingOf 4097 number) (Is byte) = rw (ne-eqb byte 256 z) at s in
-      rw (c .same-number, c .same-byte, c .after) (record {
-        item = rw (ne-eqb byte 256 z)
-            (two-read t p number i (shortForm kind detail) h e l byte (i + 3) (omega arith) (omega (arith, y .inside z)) (y .comma z) (y .mark z)
-            (subst (λ (j : ℕ). byte ≡ getD t j 0) (omega arith) (y .is z)) (c .inside) (c .code) s₂);
-        suits = s;
-      })
+second-is : (t : List ℕ) (i c : ℕ) → c ≡ secondAt t i → (c ≡ 256 → ⊥) → Second t i c
+second-is t i c e z = elim (decEq (getD t i 0) 44) [
+  | no a ↦ absurd (z (e ∙ rw (ne-eqb (getD t i 0) 44 a)))
+  | yes a ↦ elim (decEq (getD t (i + 1) 0) 39) [
+    | no b ↦ absurd (z (e ∙ rw (eq-eqb (getD t i 0) 44 a, ne-eqb (getD t (i + 1) 0) 39 b)))
+    | yes b ↦ record { comma = a; mark = b; is = e ∙ rw (eq-eqb (getD t i 0) 44 a, eq-eqb (getD t (i + 1) 0) 39 b) }
+  ]
+]
 
-pub second-none : (t : List ℕ) (i : ℕ) → SecondAt t i 256
-second-none t i = record {
-  inside = λ z. absurd (z refl);
-  comma = λ z. absurd (z refl);
-  mark = λ z. absurd (z refl);
-  is = λ z. absurd (z refl);
-  few = omega arith;
-}
+module _ (t : List ℕ) (p number i byte : ℕ) (h : p < length t) (e : getD t p 0 ≡ 126) (l : Leads t (p + 1) number i)
+    (c : byte ≡ secondAt t i) (few : byte ≤ 256) where
+  -- a code of the kind stands at j, after the parameters
+  module _ (j kind detail : ℕ) (q : j ≡ afterSecond i byte) (f : Fits kind byte) (w : codeOf (getD t j 0) ≡ Writes (shortForm kind detail)) where
+    inside : j < length t
+    unfolding codeNamed
+    inside = byte-inside t j (other-than (getD t j 0) (shortForm kind detail) w 0 refl)
 
-pub named-as : (b : ℕ) {k d kind detail : ℕ} → codeNamed b ≡ Writes (shortForm k d) → kind ≡ k → detail ≡ d → codeNamed b ≡ Writes (shortForm kind detail)
-named-as b e q w = rw (q, w) e
+    suits : ShortIn (shortForm kind detail) (settingOf 4097 number) (settingOf 256 byte)
+    suits = short-in kind detail number byte f (l .few) few
 
-module _ {t : List ℕ} {p number i byte : ℕ} (h : p < length t) (e : getD t p 0 ≡ 126) (l : Leads t (p + 1) number i) (y : SecondAt t i byte) where
-  pub read-one : byte ≡ 256 → (r : Short) → CodeAt t i number byte r → ShortAt t p r
-  read-one z Other c = tt
-  read-one z (IsOne kind detail number₂ byte₂ next) c = short-one h e l y z c
+    item : Dec (byte ≡ 256) → itemAt t p ≡ Written (shortDirective (shortForm kind detail) (settingOf 4097 number) (settingOf 256 byte) (j + 1))
+    item (yes z) =
+        let y = eq-eqb byte 256 z in
+        let k : j ≡ i = q ∙ rw y in
+        let s : ShortIn (shortForm kind detail) (settingOf 4097 number) Absent = rw y at suits in
+        rw (y, k) (one-read t p number i (shortForm kind detail) h e l (rw k at inside) (rw k at w) s)
+    item (no z) =
+        let y = ne-eqb byte 256 z in
+        let k : j ≡ i + 1 + 1 + 1 = q ∙ rw y (omega arith) in
+        let n : i + 2 ≡ i + 1 + 1 = omega arith in
+        let b = second-is t i byte c z in
+        let s : ShortIn (shortForm kind detail) (settingOf 4097 number) (Is byte) = rw y at suits in
+        rw y (two-read t p number i (shortForm kind detail) h e l byte j k (omega (arith, inside)) (b .comma) (b .mark)
+        (rw n at (b .is)) inside w s)
 
-  pub read-two : (byte ≡ 256 → ⊥) → (r : Short) → CodeAt t (i + 3) number byte r → ShortAt t p r
-  read-two z Other c = tt
-  read-two z (IsOne kind detail number₂ byte₂ next) c = short-two h e l y z c
+  coded-means : (j : ℕ) → j ≡ afterSecond i byte → ShortAt t p (codedAt t number byte j)
+  unfolding codedAt
+  coded-means j q = by (fitsIn kind byte) refl
+    where
+      kind : ℕ
+      kind = kindOf (codeOf (getD t j 0))
 
--- 5. It is well written, and so the check goes on behind it.
+      detail : ℕ
+      detail = detailOf (codeOf (getD t j 0))
+
+      by : (y : Bool) → fitsIn kind byte ≡ y → ShortAt t p (cond y (IsOne kind detail number byte (j + 1)) Other)
+      by false f = tt
+      by true f =
+          let u = fits-is kind byte f in
+          let w = kind-is (codeOf (getD t j 0)) (u .known) in
+          record { item = item j kind detail q u w (decEq byte 256); suits = suits j kind detail q u w }
+
+  pub short-read : (j : ℕ) → j ≡ afterSecond i byte → (r : Short) → r ≡ codedAt t number byte j → ShortRead t p r
+  unfolding shortAt
+  short-read j q r k = record {
+    is = k ∙ rw (q, c) (sym (rw (eq-eqb (getD t p 0) 126 e) (l .same)));
+    means = subst (ShortAt t p) (sym k) (coded-means j q);
+  }
+
+pub none-read : (t : List ℕ) (p : ℕ) → (getD t p 0 ≡ 126 → ⊥) → ShortRead t p Other
+unfolding shortAt
+none-read t p e = record { is = rw (ne-eqb (getD t p 0) 126 e); means = tt }
+
+pub after-read : (t : List ℕ) (p : ℕ) (s : Short) → ShortRead t p s → AfterShort t p (nextOr p s)
+after-read t p s u = record { is = ap (nextOr p) (u .is); means = subst (ShortAt t p) (u .is) (u .means) }
+
+-- 5. It is well written.
 
 pub short-well : (f : Form) (x y : Setting) (next : ℕ) → ShortIn f x y → wellWritten (shortDirective f x y next) ≡ true
 unfolding wellWritten
@@ -253,35 +306,3 @@ short-well (Repeat b) Absent Absent next s = refl
 short-well (Repeat b) (Is n) Absent next s = rw (le-leb 0 n (omega arith), le-leb n 4096 (s .0))
 short-well (Repeat b) x (Is c) next s = absurd (s .1)
 short-well Fold x y next s = absurd s
-
-pub skip-none : (t : List ℕ) (p : ℕ) → Skips t p p
-skip-none t p = record { same = λ os. refl; more = refl; outside = refl; least = omega arith; most = λ h. h }
-
-module _ {t : List ℕ} {first p : ℕ} (k : Skips t first p) where
-  pub skip-literal : p < length t → (getD t p 0 ≡ 126 → ⊥) → Skips t first (p + 1)
-  skip-literal h e =
-      let i = item-literal t p h e in
-      let l = levels-literal t p _ i in
-      record {
-        same = λ os. k .same os ∙ verdict-literal t os p _ i;
-        more = k .more ∙ ap (λ xs. innermost xs .more) l;
-        outside = k .outside ∙ ap outer l;
-        least = omega (arith, k .least);
-        most = λ z. omega arith;
-      }
-
-  module _ {f : Form} {x y : Setting} {next : ℕ} (u : IsShort t p f x y next) where
-    pub skip-on : (p < next) × (next ≤ length t)
-    skip-on = let w = next-inside t p (shortDirective f x y next) (u .item) in (omega (arith, w .above), w .most)
-
-    pub skip-directive : Skips t first next
-    unfolding directiveMet
-    skip-directive =
-        let l = levels-writes t p (shortDirective f x y next) (u .item) f refl in
-        record {
-          same = λ os. k .same os ∙ verdict-written t os p (shortDirective f x y next) (u .item) ∙ rw (short-well f x y next (u .suits));
-          more = k .more ∙ ap (λ xs. innermost xs .more) l;
-          outside = k .outside ∙ ap outer l;
-          least = omega (arith, k .least, skip-on .0);
-          most = λ z. skip-on .1;
-        }

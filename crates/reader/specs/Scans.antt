@@ -1,14 +1,14 @@
 -- What the parts of the reader of a directive answer, in terms of the definition of reading.
 -- Assumes nothing: these are definitions.
-use Prim.Native.Nat.{ℕ, _+_, _≤_}
+use Prim.Native.Nat.{ℕ, suc, _+_, _≤_}
 use mathlib.Core.Path.{_≡_}
 use mathlib.Core.Bool.{Bool, true, false, cond}
-use mathlib.Core.List.{List}
-use lib.Dec.{ltb, eqb}
+use mathlib.Core.List.{List, [], _∷_}
+use lib.Dec.{ltb, leb, eqb}
 use lib.ListN.{length, getD, drop}
 use Rattle.rules.specs.Choice.{both}
 use Rattle.rules.specs.Directive.{Reading, start, signed, whole, isDigit, blanks, skips, scan, afterStep, onStep}
-use Rattle.rules.specs.Directive.{going, skipped, pending}
+use Rattle.rules.specs.Directive.{going, skipped, pending, oneMore}
 use Rattle.rules.specs.declared.Code.{Code}
 use Rattle.rules.specs.declared.Directive.{Directive}
 use Rattle.rules.specs.declared.Item.{Item}
@@ -66,12 +66,23 @@ Advances t i Bad = Unit {0}
 Advances t i Cut = Unit {0}
 Advances t i (Whole x written next) = Ends t i x written next
 
+-- the number whose digits stand at the head of the bytes from i on, n so far and at most `most`
+unfoldable pub numberFrom : ℕ → ℕ → List ℕ → ℕ → NumberRead
+numberFrom most n [] i = WholeOne n i
+numberFrom most n (b ∷ bs) i =
+    cond (isDigit b) (cond (leb (oneMore n b) most) (numberFrom most (oneMore n b) bs (suc i)) BadOne) (WholeOne n i)
+
+-- the number whose digits begin at i, after a `-` or not
+abbrev pub numberAt : List ℕ → Bool → ℕ → NumberRead
+numberAt t minus i = cond (digitAt t i) (numberFrom (greatestOf minus) 0 (drop i t) i) BadOne
+
 abbrev pub Few : NumberRead → Type 0
 Few BadOne = Unit {0}
 Few (WholeOne n next) = n ≤ 4096
 
 -- r is the number whose digits begin at i
 pub record Numbers (t : List ℕ) (i : ℕ) (minus : Bool) (r : NumberRead) : Type 0 where
+  pub same : r ≡ numberAt t minus i
   pub is : (d : Directive) → scan (signed minus) d (drop i t) i ≡ onParameter t d (numberParameter r)
   pub advances : Advances t i (numberParameter r)
   pub few : Few r

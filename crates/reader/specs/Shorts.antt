@@ -1,25 +1,28 @@
--- What the reader of short directives answers, in terms of the definition of reading.
+-- Short directives, by the bytes of a text, and what the parts of their reader answer.
 -- Assumes nothing: these are definitions.
 use Prim.Native.Nat.{ℕ, _+_, _≤_, _<_}
 use mathlib.Core.Path.{_≡_}
 use mathlib.Core.Logic.{_⊎_}
-use mathlib.Core.Bool.{true, false, cond}
+use mathlib.Core.Bool.{Bool, true, false, cond}
 use mathlib.Core.List.{List}
 use lib.Dec.{eqb}
 use lib.ListN.{length, getD, drop}
-use Rattle.rules.specs.Directive.{Reading, start as starting, whole, scan, codeNamed, codeOf, itemAt, noParameters}
+use Rattle.rules.specs.Choice.{both}
+use Rattle.rules.specs.Directive.{Reading, start as starting, whole, scan, codeOf, itemAt, noParameters}
 use Rattle.rules.specs.Text.{Block, verdictAt, innermost, outer, levelsAt}
-use Rattle.rules.specs.declared.Code.the-variants.{Writes}
+use Rattle.rules.specs.declared.Code.{Code}
+use Rattle.rules.specs.declared.Code.the-variants.{Writes, Jump, Escape, Opens, Separator, Closes, Unknown}
 use Rattle.rules.specs.declared.Directive.{Directive}
 use Rattle.rules.specs.declared.Form.{Form}
 use Rattle.rules.specs.declared.Form.the-variants.{Object, Numeral, Glyph, Plural, Repeat, Fold}
 use Rattle.rules.specs.declared.Item.the-variants.{Written}
-use Rattle.rules.specs.declared.Parameter.{Parameter}
 use Rattle.rules.specs.declared.Parameter.the-variants.{Default, Number, Character}
 use Rattle.rules.specs.declared.Parameters.{Parameters}
 use Rattle.rules.specs.declared.Setting.{Setting}
 use Rattle.rules.specs.declared.Setting.the-variants.{Absent, Is}
-use Rattle.reader.specs.Scans.{afterAt}
+use Rattle.reader.specs.Scans.{digitAt, numberAt, afterAt}
+use Rattle.reader.specs.declared.directive.NumberRead.{NumberRead}
+use Rattle.reader.specs.declared.directive.NumberRead.the-variants.{Bad, Whole}
 use Rattle.reader.specs.declared.short.Short.{Short}
 use Rattle.reader.specs.declared.short.Short.the-variants.{Other, Is as IsOne}
 
@@ -29,10 +32,6 @@ settingOf none n = cond (eqb n none) Absent (Is n)
 
 abbrev pub shortForm : ℕ → ℕ → Form
 shortForm kind detail = cond (eqb kind 0) (Object (eqb detail 1)) (cond (eqb kind 1) (Numeral detail) (Repeat detail))
-
-abbrev pub numberWritten : Setting → Parameter
-numberWritten Absent = Default
-numberWritten (Is n) = Number n
 
 -- the parameters of a short directive: a number x and a character y
 abbrev pub shortParameters : Setting → Setting → Parameters
@@ -76,6 +75,81 @@ ShortAt t p Other = Unit {0}
 ShortAt t p (IsOne kind detail number byte next) =
     IsShort t p (shortForm kind detail) (settingOf 4097 number) (settingOf 256 byte) next
 
+-- What the code of a short directive is, as numbers: its kind is 0 for ~a ~s, 1 for ~d ~x ~o ~b, 2 for ~~ ~% ~_ ~| ~/
+-- and 3 for any other; its detail is 1 for ~s, the base, or the byte repeated
+abbrev pub kindOf : Code → ℕ
+kindOf (Writes (Object q)) = 0
+kindOf (Writes (Numeral base)) = 1
+kindOf (Writes Glyph) = 3
+kindOf (Writes Plural) = 3
+kindOf (Writes (Repeat b)) = 2
+kindOf (Writes Fold) = 3
+kindOf Jump = 3
+kindOf Escape = 3
+kindOf (Opens b) = 3
+kindOf Separator = 3
+kindOf (Closes b) = 3
+kindOf Unknown = 3
+
+abbrev pub detailOf : Code → ℕ
+detailOf (Writes (Object q)) = cond q 1 0
+detailOf (Writes (Numeral base)) = base
+detailOf (Writes Glyph) = 0
+detailOf (Writes Plural) = 0
+detailOf (Writes (Repeat b)) = b
+detailOf (Writes Fold) = 0
+detailOf Jump = 0
+detailOf Escape = 0
+detailOf (Opens b) = 0
+detailOf Separator = 0
+detailOf (Closes b) = 0
+detailOf Unknown = 0
+
+-- whether a directive of the kind is short with this character, or none: only a numeral may have one
+abbrev pub fitsIn : ℕ → ℕ → Bool
+fitsIn kind byte = cond (eqb kind 1) true (cond (eqb kind 3) false (eqb byte 256))
+
+abbrev pub shortOf : ℕ → ℕ → ℕ → ℕ → ℕ → Short
+shortOf kind detail number byte next = cond (fitsIn kind byte) (IsOne kind detail number byte next) Other
+
+-- the short directive whose parameters are read, and whose code stands at i
+unfoldable pub codedAt : List ℕ → ℕ → ℕ → ℕ → Short
+codedAt t number byte i = shortOf (kindOf (codeOf (getD t i 0))) (detailOf (codeOf (getD t i 0))) number byte (i + 1)
+
+-- the character c of a `,'c` at i, or 256; and where the text goes on then
+abbrev pub secondAt : List ℕ → ℕ → ℕ
+secondAt t i = cond (both (eqb (getD t i 0) 44) (eqb (getD t (i + 1) 0) 39)) (getD t (i + 2) 0) 256
+
+abbrev pub afterSecond : ℕ → ℕ → ℕ
+afterSecond i byte = cond (eqb byte 256) i (i + 3)
+
+-- after the number, the character and the code; behind a number that is refused nothing short stands
+abbrev pub shortAfter : List ℕ → NumberRead → Short
+shortAfter t Bad = Other
+shortAfter t (Whole number i) = codedAt t number (secondAt t i) (afterSecond i (secondAt t i))
+
+-- the number that begins at i, or 4097
+abbrev pub leadingAt : List ℕ → ℕ → NumberRead
+leadingAt t i = cond (digitAt t i) (numberAt t false i) (Whole 4097 i)
+
+-- the short directive at p, if one stands there
+unfoldable pub shortAt : List ℕ → ℕ → Short
+shortAt t p = cond (eqb (getD t p 0) 126) (shortAfter t (leadingAt t (p + 1))) Other
+
+-- r is the short directive at p, and what that says
+pub record ShortRead (t : List ℕ) (p : ℕ) (r : Short) : Type 0 where
+  pub is : r ≡ shortAt t p
+  pub means : ShortAt t p r
+
+-- where the text goes on after a short directive at p, or p if none stands there
+abbrev pub nextOr : ℕ → Short → ℕ
+nextOr p Other = p
+nextOr p (IsOne kind detail number byte next) = next
+
+pub record AfterShort (t : List ℕ) (p r : ℕ) : Type 0 where
+  pub is : r ≡ nextOr p (shortAt t p)
+  pub means : ShortAt t p (shortAt t p)
+
 -- where reading stands after a number that may be left out
 abbrev pub leading : Setting → Reading
 leading Absent = starting
@@ -91,45 +165,11 @@ pub record NoSign (t : List ℕ) (i : ℕ) : Type 0 where
 
 -- the number that begins at `first`, or none, ends at next, unless a sign, a character, `v` or `#` follows
 pub record Leads (t : List ℕ) (first number next : ℕ) : Type 0 where
+  pub same : shortAfter t (leadingAt t first) ≡ shortAfter t (Whole number next)
   pub is : next < length t → NoSign t next → (d : Directive)
       → scan starting d (drop first t) first ≡ afterAt t (leading (settingOf 4097 number)) d next
   pub within : next ≤ length t
   pub few : number ≤ 4097
-
--- the byte at i, or 256
-pub record ByteAt (t : List ℕ) (i r : ℕ) : Type 0 where
-  pub is : (r ≡ 256 → ⊥) → (i < length t) × (r ≡ getD t i 0)
-  pub few : r ≤ 256
-
--- the character c of a `,'c` at i, or 256
-pub record SecondAt (t : List ℕ) (i r : ℕ) : Type 0 where
-  pub inside : (r ≡ 256 → ⊥) → i + 2 < length t
-  pub comma : (r ≡ 256 → ⊥) → getD t i 0 ≡ 44
-  pub mark : (r ≡ 256 → ⊥) → getD t (i + 1) 0 ≡ 39
-  pub is : (r ≡ 256 → ⊥) → r ≡ getD t (i + 2) 0
-  pub few : r ≤ 256
-
--- the kind of a code; 3 for one that is not short
-abbrev pub NamesShort : ℕ → ℕ → ℕ → Type 0
-NamesShort b kind detail = (kind ≡ 3 → ⊥) → codeNamed b ≡ Writes (shortForm kind detail)
-
--- a directive of the kind is short with this character, or none
-pub record Fits (kind byte : ℕ) : Type 0 where
-  pub known : kind ≡ 3 → ⊥
-  pub alone : (kind ≡ 1 → ⊥) → byte ≡ 256
-
--- the code of a short directive stands at i, after such parameters
-pub record Coded (t : List ℕ) (i number byte kind detail number₂ byte₂ next : ℕ) : Type 0 where
-  pub inside : i < length t
-  pub code : codeOf (getD t i 0) ≡ Writes (shortForm kind detail)
-  pub fits : Fits kind byte
-  pub same-number : number₂ ≡ number
-  pub same-byte : byte₂ ≡ byte
-  pub after : next ≡ i + 1
-
-abbrev pub CodeAt : List ℕ → ℕ → ℕ → ℕ → Short → Type 0
-CodeAt t i number byte Other = Unit {0}
-CodeAt t i number byte (IsOne kind detail number₂ byte₂ next) = Coded t i number byte kind detail number₂ byte₂ next
 
 -- whatever blocks are open, what is found in reading from `first` on is found from r on, and both stand in one clause
 pub record Skips (t : List ℕ) (first r : ℕ) : Type 0 where
@@ -138,3 +178,11 @@ pub record Skips (t : List ℕ) (first r : ℕ) : Type 0 where
   pub outside : outer (levelsAt t first) ≡ outer (levelsAt t r)
   pub least : first ≤ r
   pub most : first ≤ length t → r ≤ length t
+
+-- the text ends at r, or a directive stands there that is not short
+abbrev pub Stops : List ℕ → ℕ → Type 0
+Stops t r = (length t ≤ r) ⊎ ((getD t r 0 ≡ 126) × (shortAt t r ≡ Other))
+
+pub record SkipsShort (t : List ℕ) (first r : ℕ) : Type 0 where
+  pub over : Skips t first r
+  pub stops : Stops t r

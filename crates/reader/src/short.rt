@@ -2,15 +2,17 @@
 // an argument. Most directives are short. They are read here into a few words, which is much faster than a `Directive`.
 use crate::codes::lower_case;
 use crate::directive::NumberRead;
+use crate::directive::byte_at;
 use crate::directive::digit_at;
 use crate::directive::read_number;
 use crate::directive::wide;
 use rules::Form;
 ghost use mathlib.Core.Path.{_≡_};
-ghost use mathlib.Core.Bool.{true};
-ghost use Prim.Native.Nat.{_≤_};
-ghost use lib.ListN.{length};
-ghost use Rattle.reader.specs.Shorts.{shortForm, Leads, ByteAt, SecondAt, NamesShort, Fits, CodeAt, ShortAt, Skips};
+ghost use Prim.Native.Nat.{_+_, _≤_, _<_};
+ghost use lib.ListN.{length, getD};
+ghost use Rattle.rules.specs.Directive.{codeNamed};
+ghost use Rattle.reader.specs.Shorts.{shortForm, Leads, secondAt, afterSecond, kindOf, detailOf, fitsIn, codedAt};
+ghost use Rattle.reader.specs.Shorts.{ShortRead, AfterShort, SkipsShort};
 
 // Stands for a number that is not written.
 pub const NO_NUMBER: usize = 4097;
@@ -19,11 +21,11 @@ pub const NO_NUMBER: usize = 4097;
 pub const NO_BYTE: usize = 256;
 
 // The kinds of short directives: ~a ~s; ~d ~x ~o ~b; ~~ ~% ~_ ~| ~/; any other is not short.
-const OBJECT: u8 = 0;
+pub const OBJECT: u8 = 0;
 
-const NUMERAL: u8 = 1;
+pub const NUMERAL: u8 = 1;
 
-const REPEAT: u8 = 2;
+pub const REPEAT: u8 = 2;
 
 const OTHER: u8 = 3;
 
@@ -43,12 +45,6 @@ pub enum Short {
 struct Leading {
     number: usize,
     next: usize,
-}
-
-// What a code stands for among the short directives.
-struct Letter {
-    kind: u8,
-    detail: u8,
 }
 
 // The number that begins at start, if one does. Behind one that is refused nothing short follows.
@@ -75,49 +71,79 @@ fn leading_number(text: &[u8], start: usize) -> Leading
     }
 }
 
-fn byte_at(text: &[u8], i: usize) -> usize
-    ensures { λ r. ⌜ ByteAt (now (text .entry)) i r ⌝ }
-{
-    if i < text.len() {
-        return wide(text[i]);
-    }
-    NO_BYTE
-}
-
 // The character of a second parameter, whose comma stands at i, if there is one.
 fn second_character(text: &[u8], i: usize) -> usize
-    ensures { λ r. ⌜ SecondAt (now (text .entry)) i r ⌝ }
+    ensures { λ r. ⌜ (r ≡ secondAt (now (text .entry)) i) × (r ≤ 256) ⌝ }
 {
     if byte_at(text, i) == 44 {
         if byte_at(text, i + 1) == 39 {
-            return byte_at(text, i + 2);
+            return wide(byte_at(text, i + 2));
         }
     }
     NO_BYTE
 }
 
-fn named(kind: u8, detail: u8) -> Letter
-    ensures { λ r. ⌜ (r .kind ≡ kind) × (r .detail ≡ detail) ⌝ }
+// Where the text goes on after the second parameter, whose comma would stand at i.
+fn after_character(i: usize, byte: usize) -> usize
+    requires { ⌜ i + 3 ≤ 18446744073709551615 ⌝ }
+    ensures { λ r. ⌜ (r ≡ afterSecond i byte) × (r ≤ i + 3) ⌝ }
 {
-    Letter { kind, detail }
+    if byte == NO_BYTE { i } else { i + 3 }
 }
 
-fn letter_of(b: u8) -> Letter
-    ensures { λ r. ⌜ NamesShort b (r .kind) (r .detail) ⌝ }
+fn sign_kind(b: u8) -> u8
+    requires { ⌜ b < 97 ⌝ }
+    ensures { λ r. ⌜ r ≡ kindOf (codeNamed b) ⌝ }
 {
     match b {
-        97 => named(OBJECT, 0),
-        115 => named(OBJECT, 1),
-        100 => named(NUMERAL, 10),
-        120 => named(NUMERAL, 16),
-        111 => named(NUMERAL, 8),
-        98 => named(NUMERAL, 2),
-        126 => named(REPEAT, 126),
-        37 => named(REPEAT, 10),
-        95 => named(REPEAT, 32),
-        124 => named(REPEAT, 12),
-        47 => named(REPEAT, 9),
-        _ => named(OTHER, 0),
+        37 => REPEAT,
+        95 => REPEAT,
+        47 => REPEAT,
+        _ => OTHER,
+    }
+}
+
+fn letter_kind(b: u8) -> u8
+    requires { ⌜ 97 ≤ b ⌝ }
+    ensures { λ r. ⌜ r ≡ kindOf (codeNamed b) ⌝ }
+{
+    match b {
+        97 => OBJECT,
+        115 => OBJECT,
+        100 => NUMERAL,
+        120 => NUMERAL,
+        111 => NUMERAL,
+        98 => NUMERAL,
+        126 => REPEAT,
+        124 => REPEAT,
+        _ => OTHER,
+    }
+}
+
+// The kind of the short directive that a code stands for. Two small tables are put in place, where a call of one large
+// table stays a call.
+fn kind_of(b: u8) -> u8
+    ensures { λ r. ⌜ r ≡ kindOf (codeNamed b) ⌝ }
+{
+    if b < 97 { sign_kind(b) } else { letter_kind(b) }
+}
+
+fn detail_of(b: u8) -> u8
+    ensures { λ r. ⌜ r ≡ detailOf (codeNamed b) ⌝ }
+{
+    match b {
+        97 => 0,
+        115 => 1,
+        100 => 10,
+        120 => 16,
+        111 => 8,
+        98 => 2,
+        126 => 126,
+        37 => 10,
+        95 => 32,
+        124 => 12,
+        47 => 9,
+        _ => 0,
     }
 }
 
@@ -136,7 +162,7 @@ pub fn short_form(kind: u8, detail: u8) -> Form
 
 // Whether a directive of the kind is short with this character, or none.
 fn fits(kind: u8, byte: usize) -> bool
-    ensures { λ r. ⌜ (r ≡ true → Fits kind byte) ⌝ }
+    ensures { λ r. ⌜ r ≡ fitsIn kind byte ⌝ }
 {
     if kind == NUMERAL {
         return true;
@@ -149,17 +175,15 @@ fn fits(kind: u8, byte: usize) -> bool
 
 // The short directive whose parameters are read, and whose code stands at i.
 fn short_of(text: &[u8], i: usize, number: usize, byte: usize) -> Short
-    ensures { λ r. ⌜ CodeAt (now (text .entry)) i number byte r ⌝ }
+    requires { ⌜ i + 1 ≤ 18446744073709551615 ⌝ }
+    ensures { λ r. ⌜ r ≡ codedAt (now (text .entry)) number byte i ⌝ }
 {
-    if text.len() <= i {
-        return Short::Other;
-    }
-    let b = text[i];
-    let code = letter_of(lower_case(b));
-    if fits(code.kind, byte) {
+    let b = lower_case(byte_at(text, i));
+    let kind = kind_of(b);
+    if fits(kind, byte) {
         return Short::Is {
-            kind: code.kind,
-            detail: code.detail,
+            kind,
+            detail: detail_of(b),
             number,
             byte,
             next: i + 1,
@@ -170,42 +194,40 @@ fn short_of(text: &[u8], i: usize, number: usize, byte: usize) -> Short
 
 // The short directive at p, if one stands there.
 pub fn read_short(text: &[u8], p: usize) -> Short
-    ensures { λ r. ⌜ ShortAt (now (text .entry)) p r ⌝ }
+    ensures { λ r. ⌜ ShortRead (now (text .entry)) p r ⌝ }
 {
-    if text.len() <= p {
-        return Short::Other;
-    }
-    if text[p] != 126 {
+    if byte_at(text, p) != 126 {
         return Short::Other;
     }
     let first = leading_number(text, p + 1);
     let byte = second_character(text, first.next);
-    if byte == NO_BYTE {
-        return short_of(text, first.next, first.number, byte);
-    }
-    short_of(text, first.next + 3, first.number, byte)
+    short_of(text, after_character(first.next, byte), first.number, byte)
+}
+
+// The position after the short directive whose tilde stands at p; p itself if there is none.
+fn after_short(text: &[u8], p: usize) -> usize
+    requires { ⌜ (p < length (now text)) × (getD (now text) p 0 ≡ 126) ⌝ }
+    ensures { λ r. ⌜ AfterShort (now (text .entry)) p r ⌝ }
+{
+    let first = leading_number(text, p + 1);
+    let byte = second_character(text, first.next);
+    let i = after_character(first.next, byte);
+    let b = lower_case(byte_at(text, i));
+    if fits(kind_of(b), byte) { i + 1 } else { p }
 }
 
 // The position after the literal bytes and the short directives that stand from start on.
 pub fn skip_short(text: &[u8], start: usize) -> usize
-    ensures { λ r. ⌜ Skips (now (text .entry)) start r ⌝ }
+    ensures { λ r. ⌜ SkipsShort (now (text .entry)) start r ⌝ }
 {
     let mut p = start;
     while p < text.len() {
         if text[p] == 126 {
-            let s = read_short(text, p);
-            match s {
-                Short::Other => return p,
-                Short::Is {
-                    kind: _,
-                    detail: _,
-                    number: _,
-                    byte: _,
-                    next,
-                } => {
-                    p = next;
-                }
+            let q = after_short(text, p);
+            if q == p {
+                return p;
             }
+            p = q;
         } else {
             p += 1;
         }

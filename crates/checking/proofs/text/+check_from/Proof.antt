@@ -67,7 +67,7 @@ check-from-end-inside-requires t c κs = search needs
 check-from-returns : (t : ℕ)
     → check-from-lts.Need-returns (check-from-claims t) (check-from-at t) check-from.Post check-from-Inv-loop check-from-μ-loop
 check-from-returns t c =
-    check-end (check-skips (c .before .before .before .before .before .loop .inv) (c .before .before .before .before .skip-short .ensures))
+    check-end (check-skips (c .before .before .before .before .before .loop .inv) (c .before .before .before .before .skip-short .ensures .over))
     (sym (c .before .before .before .item-at .ensures) ∙ (c .before .enum-told .given .1)) (c .end-inside .ensures)
 
 check-from-enum-told-2 : (t : ℕ)
@@ -84,12 +84,12 @@ check-from-loop-less : (t : ℕ)
     → check-from-lts.Need-loop-less (check-from-claims t) (check-from-at t) check-from.Post check-from-Inv-loop check-from-μ-loop
 check-from-loop-less t c =
     omega
-    (arith, (c .before .before .before .skip-short .ensures .least), stands (c .before .before .before .before .before .before .args .text .now) (c .before .before .before .skip-short .result) (Literal _) (sym (c .before .before .item-at .ensures) ∙ (c .enum-told2 .given .1)))
+    (arith, (c .before .before .before .skip-short .ensures .over .least), stands (c .before .before .before .before .before .before .args .text .now) (c .before .before .before .skip-short .result) (Literal _) (sym (c .before .before .item-at .ensures) ∙ (c .enum-told2 .given .1)))
 
 check-from-loop-again : (t : ℕ)
     → check-from-lts.Need-loop-again (check-from-claims t) (check-from-at t) check-from.Post check-from-Inv-loop check-from-μ-loop
 check-from-loop-again t c =
-    check-literal (check-skips (c .before .before .before .before .loop .inv) (c .before .before .before .skip-short .ensures))
+    check-literal (check-skips (c .before .before .before .before .loop .inv) (c .before .before .before .skip-short .ensures .over))
     (sym (c .before .before .item-at .ensures) ∙ (c .enum-told2 .given .1))
 
 check-from-enum-told-3 : (t : ℕ)
@@ -99,7 +99,7 @@ check-from-enum-told-3 t c = search needs
 check-from-returns-2 : (t : ℕ)
     → check-from-lts.Need-returns-2 (check-from-claims t) (check-from-at t) check-from.Post check-from-Inv-loop check-from-μ-loop
 check-from-returns-2 t c =
-    check-bad (check-skips (c .before .before .before .before .loop .inv) (c .before .before .before .skip-short .ensures)) (sym (c .before .before .item-at .ensures) ∙ (c .enum-told3 .given .1))
+    check-bad (check-skips (c .before .before .before .before .loop .inv) (c .before .before .before .skip-short .ensures .over)) (sym (c .before .before .item-at .ensures) ∙ (c .enum-told3 .given .1))
 
 check-from-enum-told-4 : (t : ℕ)
     → check-from-lts.Need-enum-told-4 (check-from-claims t) (check-from-at t) check-from.Post check-from-Inv-loop check-from-μ-loop
@@ -108,7 +108,7 @@ check-from-enum-told-4 t c = search needs
 check-from-returns-3 : (t : ℕ)
     → check-from-lts.Need-returns-3 (check-from-claims t) (check-from-at t) check-from.Post check-from-Inv-loop check-from-μ-loop
 check-from-returns-3 t c =
-    check-unfinished (check-skips (c .before .before .before .before .loop .inv) (c .before .before .before .skip-short .ensures))
+    check-unfinished (check-skips (c .before .before .before .before .loop .inv) (c .before .before .before .skip-short .ensures .over))
     (sym (c .before .before .item-at .ensures) ∙ (c .enum-told4 .given .1))
 
 check-from-enum-known-i : (t : ℕ)
@@ -126,7 +126,7 @@ check-from-enum-known-m t c = search needs
 check-from-returns-4 : (t : ℕ)
     → check-from-lts.Need-returns-4 (check-from-claims t) (check-from-at t) check-from.Post check-from-Inv-loop check-from-μ-loop
 check-from-returns-4 t c =
-    check-wrong (check-skips (c .before .before .before .before .before .before .before .before .before .loop .inv) (c .before .before .before .before .before .before .before .before .skip-short .ensures))
+    check-wrong (check-skips (c .before .before .before .before .before .before .before .before .before .loop .inv) (c .before .before .before .before .before .before .before .before .skip-short .ensures .over))
     (sym (c .before .before .before .before .before .before .before .item-at .ensures) ∙ (c .before .before .before .before .before .i .given .1))
     (sym (c .before .before .before .meet .ensures) ∙ (c .before .m .given .1))
 
@@ -138,12 +138,12 @@ check-from-loop-less-2 : (t : ℕ)
     → check-from-lts.Need-loop-less-2 (check-from-claims t) (check-from-at t) check-from.Post check-from-Inv-loop check-from-μ-loop
 check-from-loop-less-2 t c =
     omega
-    (arith, (c .before .before .before .before .before .before .before .skip-short .ensures .least), next-inside (c .before .before .before .before .before .before .before .before .before .before .args .text .now) (c .before .before .before .before .before .before .before .skip-short .result) _ (sym (c .before .before .before .before .before .before .item-at .ensures) ∙ (c .before .before .before .before .i .given .1)))
+    (arith, (c .before .before .before .before .before .before .before .skip-short .ensures .over .least), next-inside (c .before .before .before .before .before .before .before .before .before .before .args .text .now) (c .before .before .before .before .before .before .before .skip-short .result) _ (sym (c .before .before .before .before .before .before .item-at .ensures) ∙ (c .before .before .before .before .i .given .1)))
 
 check-from-loop-again-2 : (t : ℕ)
     → check-from-lts.Need-loop-again-2 (check-from-claims t) (check-from-at t) check-from.Post check-from-Inv-loop check-from-μ-loop
 check-from-loop-again-2 t c =
-    check-stays (check-skips (c .before .before .before .before .before .before .before .before .loop .inv) (c .before .before .before .before .before .before .before .skip-short .ensures))
+    check-stays (check-skips (c .before .before .before .before .before .before .before .before .loop .inv) (c .before .before .before .before .before .before .before .skip-short .ensures .over))
     (sym (c .before .before .before .before .before .before .item-at .ensures) ∙ (c .before .before .before .before .i .given .1))
     (sym (c .before .before .meet .ensures) ∙ (c .enum-told5 .given .1))
 
@@ -155,18 +155,18 @@ check-from-add-separators : (t : ℕ)
     → check-from-lts.Need-add-separators (check-from-claims t) (check-from-at t) check-from.Post check-from-Inv-loop check-from-μ-loop
 check-from-add-separators t c =
     omega
-    (arith, next-inside (c .before .before .before .before .before .before .before .before .before .before .args .text .now) (c .before .before .before .before .before .before .before .skip-short .result) _ (sym (c .before .before .before .before .before .before .item-at .ensures) ∙ (c .before .before .before .before .i .given .1)), (c .before .before .before .before .before .before .before .before .loop .inv .few), (c .before .before .before .before .before .before .before .skip-short .ensures .least), (c .before .before .before .before .before .before .before .before .before .before .good))
+    (arith, next-inside (c .before .before .before .before .before .before .before .before .before .before .args .text .now) (c .before .before .before .before .before .before .before .skip-short .result) _ (sym (c .before .before .before .before .before .before .item-at .ensures) ∙ (c .before .before .before .before .i .given .1)), (c .before .before .before .before .before .before .before .before .loop .inv .few), (c .before .before .before .before .before .before .before .skip-short .ensures .over .least), (c .before .before .before .before .before .before .before .before .before .before .good))
 
 check-from-loop-less-3 : (t : ℕ)
     → check-from-lts.Need-loop-less-3 (check-from-claims t) (check-from-at t) check-from.Post check-from-Inv-loop check-from-μ-loop
 check-from-loop-less-3 t c =
     omega
-    (arith, (c .before .before .before .before .before .before .before .skip-short .ensures .least), next-inside (c .before .before .before .before .before .before .before .before .before .before .args .text .now) (c .before .before .before .before .before .before .before .skip-short .result) _ (sym (c .before .before .before .before .before .before .item-at .ensures) ∙ (c .before .before .before .before .i .given .1)))
+    (arith, (c .before .before .before .before .before .before .before .skip-short .ensures .over .least), next-inside (c .before .before .before .before .before .before .before .before .before .before .args .text .now) (c .before .before .before .before .before .before .before .skip-short .result) _ (sym (c .before .before .before .before .before .before .item-at .ensures) ∙ (c .before .before .before .before .i .given .1)))
 
 check-from-loop-again-3 : (t : ℕ)
     → check-from-lts.Need-loop-again-3 (check-from-claims t) (check-from-at t) check-from.Post check-from-Inv-loop check-from-μ-loop
 check-from-loop-again-3 t c =
-    check-parts (check-skips (c .before .before .before .before .before .before .before .before .loop .inv) (c .before .before .before .before .before .before .before .skip-short .ensures))
+    check-parts (check-skips (c .before .before .before .before .before .before .before .before .loop .inv) (c .before .before .before .before .before .before .before .skip-short .ensures .over))
     (sym (c .before .before .before .before .before .before .item-at .ensures) ∙ (c .before .before .before .before .i .given .1))
     (sym (c .before .before .meet .ensures) ∙ (c .enum-told6 .given .1))
 
@@ -177,7 +177,7 @@ check-from-enum-told-7 t c = search needs
 check-from-returns-5 : (t : ℕ)
     → check-from-lts.Need-returns-5 (check-from-claims t) (check-from-at t) check-from.Post check-from-Inv-loop check-from-μ-loop
 check-from-returns-5 t c =
-    check-closes (check-skips (c .before .before .before .before .before .before .before .before .loop .inv) (c .before .before .before .before .before .before .before .skip-short .ensures))
+    check-closes (check-skips (c .before .before .before .before .before .before .before .before .loop .inv) (c .before .before .before .before .before .before .before .skip-short .ensures .over))
     (sym (c .before .before .before .before .before .before .item-at .ensures) ∙ (c .before .before .before .before .i .given .1))
     (sym (c .before .before .meet .ensures) ∙ (c .enum-told7 .given .1))
 
@@ -189,12 +189,12 @@ check-from-sub-check-from : (t : ℕ)
     → check-from-lts.Need-sub-check-from (check-from-claims t) (check-from-at t) check-from.Post check-from-Inv-loop check-from-μ-loop
 check-from-sub-check-from t c =
     omega
-    (arith, check-room (check-skips (c .before .before .before .before .before .before .before .before .loop .inv) (c .before .before .before .before .before .before .before .skip-short .ensures)) (sym (c .before .before .before .before .before .before .item-at .ensures) ∙ (c .before .before .before .before .i .given .1)) (sym (c .before .before .meet .ensures) ∙ (c .enum-told8 .given .1)))
+    (arith, check-room (check-skips (c .before .before .before .before .before .before .before .before .loop .inv) (c .before .before .before .before .before .before .before .skip-short .ensures .over)) (sym (c .before .before .before .before .before .before .item-at .ensures) ∙ (c .before .before .before .before .i .given .1)) (sym (c .before .before .meet .ensures) ∙ (c .enum-told8 .given .1)))
 
 check-from-check-from-requires : (t : ℕ)
     → check-from-lts.Need-check-from-requires (check-from-claims t) (check-from-at t) check-from.Post check-from-Inv-loop check-from-μ-loop
 check-from-check-from-requires t c κs =
-    (omega (arith, check-room (check-skips (c .before .before .before .before .before .before .before .before .loop .inv) (c .before .before .before .before .before .before .before .skip-short .ensures)) (sym (c .before .before .before .before .before .before .item-at .ensures) ∙ (c .before .before .before .before .i .given .1)) (sym (c .before .before .meet .ensures) ∙ (c .enum-told8 .given .1)), (c .before .before .before .before .before .before .before .before .before .before .pre .0)), tt)
+    (omega (arith, check-room (check-skips (c .before .before .before .before .before .before .before .before .loop .inv) (c .before .before .before .before .before .before .before .skip-short .ensures .over)) (sym (c .before .before .before .before .before .before .item-at .ensures) ∙ (c .before .before .before .before .i .given .1)) (sym (c .before .before .meet .ensures) ∙ (c .enum-told8 .given .1)), (c .before .before .before .before .before .before .before .before .before .before .pre .0)), tt)
 
 check-from-enum-known-r : (t : ℕ)
     → check-from-lts.Need-enum-known-r (check-from-claims t) (check-from-at t) check-from.Post check-from-Inv-loop check-from-μ-loop
@@ -203,7 +203,7 @@ check-from-enum-known-r t c = search needs
 check-from-returns-6 : (t : ℕ)
     → check-from-lts.Need-returns-6 (check-from-claims t) (check-from-at t) check-from.Post check-from-Inv-loop check-from-μ-loop
 check-from-returns-6 t c =
-    check-ended (check-skips (c .before .before .before .before .before .before .before .before .before .before .before .before .loop .inv) (c .before .before .before .before .before .before .before .before .before .before .before .skip-short .ensures))
+    check-ended (check-skips (c .before .before .before .before .before .before .before .before .before .before .before .before .loop .inv) (c .before .before .before .before .before .before .before .before .before .before .before .skip-short .ensures .over))
     (sym (c .before .before .before .before .before .before .before .before .before .before .item-at .ensures) ∙ (c .before .before .before .before .before .before .before .before .i .given .1))
     (sym (c .before .before .before .before .before .before .meet .ensures) ∙ (c .before .before .before .before .enum-told8 .given .1))
     (c .before .before .before .check-from .ensures) (c .before .r .given .1)
@@ -216,12 +216,12 @@ check-from-loop-less-4 : (t : ℕ)
     → check-from-lts.Need-loop-less-4 (check-from-claims t) (check-from-at t) check-from.Post check-from-Inv-loop check-from-μ-loop
 check-from-loop-less-4 t c =
     omega
-    (arith, (c .before .before .before .before .before .before .before .before .before .before .before .skip-short .ensures .least), next-inside (c .before .before .before .before .before .before .before .before .before .before .before .before .before .before .args .text .now) (c .before .before .before .before .before .before .before .before .before .before .before .skip-short .result) _ (sym (c .before .before .before .before .before .before .before .before .before .before .item-at .ensures) ∙ (c .before .before .before .before .before .before .before .before .i .given .1)), check-place (check-skips (c .before .before .before .before .before .before .before .before .before .before .before .before .loop .inv) (c .before .before .before .before .before .before .before .before .before .before .before .skip-short .ensures)) (sym (c .before .before .before .before .before .before .before .before .before .before .item-at .ensures) ∙ (c .before .before .before .before .before .before .before .before .i .given .1)) (sym (c .before .before .before .before .before .before .meet .ensures) ∙ (c .before .before .before .before .enum-told8 .given .1)) (c .before .before .before .check-from .ensures) (c .before .r2 .given .1))
+    (arith, (c .before .before .before .before .before .before .before .before .before .before .before .skip-short .ensures .over .least), next-inside (c .before .before .before .before .before .before .before .before .before .before .before .before .before .before .args .text .now) (c .before .before .before .before .before .before .before .before .before .before .before .skip-short .result) _ (sym (c .before .before .before .before .before .before .before .before .before .before .item-at .ensures) ∙ (c .before .before .before .before .before .before .before .before .i .given .1)), check-place (check-skips (c .before .before .before .before .before .before .before .before .before .before .before .before .loop .inv) (c .before .before .before .before .before .before .before .before .before .before .before .skip-short .ensures .over)) (sym (c .before .before .before .before .before .before .before .before .before .before .item-at .ensures) ∙ (c .before .before .before .before .before .before .before .before .i .given .1)) (sym (c .before .before .before .before .before .before .meet .ensures) ∙ (c .before .before .before .before .enum-told8 .given .1)) (c .before .before .before .check-from .ensures) (c .before .r2 .given .1))
 
 check-from-loop-again-4 : (t : ℕ)
     → check-from-lts.Need-loop-again-4 (check-from-claims t) (check-from-at t) check-from.Post check-from-Inv-loop check-from-μ-loop
 check-from-loop-again-4 t c =
-    check-closed (check-skips (c .before .before .before .before .before .before .before .before .before .before .before .before .loop .inv) (c .before .before .before .before .before .before .before .before .before .before .before .skip-short .ensures))
+    check-closed (check-skips (c .before .before .before .before .before .before .before .before .before .before .before .before .loop .inv) (c .before .before .before .before .before .before .before .before .before .before .before .skip-short .ensures .over))
     (sym (c .before .before .before .before .before .before .before .before .before .before .item-at .ensures) ∙ (c .before .before .before .before .before .before .before .before .i .given .1))
     (sym (c .before .before .before .before .before .before .meet .ensures) ∙ (c .before .before .before .before .enum-told8 .given .1))
     (c .before .before .before .check-from .ensures) (c .before .r2 .given .1)

@@ -22,7 +22,7 @@ enum-known-short c = search needs
 act-short-requires : tie.Need-act-short-requires
 act-short-requires c κs =
     let a = (c .before .before .before .before .before .before .before .before .args) in
-    let u = subst (ShortAt (a .text .now) (a .p)) (c .before .before .short .given .1) (c .before .before .before .before .read-short .ensures) in
+    let u = subst (ShortAt (a .text .now) (a .p)) (c .before .before .short .given .1) (c .before .before .before .before .read-short .ensures .means) in
     (code-right (a .text .now) (a .p) _ (u .item), (u .suits, ((c .before .before .before .before .before .before .before .before .pre .0), ((c .before .before .before .before .before .before .before .before .pre .1 .0), (c .before .before .before .before .before .before .before .before .pre .1 .1 .1)))))
 
 returns : tie.Need-returns
@@ -33,13 +33,13 @@ returns c =
 same-length : tie.Need-same-length
 same-length c =
     let a = (c .before .before .before .before .before .before .before .before .before .before .before .args) in
-    let u = subst (ShortAt (a .text .now) (a .p)) (c .before .before .before .before .before .short .given .1) (c .before .before .before .before .before .before .before .read-short .ensures) in
+    let u = subst (ShortAt (a .text .now) (a .p)) (c .before .before .before .before .before .short .given .1) (c .before .before .before .before .before .before .before .read-short .ensures .means) in
     ((c .before .before .act-short .ensures) (a .text .now) 0 u) .does .size
 
 returns-2 : tie.Need-returns-2
 returns-2 c =
     let a = (c .before .before .before .before .before .before .before .before .before .before .before .args) in
-    let u = subst (ShortAt (a .text .now) (a .p)) (c .before .before .before .before .before .short .given .1) (c .before .before .before .before .before .before .before .read-short .ensures) in
+    let u = subst (ShortAt (a .text .now) (a .p)) (c .before .before .before .before .before .short .given .1) (c .before .before .before .before .before .before .before .read-short .ensures .means) in
     λ level. strides (levelsAt (a .text .now)) (length (a .text .now)) (viewOf (a .table .now)) (a .hand .first .0) (a .hand .count) level (a .p) (a .next .0) (a .left) (a .at) (a .out .now) ((c .before .before .act-short .ensures) (a .text .now) level u)
 
 pub run-one-spec : {M : Type 1} → statement M

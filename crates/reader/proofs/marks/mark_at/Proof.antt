@@ -5,7 +5,8 @@ use native.Mathlib.Omega.{arith}
 use borrow.Author.Needs.{needs}
 use borrow.Author.Tests.{ne-eqb}
 use Rattle.reader.specs.Marks.{markAfterColon, markAfterAt, markOf}
-use Rattle.reader.proofs.MarkLaws.{byte-inside, no-tilde, mark-by}
+use Rattle.reader.proofs.MarkLaws.{no-tilde, mark-by}
+use Rattle.reader.proofs.ScanLaws.{byte-inside}
 use Rattle.reader.proofs.marks.mark_at.Statement.{statement}
 use Rattle.reader.proofs.marks.mark_at.Tie as tie
 

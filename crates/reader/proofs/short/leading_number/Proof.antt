@@ -1,6 +1,5 @@
 -- `reader::short::leading_number` meets its contract: a number, one that is refused, or none. Assumes nothing.
 use mathlib.Core.Path.{sym, _∙_}
-use Rattle.reader.proofs.ScanLaws.{test-inside, test-true}
 use Rattle.reader.proofs.ShortLaws.{leads-none, leads-bad, leads-number}
 use borrow.Author.Needs.{needs}
 use Rattle.reader.proofs.short.leading_number.Statement.{statement}
@@ -19,13 +18,27 @@ enum-known-r : tie.Need-enum-known-r
 enum-known-r c = search needs
 
 returns : tie.Need-returns
-returns c = leads-bad (c .before .before .before .before .before .before .args .text .now) (c .before .before .before .before .before .before .args .start) (c .before .before .before .before .before .before .pre)
+returns c =
+    let entry = c .before .before .before .before .before .before in
+    let by-digit-at = c .before .before .before .before in
+    let by-if1 = c .before .before .before in
+    let by-read-number = c .before .before in
+    leads-bad (entry .args .text .now) (entry .args .start) (entry .pre) (by-read-number .read-number .result)
+    (sym (by-digit-at .digit-at .ensures) ∙ by-if1 .if1 .taken) (by-read-number .read-number .ensures) (c .enum-told .given .1)
 
 returns-2 : tie.Need-returns-2
-returns-2 c = leads-number (c .before .before .before .before .before .before .before .args .text .now) (c .before .before .before .before .before .before .before .args .start) (c .before .before .before .before .before .before .before .pre) _ _ (c .before .before .before .read-number .result) (c .before .r .given .1) (test-inside (c .before .before .before .before .before .before .before .args .text .now) (c .before .before .before .before .before .before .before .args .start) _ (sym (c .before .before .before .before .before .digit-at .ensures) ∙ c .before .before .before .before .if1 .taken)) (test-true (c .before .before .before .before .before .before .before .args .text .now) (c .before .before .before .before .before .before .before .args .start) _ (sym (c .before .before .before .before .before .digit-at .ensures) ∙ c .before .before .before .before .if1 .taken)) (c .before .before .before .read-number .ensures)
+returns-2 c =
+    let entry = c .before .before .before .before .before .before .before in
+    let by-digit-at = c .before .before .before .before .before in
+    let by-if1 = c .before .before .before .before in
+    let by-read-number = c .before .before .before in
+    leads-number (entry .args .text .now) (entry .args .start) (entry .pre) (by-read-number .read-number .result)
+    (sym (by-digit-at .digit-at .ensures) ∙ by-if1 .if1 .taken) (by-read-number .read-number .ensures) _ _ (c .before .r .given .1)
 
 returns-3 : tie.Need-returns-3
-returns-3 c = leads-none (c .before .before .before .args .text .now) (c .before .before .before .args .start) (c .before .before .before .pre) (sym (c .before .digit-at .ensures) ∙ c .if1 .left)
+returns-3 c =
+    let entry = c .before .before .before in
+    leads-none (entry .args .text .now) (entry .args .start) (entry .pre) (sym (c .before .digit-at .ensures) ∙ c .if1 .left)
 
 pub leading-number-spec : {M : Type 1} → statement M
 leading-number-spec =

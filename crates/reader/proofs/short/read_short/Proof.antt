@@ -1,54 +1,68 @@
 -- `reader::short::read_short` meets its contract: what is read is what the definition reads. Assumes nothing.
-use Rattle.reader.proofs.ShortLaws.{read-one, read-two}
+use mathlib.Core.Path.{sym, _∙_}
+use native.Mathlib.Omega.{arith}
 use borrow.Author.Needs.{needs}
+use Rattle.reader.proofs.ScanLaws.{byte-inside}
+use Rattle.reader.proofs.ShortLaws.{none-read, short-read}
 use Rattle.reader.proofs.short.read_short.Statement.{statement}
 use Rattle.reader.proofs.short.read_short.Tie as tie
 
+byte-at-requires : tie.Need-byte-at-requires
+byte-at-requires c κs = search needs
+
 returns : tie.Need-returns
-returns c = search needs
-
-shared-slice-read-if2 : tie.Need-shared-slice-read-if2
-shared-slice-read-if2 c = search needs
-
-returns-2 : tie.Need-returns-2
-returns-2 c = search needs
+returns c =
+    let entry = c .before .before .before in
+    none-read (entry .args .text .now) (entry .args .p) (λ z. c .if1 .taken (c .before .byte-at .ensures ∙ z))
 
 add-leading-number : tie.Need-add-leading-number
-add-leading-number c = search needs
+add-leading-number c =
+    let entry = c .before .before .before in
+    let h = byte-inside (entry .args .text .now) (entry .args .p)
+    (λ z. omega (arith, z, c .before .byte-at .ensures, c .if1 .left)) in
+    omega (arith, h, entry .good)
 
 leading-number-requires : tie.Need-leading-number-requires
-leading-number-requires c κs = search needs
+leading-number-requires c κs =
+    let entry = c .before .before .before in
+    let h = byte-inside (entry .args .text .now) (entry .args .p)
+    (λ z. omega (arith, z, c .before .byte-at .ensures, c .if1 .left)) in
+    omega (arith, h)
 
 second-character-requires : tie.Need-second-character-requires
 second-character-requires c κs = search needs
 
+after-character-requires : tie.Need-after-character-requires
+after-character-requires c κs = omega (arith, c .before .leading-number .ensures .within, c .before .before .before .before .before .good)
+
 short-of-requires : tie.Need-short-of-requires
-short-of-requires c κs = search needs
+short-of-requires c κs =
+    let entry = c .before .before .before .before .before .before in
+    omega (arith, c .after-character .ensures .1, c .before .before .leading-number .ensures .within, entry .good)
 
-returns-3 : tie.Need-returns-3
-returns-3 c = read-one (c .before .before .before .before .before .before .if1 .left) (c .before .before .before .before .if2 .left) (c .before .before .before .leading-number .ensures) (c .before .before .second-character .ensures) (c .before .if3 .taken) (c .short-of .result) (c .short-of .ensures)
-
-add-short-of : tie.Need-add-short-of
-add-short-of c = search needs
-
-short-of-requires-2 : tie.Need-short-of-requires-2
-short-of-requires-2 c κs = search needs
-
-returns-4 : tie.Need-returns-4
-returns-4 c = read-two (c .before .before .before .before .before .before .before .if1 .left) (c .before .before .before .before .before .if2 .left) (c .before .before .before .before .leading-number .ensures) (c .before .before .before .second-character .ensures) (c .before .before .if3 .left) (c .short-of2 .result) (c .short-of2 .ensures)
+returns-2 : tie.Need-returns-2
+returns-2 c =
+    let entry = c .before .before .before .before .before .before .before in
+    let by-byte-at = c .before .before .before .before .before in
+    let by-if1 = c .before .before .before .before in
+    let by-leading-number = c .before .before .before in
+    let by-second-character = c .before .before in
+    let tilde = sym (by-byte-at .byte-at .ensures) ∙ by-if1 .if1 .left in
+    short-read (entry .args .text .now) (entry .args .p) _ _ (by-second-character .second-character .result)
+    (byte-inside (entry .args .text .now) (entry .args .p) (λ z. omega (arith, z, tilde))) tilde
+    (by-leading-number .leading-number .ensures) (by-second-character .second-character .ensures .0)
+    (by-second-character .second-character .ensures .1) (c .before .after-character .result) (c .before .after-character .ensures .0)
+    (c .short-of .result) (c .short-of .ensures)
 
 pub read-short-spec : {M : Type 1} → statement M
 read-short-spec =
     tie.close
     (tie.spec
+    byte-at-requires
     returns
-    shared-slice-read-if2
-    returns-2
     add-leading-number
     leading-number-requires
     second-character-requires
+    after-character-requires
     short-of-requires
-    returns-3
-    add-short-of
-    short-of-requires-2
-    returns-4)
+    returns-2)

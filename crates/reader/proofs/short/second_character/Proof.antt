@@ -1,8 +1,10 @@
 -- `reader::short::second_character` meets its contract. Assumes nothing.
+use Prim.Native.Nat.{_+_}
 use mathlib.Core.Path.{sym, _∙_}
 use native.Mathlib.Omega.{arith}
-use Rattle.reader.proofs.ShortLaws.{second-none}
 use borrow.Author.Needs.{needs}
+use borrow.Author.Tests.{eq-eqb, ne-eqb}
+use Rattle.reader.proofs.ScanLaws.{byte-inside}
 use Rattle.reader.proofs.short.second_character.Statement.{statement}
 use Rattle.reader.proofs.short.second_character.Tie as tie
 
@@ -10,25 +12,46 @@ byte-at-requires : tie.Need-byte-at-requires
 byte-at-requires c κs = search needs
 
 add-byte-at : tie.Need-add-byte-at
-add-byte-at c = let w = (c .before .byte-at .ensures .is) (λ z. omega (arith, z, c .if1 .taken)) in omega (arith, w .0, c .before .before .before .good)
+add-byte-at c =
+    let entry = c .before .before .before in
+    let h = byte-inside (entry .args .text .now) (entry .args .i)
+    (λ z. omega (arith, z, c .before .byte-at .ensures, c .if1 .taken)) in
+    omega (arith, h, entry .good)
 
 byte-at-requires-2 : tie.Need-byte-at-requires-2
 byte-at-requires-2 c κs = search needs
 
 add-byte-at-2 : tie.Need-add-byte-at-2
-add-byte-at-2 c = let w = (c .before .byte-at2 .ensures .is) (λ z. omega (arith, z, c .if2 .taken)) in omega (arith, w .0, c .before .before .before .before .before .good)
+add-byte-at-2 c =
+    let entry = c .before .before .before .before .before in
+    let h = byte-inside (entry .args .text .now) (entry .args .i + 1)
+    (λ z. omega (arith, z, c .before .byte-at2 .ensures, c .if2 .taken)) in
+    omega (arith, h, entry .good)
 
 byte-at-requires-3 : tie.Need-byte-at-requires-3
 byte-at-requires-3 c κs = search needs
 
+wide-requires : tie.Need-wide-requires
+wide-requires c κs = search needs
+
 returns : tie.Need-returns
-returns c = let u = (c .before .before .before .before .byte-at .ensures .is) (λ z. omega (arith, z, c .before .before .before .if1 .taken)) in let v = (c .before .before .byte-at2 .ensures .is) (λ z. omega (arith, z, c .before .if2 .taken)) in record { inside = λ z. ((c .byte-at3 .ensures .is) z) .0; comma = λ z. sym (u .1) ∙ c .before .before .before .if1 .taken; mark = λ z. sym (v .1) ∙ c .before .if2 .taken; is = λ z. ((c .byte-at3 .ensures .is) z) .1; few = c .byte-at3 .ensures .few }
+returns c =
+    let by-byte-at = c .before .before .before .before .before in
+    let by-if1 = c .before .before .before .before in
+    let by-byte-at2 = c .before .before .before in
+    let comma = sym (by-byte-at .byte-at .ensures) ∙ by-if1 .if1 .taken in
+    let quote = sym (by-byte-at2 .byte-at2 .ensures) ∙ c .before .before .if2 .taken in
+    (rw (eq-eqb _ 44 comma, eq-eqb _ 39 quote) (c .wide .ensures .0 ∙ c .before .byte-at3 .ensures), omega (arith, c .wide .ensures .1))
 
 returns-2 : tie.Need-returns-2
-returns-2 c = second-none _ _
+returns-2 c =
+    let by-byte-at = c .before .before .before in
+    let by-if1 = c .before .before in
+    let comma = sym (by-byte-at .byte-at .ensures) ∙ by-if1 .if1 .taken in
+    (rw (eq-eqb _ 44 comma, ne-eqb _ 39 (λ z. c .if2 .left (c .before .byte-at2 .ensures ∙ z))), omega arith)
 
 returns-3 : tie.Need-returns-3
-returns-3 c = second-none _ _
+returns-3 c = (rw (ne-eqb _ 44 (λ z. c .if1 .left (c .before .byte-at .ensures ∙ z))), omega arith)
 
 pub second-character-spec : {M : Type 1} → statement M
 second-character-spec =
@@ -39,6 +62,7 @@ second-character-spec =
     byte-at-requires-2
     add-byte-at-2
     byte-at-requires-3
+    wide-requires
     returns
     returns-2
     returns-3)

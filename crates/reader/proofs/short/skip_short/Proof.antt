@@ -1,12 +1,11 @@
 -- `reader::short::skip_short` meets its contract. The loop's invariant: what is found from here on is what is found from
 -- the start. Assumes nothing.
 use borrow.Author.Needs.{needs}
-use mathlib.Core.Path.{subst}
 use native.Mathlib.Omega.{arith}
 use lib.ListN.{length}
 use Prim.Native.Nat.{_-_}
-use Rattle.reader.specs.Shorts.{ShortAt, Skips}
-use Rattle.reader.proofs.ShortLaws.{skip-none, skip-literal, skip-on, skip-directive}
+use Rattle.reader.specs.Shorts.{Skips}
+use Rattle.reader.proofs.PassLaws.{skip-none, skip-literal, skip-after, skip-stops, skip-end}
 use Rattle.reader.proofs.short.skip_short.Statement.{statement}
 use Rattle.reader.proofs.short.skip_short.Tie as tie
 
@@ -22,23 +21,24 @@ loop-holds c = skip-none (c .before .args .text .now) (c .before .args .start)
 shared-slice-read-if1 : tie.Need-shared-slice-read-if1 Inv-loop μ-loop
 shared-slice-read-if1 c = search needs
 
-read-short-requires : tie.Need-read-short-requires Inv-loop μ-loop
-read-short-requires c κs = search needs
-
-enum-told : tie.Need-enum-told Inv-loop μ-loop
-enum-told c = search needs
+after-short-requires : tie.Need-after-short-requires Inv-loop μ-loop
+after-short-requires c κs = (c .before .before .loop-test .taken, c .if1 .taken)
 
 returns : tie.Need-returns Inv-loop μ-loop
-returns c = c .before .before .before .before .before .before .loop .inv
-
-enum-known-s : tie.Need-enum-known-s Inv-loop μ-loop
-enum-known-s c = search needs
+returns c =
+    let head = c .before .before .before .before .before in
+    skip-stops (head .loop .inv) (c .before .after-short .ensures) (c .before .before .if1 .taken) (c .if2 .taken)
 
 loop-less : tie.Need-loop-less Inv-loop μ-loop
-loop-less c = let u = subst (ShortAt (c .before .before .before .before .before .before .before .before .before .args .text .now) (c .before .before .before .before .before .before .before .loop .p)) (c .before .s .given .1) (c .before .before .before .read-short .ensures) in omega (arith, (skip-on (c .before .before .before .before .before .before .before .loop .inv) u) .0, (skip-on (c .before .before .before .before .before .before .before .loop .inv) u) .1)
+loop-less c =
+    let head = c .before .before .before .before .before in
+    let after = skip-after (head .loop .inv) (c .before .after-short .ensures) (c .if2 .left) in
+    omega (arith, after .1 .above, after .1 .most)
 
 loop-again : tie.Need-loop-again Inv-loop μ-loop
-loop-again c = let u = subst (ShortAt (c .before .before .before .before .before .before .before .before .before .args .text .now) (c .before .before .before .before .before .before .before .loop .p)) (c .before .s .given .1) (c .before .before .before .read-short .ensures) in skip-directive (c .before .before .before .before .before .before .before .loop .inv) u
+loop-again c =
+    let head = c .before .before .before .before .before in
+    skip-after (head .loop .inv) (c .before .after-short .ensures) (c .if2 .left) .0
 
 add-p : tie.Need-add-p Inv-loop μ-loop
 add-p c = search needs
@@ -47,10 +47,12 @@ loop-less-2 : tie.Need-loop-less-2 Inv-loop μ-loop
 loop-less-2 c = search needs
 
 loop-again-2 : tie.Need-loop-again-2 Inv-loop μ-loop
-loop-again-2 c = skip-literal (c .before .before .before .loop .inv) (c .before .before .loop-test .taken) (c .if1 .left)
+loop-again-2 c =
+    let head = c .before .before .before in
+    skip-literal (head .loop .inv) (c .before .before .loop-test .taken) (c .if1 .left)
 
 returns-2 : tie.Need-returns-2 Inv-loop μ-loop
-returns-2 c = c .before .loop .inv
+returns-2 c = skip-end (c .before .loop .inv) (c .loop-test .left)
 
 pub skip-short-spec : {M : Type 1} → statement M
 skip-short-spec =
@@ -60,10 +62,8 @@ skip-short-spec =
     μ-loop
     loop-holds
     shared-slice-read-if1
-    read-short-requires
-    enum-told
+    after-short-requires
     returns
-    enum-known-s
     loop-less
     loop-again
     add-p
