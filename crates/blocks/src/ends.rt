@@ -1,14 +1,8 @@
-// Where sequences and blocks end, and which codes open a block.
-use checking::text::ClauseEnd;
-use checking::text::after_block;
-use checking::text::next_clause;
+// Which items end a sequence, and which codes open a block.
 use rules::Bracket;
 use rules::Code;
 use rules::Item;
 ghost use mathlib.Core.Path.{_≡_};
-ghost use Prim.Native.Nat.{_≤_};
-ghost use lib.ListN.{length};
-ghost use Rattle.checking.specs.Ends.{AfterBlock};
 ghost use Rattle.blocks.specs.Parts.{endsSequence, endsAt, opensBlock, iterates};
 
 // Whether a code ends the sequence in which it stands.
@@ -38,22 +32,6 @@ pub fn ends_here(item: Item) -> bool
         }
         Item::BadNumber => true,
         Item::Unfinished => true,
-    }
-}
-
-// From a place inside a block where one of its sequences stands or ended, the place after the block.
-pub fn close_from(text: &[u8], place: usize) -> usize
-    requires { ⌜ place ≤ length (now text) ⌝ }
-    ensures { λ r. ⌜ AfterBlock (now (text .entry)) place r ⌝ }
-{
-    let end = next_clause(text, place);
-    match end {
-        ClauseEnd::Last { at: _, next } => next,
-        ClauseEnd::Another {
-            at: _,
-            colon: _,
-            next,
-        } => after_block(text, next),
     }
 }
 

@@ -28,12 +28,9 @@ use Rattle.acting.specs.Ran.{refusedRan, hand}
 use Rattle.acting.proofs.ActLaws.{performed-as, acts-writes, settings-well, write-anywhere}
 use Rattle.acting.proofs.Sources.{worked-in}
 use Rattle.running.specs.Runs.{Steps}
+use Rattle.engine.specs.Running.{shortSettings}
 use Rattle.engine.proofs.ItemLaws.{alone-none, alone-acts}
 use Rattle.running.proofs.Places.{writes-at}
-
--- a number x and a character y as settings
-abbrev pub shortSettings : Setting → Setting → Settings
-shortSettings x y = record { first = x; second = y; third = Absent; fourth = Absent }
 
 in-number : (x : Setting) → NumberIn x → InPlace (number 0 4096) x
 in-number Absent h = tt

@@ -6,7 +6,8 @@ use mathlib.Core.List.{List}
 use lib.Dec.{leb}
 use lib.ListN.{length}
 use Rattle.rules.specs.Directive.{FormRight}
-use Rattle.rules.specs.Table.{View}
+use Rattle.rules.specs.Run.{writeFrom}
+use Rattle.rules.specs.Table.{View, viewOf}
 use Rattle.rules.specs.Text.{levelsAt}
 use Rattle.rules.specs.declared.Code.{Code}
 use Rattle.rules.specs.declared.Code.the-variants.{Writes, Jump, Escape, Opens, Separator, Closes, Unknown}
@@ -14,6 +15,15 @@ use Rattle.acting.specs.declared.state.Ran.{Ran}
 use Rattle.acting.specs.declared.state.Spot.{Spot}
 use Rattle.acting.specs.declared.state.Stop.{Stop}
 use Rattle.acting.specs.declared.state.Stop.the-variants.{Ended, Left, Refused}
+use Rattle.rules.specs.Working.{sourceOf}
+use Rattle.rules.specs.declared.Directive.{Directive}
+use Rattle.rules.specs.declared.Setting.{Setting}
+use Rattle.rules.specs.declared.Setting.the-variants.{Absent}
+use Rattle.rules.specs.declared.Settings.{Settings}
+use Rattle.reader.specs.Shorts.{settingOf, shortForm}
+use Rattle.working.specs.Settling.{handAt}
+use Rattle.working.specs.declared.Hand.{Hand}
+use Rattle.acting.specs.Acting.{Performed}
 use Rattle.acting.specs.Ran.{endedRan, hand}
 use Rattle.running.specs.Runs.{Strides}
 
@@ -48,3 +58,15 @@ abbrev pub isEnded : Stop → Bool
 isEnded Ended = true
 isEnded Left = false
 isEnded (Refused code p) = false
+
+-- a number x and a character y as settings
+abbrev pub shortSettings : Setting → Setting → Settings
+shortSettings x y = record { first = x; second = y; third = Absent; fourth = Absent }
+
+-- what a short directive does once it is begun, where i is the next argument
+abbrev pub WritesShort : List ℕ → Hand → ℕ → ℕ → ℕ → ℕ → ℕ → Spot → List ℕ → List ℕ → Ran → Type 0
+WritesShort t hand i kind detail number byte spot b e r =
+    (d : Directive) → d .colon ≡ false → d .at ≡ false
+    → Performed (λ on. writeFrom (viewOf t) (spot .position) (spot .left) (shortForm kind detail) d (handAt hand 0)
+    (shortSettings (settingOf 4097 number) (settingOf 256 byte)) i on
+    (sourceOf (shortForm kind detail) false (shortSettings (settingOf 4097 number) (settingOf 256 byte)))) (hand .count) spot b e r

@@ -10,7 +10,6 @@ use acting::state::Stop;
 use acting::state::refuse;
 use blocks::clauses::Chosen;
 use blocks::clauses::choose_clause;
-use blocks::ends::close_from;
 use blocks::ends::ends_here;
 use blocks::ends::is_iteration;
 use blocks::ends::opens_block;
@@ -280,7 +279,7 @@ fn run_clause(
             next: after,
             left: r.left,
             at: r.at,
-            place: close_from(text, r.place),
+            place: after_block(text, r.place),
         },
         Stop::Left => r,
         Stop::Refused {
@@ -403,7 +402,7 @@ fn run_passes(
                 next,
                 left,
                 at,
-                place: close_from(text, known),
+                place: after_block(text, known),
             };
         }
         if left == 0 {
@@ -435,7 +434,7 @@ fn run_passes(
                     next: after,
                     left: r.left,
                     at: r.at,
-                    place: close_from(text, known),
+                    place: after_block(text, known),
                 };
             }
             Stop::Refused {

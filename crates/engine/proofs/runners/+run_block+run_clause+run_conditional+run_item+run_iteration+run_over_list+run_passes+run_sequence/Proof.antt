@@ -57,7 +57,7 @@ use Rattle.engine.proofs.runners.run_sequence.Kinds as run-sequence-kin
 use Rattle.engine.proofs.runners.+run_block+run_clause+run_conditional+run_item+run_iteration+run_over_list+run_passes+run_sequence.Lts-run_sequence as run-sequence-lts
 use Rattle.blocks.proofs.clauses.choose_clause.Reads as choose-clause-reads
 use Rattle.engine.proofs.items.act.Reads as act-reads
-use Rattle.blocks.proofs.ends.close_from.Reads as close-from-reads
+use Rattle.checking.proofs.text.after_block.Reads as after-block-reads
 use Rattle.blocks.proofs.ends.ends_here.Reads as ends-here-reads
 use Rattle.blocks.proofs.ends.is_iteration.Reads as is-iteration-reads
 use Rattle.blocks.proofs.passes.is_over.Reads as is-over-reads
@@ -242,7 +242,7 @@ run-block-returns-4 t c =
 
 -- what the callees of run_clause ask and ensure, below the measure t
 abbrev run-clause-claims : ℕ → run-clause-lts.Claims
-run-clause-claims t = (run-sequence-below t, run-sequence.Post, close-from-reads.Asked, close-from-reads.Learnt)
+run-clause-claims t = (run-sequence-below t, run-sequence.Post, after-block-reads.Asked, after-block-reads.Learnt)
 
 run-clause-run-sequence-requires : (t : ℕ) → run-clause-lts.Need-run-sequence-requires (run-clause-claims t) (run-clause-at t) run-clause.Post
 run-clause-run-sequence-requires t c κs = (omega (arith, (c .before .before .before .before .pre .0)), ((c .before .before .before .before .pre .1 .0), ((c .before .before .before .before .pre .1 .1 .0), ((c .before .before .before .before .pre .1 .1 .1 .0), (c .before .before .before .before .pre .1 .1 .1 .1)))))
@@ -250,8 +250,8 @@ run-clause-run-sequence-requires t c κs = (omega (arith, (c .before .before .be
 run-clause-enum-told : (t : ℕ) → run-clause-lts.Need-enum-told (run-clause-claims t) (run-clause-at t) run-clause.Post
 run-clause-enum-told t c = search needs
 
-run-clause-close-from-requires : (t : ℕ) → run-clause-lts.Need-close-from-requires (run-clause-claims t) (run-clause-at t) run-clause.Post
-run-clause-close-from-requires t c κs = ((c .before .before .before .before .before .run-sequence .ensures .ends) ((c .enum-told .given .1))) .most
+run-clause-after-block-requires : (t : ℕ) → run-clause-lts.Need-after-block-requires (run-clause-claims t) (run-clause-at t) run-clause.Post
+run-clause-after-block-requires t c κs = ((c .before .before .before .before .before .run-sequence .ensures .ends) ((c .enum-told .given .1))) .most
 
 run-clause-enum-told-2 : (t : ℕ) → run-clause-lts.Need-enum-told-2 (run-clause-claims t) (run-clause-at t) run-clause.Post
 run-clause-enum-told-2 t c = search needs
@@ -267,7 +267,7 @@ run-clause-returns t c =
     let a = (c .before .before .before .before .before .before .before .before .before .before .before .args) in
     let u = (c .before .before .before .before .before .before .run-sequence .ensures) in
     let w = u .ends (c .before .enum-told .given .1) in
-    record { is = λ q f h o l. blocks-clause (levelsAt (a .text .now)) (length (a .text .now)) (viewOf (a .table .now)) (a .hand .first .0) (a .hand .count) (a .level) q f (a .spot .left) (a .spot .at) (a .out .now) (a .z) (a .next .0) h u (c .before .enum-told .given .1) _ (closes-after (a .text .now) q _ _ (w .around ∙ o) (omega (arith, w .least)) (c .close-from .ensures)) }
+    record { is = λ q f h o l. blocks-clause (levelsAt (a .text .now)) (length (a .text .now)) (viewOf (a .table .now)) (a .hand .first .0) (a .hand .count) (a .level) q f (a .spot .left) (a .spot .at) (a .out .now) (a .z) (a .next .0) h u (c .before .enum-told .given .1) _ (closes-after (a .text .now) q _ _ (w .around ∙ o) (omega (arith, w .least)) (c .after-block .ensures)) }
 
 run-clause-same-length-2 : (t : ℕ) → run-clause-lts.Need-same-length-2 (run-clause-claims t) (run-clause-at t) run-clause.Post
 run-clause-same-length-2 t c = (c .before .before .before .before .before .run-sequence .ensures .does .size)
@@ -544,7 +544,7 @@ run-passes-μ-loop text table level spot q hand out₀ passes₀ next₀ left₀
 
 -- what the callees of run_passes ask and ensure, below the measure t
 abbrev run-passes-claims : ℕ → run-passes-lts.Claims
-run-passes-claims t = (is-over-reads.Asked, is-over-reads.Learnt, close-from-reads.Asked, close-from-reads.Learnt, refuse-reads.Asked, refuse-reads.Learnt, run-sequence-below t, run-sequence.Post, one-less-reads.Asked, one-less-reads.Learnt)
+run-passes-claims t = (is-over-reads.Asked, is-over-reads.Learnt, after-block-reads.Asked, after-block-reads.Learnt, refuse-reads.Asked, refuse-reads.Learnt, run-sequence-below t, run-sequence.Post, one-less-reads.Asked, one-less-reads.Learnt)
 
 run-passes-loop-holds : (t : ℕ) → run-passes-lts.Need-loop-holds (run-passes-claims t) (run-passes-at t) run-passes.Post run-passes-Inv-loop run-passes-μ-loop
 run-passes-loop-holds t c = (record { ends = λ e r k. k; size = refl; fits = (c .before .before .before .pre .1 .1 .1 .1); falls = omega arith; inside = (c .before .before .before .pre .1 .1 .0) }, refl, omega arith, (c .before .before .before .pre .1 .1 .1 .0))
@@ -552,8 +552,8 @@ run-passes-loop-holds t c = (record { ends = λ e r k. k; size = refl; fits = (c
 run-passes-is-over-requires : (t : ℕ) → run-passes-lts.Need-is-over-requires (run-passes-claims t) (run-passes-at t) run-passes.Post run-passes-Inv-loop run-passes-μ-loop
 run-passes-is-over-requires t c κs = search needs
 
-run-passes-close-from-requires : (t : ℕ) → run-passes-lts.Need-close-from-requires (run-passes-claims t) (run-passes-at t) run-passes.Post run-passes-Inv-loop run-passes-μ-loop
-run-passes-close-from-requires t c κs = (c .before .before .loop .inv .3)
+run-passes-after-block-requires : (t : ℕ) → run-passes-lts.Need-after-block-requires (run-passes-claims t) (run-passes-at t) run-passes.Post run-passes-Inv-loop run-passes-μ-loop
+run-passes-after-block-requires t c κs = (c .before .before .loop .inv .3)
 
 run-passes-same-length : (t : ℕ) → run-passes-lts.Need-same-length (run-passes-claims t) (run-passes-at t) run-passes.Post run-passes-Inv-loop run-passes-μ-loop
 run-passes-same-length t c = (c .before .before .before .loop .inv .0 .size)
@@ -562,7 +562,7 @@ run-passes-returns : (t : ℕ) → run-passes-lts.Need-returns (run-passes-claim
 run-passes-returns t c =
     let a = (c .before .before .before .before .before .before .before .args) in
     let l = (c .before .before .before .loop) in
-    l .inv .0 .ends _ _ (passes-over (levelsAt (a .text .now)) (length (a .text .now)) (viewOf (a .table .now)) (a .hand .first .0) (a .hand .count) (a .level) (a .spot .position) (a .q) (l .next .0) (l .passes) (l .left) (l .at) (l .out) (sym (c .before .before .is-over .ensures) ∙ (c .before .if1 .taken)) _ (closes-after (a .text .now) (a .q) (l .known) _ (l .inv .1) (l .inv .2) (c .close-from .ensures)) (l .inv .0 .fits) (l .inv .0 .inside))
+    l .inv .0 .ends _ _ (passes-over (levelsAt (a .text .now)) (length (a .text .now)) (viewOf (a .table .now)) (a .hand .first .0) (a .hand .count) (a .level) (a .spot .position) (a .q) (l .next .0) (l .passes) (l .left) (l .at) (l .out) (sym (c .before .before .is-over .ensures) ∙ (c .before .if1 .taken)) _ (closes-after (a .text .now) (a .q) (l .known) _ (l .inv .1) (l .inv .2) (c .after-block .ensures)) (l .inv .0 .fits) (l .inv .0 .inside))
 
 run-passes-refuse-requires : (t : ℕ) → run-passes-lts.Need-refuse-requires (run-passes-claims t) (run-passes-at t) run-passes.Post run-passes-Inv-loop run-passes-μ-loop
 run-passes-refuse-requires t c κs = search needs
@@ -613,8 +613,8 @@ run-passes-loop-again t c =
 run-passes-enum-told-2 : (t : ℕ) → run-passes-lts.Need-enum-told-2 (run-passes-claims t) (run-passes-at t) run-passes.Post run-passes-Inv-loop run-passes-μ-loop
 run-passes-enum-told-2 t c = search needs
 
-run-passes-close-from-requires-2 : (t : ℕ) → run-passes-lts.Need-close-from-requires-2 (run-passes-claims t) (run-passes-at t) run-passes.Post run-passes-Inv-loop run-passes-μ-loop
-run-passes-close-from-requires-2 t c κs = (c .before .before .before .before .before .before .before .before .before .before .loop .inv .3)
+run-passes-after-block-requires-2 : (t : ℕ) → run-passes-lts.Need-after-block-requires-2 (run-passes-claims t) (run-passes-at t) run-passes.Post run-passes-Inv-loop run-passes-μ-loop
+run-passes-after-block-requires-2 t c κs = (c .before .before .before .before .before .before .before .before .before .before .loop .inv .3)
 
 run-passes-same-length-3 : (t : ℕ) → run-passes-lts.Need-same-length-3 (run-passes-claims t) (run-passes-at t) run-passes.Post run-passes-Inv-loop run-passes-μ-loop
 run-passes-same-length-3 t c = let u = (c .before .before .before .before .before .before .run-sequence .ensures) in u .does .size ∙ (c .before .before .before .before .before .before .before .before .before .before .before .loop .inv .0 .size)
@@ -623,7 +623,7 @@ run-passes-returns-3 : (t : ℕ) → run-passes-lts.Need-returns-3 (run-passes-c
 run-passes-returns-3 t c =
     let a = (c .before .before .before .before .before .before .before .before .before .before .before .before .before .before .before .args) in
     let l = (c .before .before .before .before .before .before .before .before .before .before .before .loop) in
-    l .inv .0 .ends _ _ (passes-left (levelsAt (a .text .now)) (length (a .text .now)) (viewOf (a .table .now)) (a .hand .first .0) (a .hand .count) (a .level) (a .spot .position) (a .q) (l .next .0) (l .passes) (l .left) (l .at) (l .out) (sym (c .before .before .before .before .before .before .before .before .before .before .is-over .ensures) ∙ (c .before .before .before .before .before .before .before .before .before .if1 .left)) (c .before .before .before .before .before .before .before .before .if2 .left) (c .before .before .before .before .before .before .run-sequence .ensures) (c .before .enum-told2 .given .1) _ (closes-after (a .text .now) (a .q) (l .known) _ (l .inv .1) (l .inv .2) (c .close-from2 .ensures)))
+    l .inv .0 .ends _ _ (passes-left (levelsAt (a .text .now)) (length (a .text .now)) (viewOf (a .table .now)) (a .hand .first .0) (a .hand .count) (a .level) (a .spot .position) (a .q) (l .next .0) (l .passes) (l .left) (l .at) (l .out) (sym (c .before .before .before .before .before .before .before .before .before .before .is-over .ensures) ∙ (c .before .before .before .before .before .before .before .before .before .if1 .left)) (c .before .before .before .before .before .before .before .before .if2 .left) (c .before .before .before .before .before .before .run-sequence .ensures) (c .before .enum-told2 .given .1) _ (closes-after (a .text .now) (a .q) (l .known) _ (l .inv .1) (l .inv .2) (c .after-block2 .ensures)))
 
 run-passes-enum-told-3 : (t : ℕ) → run-passes-lts.Need-enum-told-3 (run-passes-claims t) (run-passes-at t) run-passes.Post run-passes-Inv-loop run-passes-μ-loop
 run-passes-enum-told-3 t c = search needs
@@ -845,14 +845,14 @@ pub +run-block+run-clause+run-conditional+run-item+run-iteration+run-over-list+r
     (λ t. run-clause-lts.spec (
       run-sequence-below t,
       run-sequence.Post,
-      close-from-reads.Asked,
-      close-from-reads.Learnt,
+      after-block-reads.Asked,
+      after-block-reads.Learnt,
     )
     (run-clause-at t)
     run-clause.Post
     (run-clause-run-sequence-requires t)
     (run-clause-enum-told t)
-    (run-clause-close-from-requires t)
+    (run-clause-after-block-requires t)
     (run-clause-enum-told-2 t)
     (run-clause-enum-told-3 t)
     (run-clause-same-length t)
@@ -979,8 +979,8 @@ pub +run-block+run-clause+run-conditional+run-item+run-iteration+run-over-list+r
     (λ t. run-passes-lts.spec (
       is-over-reads.Asked,
       is-over-reads.Learnt,
-      close-from-reads.Asked,
-      close-from-reads.Learnt,
+      after-block-reads.Asked,
+      after-block-reads.Learnt,
       refuse-reads.Asked,
       refuse-reads.Learnt,
       run-sequence-below t,
@@ -994,7 +994,7 @@ pub +run-block+run-clause+run-conditional+run-item+run-iteration+run-over-list+r
     run-passes-μ-loop
     (run-passes-loop-holds t)
     (run-passes-is-over-requires t)
-    (run-passes-close-from-requires t)
+    (run-passes-after-block-requires t)
     (run-passes-same-length t)
     (run-passes-returns t)
     (run-passes-refuse-requires t)
@@ -1007,7 +1007,7 @@ pub +run-block+run-clause+run-conditional+run-item+run-iteration+run-over-list+r
     (run-passes-loop-less t)
     (run-passes-loop-again t)
     (run-passes-enum-told-2 t)
-    (run-passes-close-from-requires-2 t)
+    (run-passes-after-block-requires-2 t)
     (run-passes-same-length-3 t)
     (run-passes-returns-3 t)
     (run-passes-enum-told-3 t)

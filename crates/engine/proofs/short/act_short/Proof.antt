@@ -1,41 +1,52 @@
--- A short directive acts as 01 has it. Assumes nothing.
-use mathlib.Core.Path.{refl}
-use Rattle.rules.specs.Table.{viewOf}
-use Rattle.reader.specs.Shorts.{settingOf, shortForm}
-use Rattle.engine.proofs.ShortRuns.{short-worked, short-none, short-acts}
 use borrow.Author.Needs.{needs}
 use Rattle.engine.proofs.short.act_short.Statement.{statement}
 use Rattle.engine.proofs.short.act_short.Tie as tie
+use Rattle.engine.proofs.short.act_short.Reads as reads
+use Rattle.engine.proofs.short.act_short.Lts as lts
+use Rattle.acting.proofs.direct.put_run.Reads as put-run-reads
+use Rattle.acting.proofs.state.refuse.Reads as refuse-reads
+use Rattle.engine.proofs.short.number_or.Reads as number-or-reads
+use Rattle.engine.proofs.short.write_argument.Reads as write-argument-reads
 
+-- src/short.rt:175:9
 refuse-requires : tie.Need-refuse-requires
 refuse-requires c κs = search needs
 
+-- src/short.rt:175:9
 returns : tie.Need-returns
-returns c = let a = (c .before .before .before .before .args) in
-    λ t level u. short-none t (viewOf (a .table .now)) (a .hand .first .0) (a .hand .count) level (a .p) (a .next .0) (a .left) (a .at) (a .out .now) u _ (c .before .before .before .before .pre .0) (c .before .if1 .taken) (c .refuse .ensures) (c .before .before .before .before .pre .1 .1 .1 .1) (c .before .before .before .before .pre .1 .1 .1 .0)
+returns c = ?
 
-sub-t20 : tie.Need-sub-t20
-sub-t20 c = search needs
+-- src/short.rt:189:15
+sub-t16 : tie.Need-sub-t16
+sub-t16 c = search needs
 
-setting-of-requires : tie.Need-setting-of-requires
-setting-of-requires c κs = search needs
+-- src/short.rt:193:38
+number-or-requires : tie.Need-number-or-requires
+number-or-requires c κs = search needs
 
-setting-of-requires-2 : tie.Need-setting-of-requires-2
-setting-of-requires-2 c κs = search needs
+-- src/short.rt:193:9
+put-run-requires : tie.Need-put-run-requires
+put-run-requires c κs = search needs
 
-short-form-requires : tie.Need-short-form-requires
-short-form-requires c κs = search needs
-
-write-form-requires : tie.Need-write-form-requires
-write-form-requires c κs = let a = (c .before .before .before .before .before .before .before .args) in
-    (short-worked (shortForm (a .kind) (a .detail)) (settingOf 4097 (a .number)) (settingOf 256 (a .byte)) _ _ _ (c .before .before .before .setting-of .ensures) (c .before .before .setting-of2 .ensures) (c .before .short-form .ensures) (c .before .before .before .before .before .before .before .pre .0) (c .before .before .before .before .before .before .before .pre .1 .0), ((c .before .before .before .before .before .before .before .pre .1 .1 .0), ((c .before .before .before .before .before .before .before .pre .1 .1 .1 .1), (c .before .before .before .before .before .before .before .pre .1 .1 .1 .0))))
-
+-- src/short.rt:193:9
 same-length : tie.Need-same-length
 same-length c = search needs
 
+-- src/short.rt:193:9
 returns-2 : tie.Need-returns-2
-returns-2 c = let a = (c .before .before .before .before .before .before .before .before .before .before .args) in
-    λ t level u. short-acts t (viewOf (a .table .now)) (a .hand .first .0) (a .hand .count) level (a .p) (a .next .0) (a .left) (a .at) (a .out .now) u _ _ _ _ (c .before .before .before .before .short-form .ensures) (c .before .before .before .before .before .before .setting-of .ensures) (c .before .before .before .before .before .setting-of2 .ensures) (c .before .before .before .before .before .before .before .if1 .left) refl (c .before .before .write-form .ensures)
+returns-2 c = ?
+
+-- src/short.rt:195:5
+write-argument-requires : tie.Need-write-argument-requires
+write-argument-requires c κs = ?
+
+-- src/short.rt:152:1
+same-length-2 : tie.Need-same-length-2
+same-length-2 c = search needs
+
+-- src/short.rt:152:1
+returns-3 : tie.Need-returns-3
+returns-3 c = ?
 
 pub act-short-spec : {M : Type 1} → statement M
 act-short-spec =
@@ -43,10 +54,11 @@ act-short-spec =
     (tie.spec
     refuse-requires
     returns
-    sub-t20
-    setting-of-requires
-    setting-of-requires-2
-    short-form-requires
-    write-form-requires
+    sub-t16
+    number-or-requires
+    put-run-requires
     same-length
-    returns-2)
+    returns-2
+    write-argument-requires
+    same-length-2
+    returns-3)
