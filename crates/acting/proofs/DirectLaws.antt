@@ -11,7 +11,7 @@ use lib.ListN.{length, take, drop, set, replicate, length-append, length-drop, l
 use lib.Seq.{length-take-le}
 use Rattle.rules.specs.Number.{digitsOf, isNegative, magnitudeOf, signOf, padLeft}
 use Rattle.rules.specs.Table.{Value, boolean, integer, string, Holds, meant, viewOf}
-use Rattle.rules.specs.Piece.{orElse}
+use Rattle.rules.specs.Piece.{orElse, decimalOf}
 use Rattle.rules.specs.Working.{argumentIn, own, sourceOf}
 use Rattle.rules.specs.Run.{Flow, put, write, writeFrom}
 use Rattle.rules.specs.declared.Argument.{Argument}
@@ -43,12 +43,13 @@ module _ (spot : Spot) (next count n : ℕ) (b w : List ℕ) (q : n ≡ length w
   direct-put h u k =
       performed-put spot next count b w r (h ∙ ap (λ (m : ℕ). endedRan next (spot .left) (spot .at + m) (spot .place)) q) u k
 
-  pub direct-full : (i : ℕ) → r ≡ refusedRan 10 (spot .position) i (spot .left) (spot .at) (spot .place) → spot .at ≤ length b → length b - spot .at < n → i ≤ count
-      → Performed (λ on. put (spot .position) (spot .left) w (on next)) count spot b b r
+  pub direct-full : (i : ℕ) → r ≡ refusedRan 10 (spot .position) i (spot .left) (spot .at) (spot .place)
+      → spot .at ≤ length b → length b - spot .at < n → i ≤ count → Performed (λ on. put (spot .position) (spot .left) w (on next)) count spot b b r
   direct-full i h l m k = performed-full spot next count b w r i h l (omega arith) k
 
 -- a byte n times
-pub run-put : (b : List ℕ) (at n byte : ℕ) (y : List ℕ) → at ≤ length b → n ≤ length b - at → y ≡ replicate (length (take (at + n - at) (drop at b))) byte
+pub run-put : (b : List ℕ) (at n byte : ℕ) (y : List ℕ) → at ≤ length b → n ≤ length b - at
+    → y ≡ replicate (length (take (at + n - at) (drop at b))) byte
     → Put b at (replicate n byte) (putMid at (at + n - at) b y)
 run-put b at n byte y l h e = fill-between b at (at + n) n byte y (omega arith) (omega arith) (omega arith) e
 
@@ -89,12 +90,14 @@ sign-missing (pos (suc n)) e = refl
 sign-missing (negsuc n) e = absurd (subst T e tt)
 
 -- the sign, where there is one
-pub sign-put : (z : ℤ) (b : List ℕ) (at to : ℕ) {e : List ℕ} → to ≡ at + length (signOf false z) → to ≤ length b → at < to → e ≡ set b at 45 → Put b at (signOf false z) e
+pub sign-put : (z : ℤ) (b : List ℕ) (at to : ℕ) {e : List ℕ}
+    → to ≡ at + length (signOf false z) → to ≤ length b → at < to → e ≡ set b at 45 → Put b at (signOf false z) e
 sign-put (pos zero) b at to q l h x = absurd (omega arith)
 sign-put (pos (suc n)) b at to q l h x = absurd (omega arith)
 sign-put (negsuc n) b at to q l h x = rw x (put-byte b at 45 (omega arith))
 
-pub sign-none : (z : ℤ) (b : List ℕ) (at to : ℕ) {e : List ℕ} → to ≡ at + length (signOf false z) → to ≤ length b → to ≤ at → e ≡ b → Put b at (signOf false z) e
+pub sign-none : (z : ℤ) (b : List ℕ) (at to : ℕ) {e : List ℕ}
+    → to ≡ at + length (signOf false z) → to ≤ length b → to ≤ at → e ≡ b → Put b at (signOf false z) e
 sign-none (pos zero) b at to q l h x = rw x (put-none b at (omega arith))
 sign-none (pos (suc n)) b at to q l h x = rw x (put-none b at (omega arith))
 sign-none (negsuc n) b at to q l h x = absurd (omega arith)
@@ -105,30 +108,33 @@ pub record Counted (width : ℕ) (z : ℤ) (count sign n : ℕ) : Type 0 where
   pub signs : sign ≡ length (signOf false z)
   pub all : n ≡ sign + count + (width - (sign + count))
 
-pub counted : {width : ℕ} {z : ℤ} {m count sign n : ℕ} → m ≡ magnitudeOf z → count ≡ length (digitsOf 10 m) → sign ≡ length (signOf false z) → n ≡ sign + count + (width - (sign + count))
-    → Counted width z count sign n
+pub counted : {width : ℕ} {z : ℤ} {m count sign n : ℕ}
+    → m ≡ magnitudeOf z → count ≡ length (digitsOf 10 m) → sign ≡ length (signOf false z)
+    → n ≡ sign + count + (width - (sign + count)) → Counted width z count sign n
 counted e c s q = record { digits = c ∙ ap (λ (k : ℕ). length (digitsOf 10 k)) e; signs = s; all = q }
 
 -- a number to the right of its padding
 module _ (width pad : ℕ) {z : ℤ} {count sign n : ℕ} (q : Counted width z count sign n) where
-  pub decimal-length : n ≡ length (padLeft width pad (signOf false z ++ digitsOf 10 (magnitudeOf z)))
+  pub decimal-length : n ≡ length (padLeft width pad (decimalOf z))
   decimal-length =
       omega (
         arith,
         q .digits,
         q .signs,
         q .all,
-        left-length width pad (signOf false z ++ digitsOf 10 (magnitudeOf z)),
+        left-length width pad (decimalOf z),
         length-append (signOf false z) (digitsOf 10 (magnitudeOf z)),
       )
 
-  decimal-parts : (replicate (width - (sign + count)) pad ++ signOf false z) ++ digitsOf 10 (magnitudeOf z) ≡ padLeft width pad (signOf false z ++ digitsOf 10 (magnitudeOf z))
+  decimal-parts : (replicate (width - (sign + count)) pad ++ signOf false z) ++ digitsOf 10 (magnitudeOf z)
+      ≡ padLeft width pad (decimalOf z)
   unfolding padLeft
   decimal-parts =
       let ds = digitsOf 10 (magnitudeOf z) in
-      let m : width - (sign + count) ≡ width - length (signOf false z ++ ds) = omega (arith, q .digits, q .signs, length-append (signOf false z) ds) in
+      let m : width - (sign + count) ≡ width - length (decimalOf z) =
+      omega (arith, q .digits, q .signs, length-append (signOf false z) ds) in
       append-assoc (replicate (width - (sign + count)) pad) (signOf false z) ds
-      ∙ ap (λ (k : ℕ). replicate k pad ++ (signOf false z ++ ds)) m
+      ∙ ap (λ (k : ℕ). replicate k pad ++ decimalOf z) m
 
   module _ (b : List ℕ) (at : ℕ) (l : at ≤ length b) (h : n ≤ length b - at) where
     pub pad-put : (y : List ℕ) → y ≡ replicate (length (take (at + n - (sign + count) - at) (drop at b))) pad
@@ -141,7 +147,7 @@ module _ (width pad : ℕ) {z : ℤ} {count sign n : ℕ} (q : Counted width z c
     signed-put u v = put-then u (omega (arith, q .all, length-replicate (width - (sign + count)) pad)) v
 
     pub decimal-put : {o : List ℕ} (y : List ℕ) → Put b at (replicate (width - (sign + count)) pad ++ signOf false z) o → y ≡ digitsOf 10 (magnitudeOf z)
-        → Put b at (padLeft width pad (signOf false z ++ digitsOf 10 (magnitudeOf z))) (putMid (at + n - count) (at + n - (at + n - count)) o y)
+        → Put b at (padLeft width pad (decimalOf z)) (putMid (at + n - count) (at + n - (at + n - count)) o y)
     decimal-put {o} y u e =
         let k : at + n - count ≡ at + length (replicate (width - (sign + count)) pad ++ signOf false z) =
         omega (arith, q .signs, q .all, length-append (replicate (width - (sign + count)) pad) (signOf false z), length-replicate (width - (sign + count)) pad) in
@@ -154,12 +160,21 @@ string-held {t} {x = x} q h = subst (Reachable t) q (reachable x h)
 
 -- what is put so is what the definition writes
 module _ (t : List ℕ) (hand : Hand) (s : Settings) (spot : Spot) (i : ℕ) (d : Directive) where
-  pub run-written : (byte n : ℕ) {count : ℕ} {b e : List ℕ} {r : Ran} → n ≡ orElse (s .first) 1 → Performed (λ on. put (spot .position) (spot .left) (replicate n byte) (on i)) count spot b e r
-      → Performed (λ on. writeFrom (viewOf t) (spot .position) (spot .left) (Repeat byte) d (handAt hand 0) s i on (sourceOf (Repeat byte) false s)) count spot b e r
+  -- the text w is put, and then comes an argument; a form is written
+  abbrev pub Puts : List ℕ → ℕ → ℕ → List ℕ → List ℕ → Ran → Type 0
+  Puts w next count b e r = Performed (λ on. put (spot .position) (spot .left) w (on next)) count spot b e r
+
+  abbrev pub FormWritten : Form → ℕ → List ℕ → List ℕ → Ran → Type 0
+  FormWritten f count b e r =
+      Performed (λ on. writeFrom (viewOf t) (spot .position) (spot .left) f d (handAt hand 0) s i on (sourceOf f false s)) count spot b e r
+
+  pub run-written : (byte n : ℕ) {count : ℕ} {b e : List ℕ} {r : Ran}
+      → n ≡ orElse (s .first) 1 → Puts (replicate n byte) i count b e r → FormWritten (Repeat byte) count b e r
   run-written byte n q k =
       performed-as _
       (λ on. write-yes (viewOf t) (spot .position) (spot .left) d (handAt hand 0) (Repeat byte) s on (boolean false) i refl refl refl
-      ∙ ap (λ (w : List ℕ). put (spot .position) (spot .left) w (on i)) (repeat-text (d .colon) s (d .at) byte (boolean false) ∙ ap (λ (m : ℕ). replicate m byte) (sym q)))
+      ∙ ap (λ (w : List ℕ). put (spot .position) (spot .left) w (on i))
+      (repeat-text (d .colon) s (d .at) byte (boolean false) ∙ ap (λ (m : ℕ). replicate m byte) (sym q)))
       k
 
   module _ (x : Argument) (h : i < hand .count) (y : meant t x ≡ argumentIn (viewOf t) (handAt hand 0) i) where
@@ -171,9 +186,10 @@ module _ (t : List ℕ) (hand : Hand) (s : Settings) (spot : Spot) (i : ℕ) (d 
         from-own (viewOf t) (spot .position) (spot .left) d (handAt hand 0) f s on i h
         ∙ ap (λ (z : Value). write (viewOf t) (spot .position) (spot .left) f d s z (i + 1) on) (sym y ∙ ap (meant t) q)
 
-    pub text-written : (start end width : ℕ) {count : ℕ} {b e : List ℕ} {r : Ran} → x ≡ Text start end → StringIn t start end → d .at ≡ false → s .second ≡ Absent → s .third ≡ Absent → s .fourth ≡ Absent → width ≡ orElse (s .first) 0
-        → Performed (λ on. put (spot .position) (spot .left) (part start (end - start) t ++ replicate (width - (end - start)) 32) (on (i + 1))) count spot b e r
-        → Performed (λ on. writeFrom (viewOf t) (spot .position) (spot .left) (Object false) d (handAt hand 0) s i on (sourceOf (Object false) false s)) count spot b e r
+    pub text-written : (start end width : ℕ) {count : ℕ} {b e : List ℕ} {r : Ran} → x ≡ Text start end → StringIn t start end → d .at ≡ false
+        → s .second ≡ Absent → s .third ≡ Absent → s .fourth ≡ Absent → width ≡ orElse (s .first) 0
+        → Puts (part start (end - start) t ++ replicate (width - (end - start)) 32) (i + 1) count b e r
+        → FormWritten (Object false) count b e r
     text-written start end width q l a e₂ e₃ e₄ w k =
         let string-of = part start (end - start) t in
         let n : orElse (s .first) 0 - length string-of ≡ width - (end - start) = omega (arith, string-length l, w) in
@@ -185,9 +201,9 @@ module _ (t : List ℕ) (hand : Hand) (s : Settings) (spot : Spot) (i : ℕ) (d 
         k
 
     -- z′ is the number that the machine reads back from the bits of z
-    pub decimal-written : (z z′ : ℤ) (width pad : ℕ) {count : ℕ} {b e : List ℕ} {r : Ran} → x ≡ Integer z → z′ ≡ z → d .colon ≡ false → d .at ≡ false → width ≡ orElse (s .first) 0 → pad ≡ orElse (s .second) 32
-        → Performed (λ on. put (spot .position) (spot .left) (padLeft width pad (signOf false z′ ++ digitsOf 10 (magnitudeOf z′))) (on (i + 1))) count spot b e r
-        → Performed (λ on. writeFrom (viewOf t) (spot .position) (spot .left) (Numeral 10) d (handAt hand 0) s i on (sourceOf (Numeral 10) false s)) count spot b e r
+    pub decimal-written : (z z′ : ℤ) (width pad : ℕ) {count : ℕ} {b e : List ℕ} {r : Ran} → x ≡ Integer z → z′ ≡ z → d .colon ≡ false → d .at ≡ false
+        → width ≡ orElse (s .first) 0 → pad ≡ orElse (s .second) 32
+        → Puts (padLeft width pad (decimalOf z′)) (i + 1) count b e r → FormWritten (Numeral 10) count b e r
     decimal-written z z′ width pad q v c a w p k =
         performed-as _
         (λ on. own-taken (Numeral 10) on q
