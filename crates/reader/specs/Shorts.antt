@@ -163,7 +163,8 @@ pub record NoSign (t : List ℕ) (i : ℕ) : Type 0 where
   pub taken : (getD t i 0 ≡ 86) ⊎ (getD t i 0 ≡ 118) → ⊥
   pub counted : getD t i 0 ≡ 35 → ⊥
 
--- the number that begins at `first`, or none, ends at next, unless a sign, a character, `v` or `#` follows
+-- the number that begins at `first`, or none, ends at next, unless a sign, a character, `v` or `#` follows; then nothing
+-- short stands there
 pub record Leads (t : List ℕ) (first number next : ℕ) : Type 0 where
   pub same : shortAfter t (leadingAt t first) ≡ shortAfter t (Whole number next)
   pub is : next < length t → NoSign t next → (d : Directive)
