@@ -1,22 +1,28 @@
 -- A short directive does what the definition has it do, with the settings that are read. Assumes nothing.
-use Prim.Native.Nat.{ℕ, _-_, _≤_}
+use Prim.Native.Nat.{ℕ, _-_, _<_, _≤_}
 use mathlib.Core.Path.{_≡_, refl, sym, ap, subst, _∙_}
-use mathlib.Core.Bool.{false}
+use mathlib.Core.Bool.{true, false}
 use mathlib.Core.List.{List}
+use native.Mathlib.Decide.{ℕ-discrete as decEq}
 use native.Mathlib.Omega.{arith}
+use borrow.Author.Tests.{le-ltb, eq-eqb, ne-eqb, eqb-true}
+use lib.Dec.{eqb}
 use lib.ListN.{length}
+use Rattle.rules.specs.Choice.{both}
 use Rattle.rules.specs.Directive.{number, character, formPlaces, inOrder}
 use Rattle.rules.specs.Table.{View}
 use Rattle.rules.specs.Text.{levelsAt}
-use Rattle.rules.specs.Working.{Context, workOut, settle, sourceOf}
-use Rattle.rules.specs.Run.{Flow, onSettled, writeFrom}
+use Rattle.rules.specs.Working.{Context, workOut, settle, Source, own, sourceOf}
+use Rattle.rules.specs.Run.{Flow, refused, onSettled, writeFrom}
 use Rattle.rules.specs.declared.Directive.{Directive}
 use Rattle.rules.specs.declared.Form.{Form}
 use Rattle.rules.specs.declared.Form.the-variants.{Object, Numeral, Glyph, Plural, Repeat, Fold}
 use Rattle.rules.specs.declared.Setting.{Setting}
 use Rattle.rules.specs.declared.Setting.the-variants.{Absent, Is}
 use Rattle.rules.specs.declared.Settings.{Settings}
-use Rattle.reader.specs.Shorts.{shortParameters, shortDirective, NumberIn, CharacterIn, NoneIn, ShortIn, IsShort}
+use Rattle.rules.proofs.RunLaws.{choose-no}
+use Rattle.rules.proofs.Tests.{both-true}
+use Rattle.reader.specs.Shorts.{settingOf, shortForm, shortParameters, shortDirective, NumberIn, CharacterIn, NoneIn, ShortIn, IsShort}
 use Rattle.reader.proofs.ShortLaws.{short-well}
 use Rattle.working.specs.Settling.{InPlace, InRange}
 use Rattle.pieces.specs.Given.{Worked}
@@ -76,23 +82,69 @@ module _ (t : List ℕ) (v : View) (first count level p i left at : ℕ) (b : Li
       → Steps (levelsAt t) (length t) v (hand first count) level p i left at b b r
   short-none r g z q l k = alone-none t v first count level p i left at b r (shortDirective f x y place) (u .item) g z q l k
 
-  -- its piece is that of the form g with the settings a and c, which are those that are read
-  pub short-acts : {b₂ : List ℕ} {r : Ran} (spot : Spot) (g : Form) (a c : Setting) → g ≡ f → a ≡ x → c ≡ y → (left ≡ 0 → ⊥)
-      → spot ≡ record { position = p; place = place; left = left - 1; at = at }
+  -- what it does once it is begun
+  pub short-acts : {b₂ : List ℕ} {r : Ran} (spot : Spot) → (left ≡ 0 → ⊥) → spot ≡ record { position = p; place = place; left = left - 1; at = at }
       → ((d : Directive) → d .colon ≡ false → d .at ≡ false
-      → Performed (λ on. writeFrom v (spot .position) (spot .left) g d (hand first count 0) (shortSettings a c) i on (sourceOf g false (shortSettings a c))) count spot b b₂ r)
+      → Performed (λ on. writeFrom v (spot .position) (spot .left) f d (hand first count 0) (shortSettings x y) i on (sourceOf f false (shortSettings x y))) count spot b b₂ r)
       → Steps (levelsAt t) (length t) v (hand first count) level p i left at b b₂ r
-  short-acts {b₂} {r} spot g a c k q w z o h =
+  short-acts {b₂} {r} spot z o h =
       let d : Directive = shortDirective f x y place in
-      let h₂ : Performed (λ on. writeFrom v (spot .position) (spot .left) f d (hand first count 0) (shortSettings x y) i on (sourceOf f false (shortSettings x y))) count spot b b₂ r =
-      subst (λ (y₂ : Setting). Performed (λ on. writeFrom v (spot .position) (spot .left) f d (hand first count 0) (shortSettings x y₂) i on (sourceOf f false (shortSettings x y₂))) count spot b b₂ r) w
-      (subst (λ (x₂ : Setting). Performed (λ on. writeFrom v (spot .position) (spot .left) f d (hand first count 0) (shortSettings x₂ c) i on (sourceOf f false (shortSettings x₂ c))) count spot b b₂ r) q
-      (subst (λ (g₂ : Form). Performed (λ on. writeFrom v (spot .position) (spot .left) g₂ d (hand first count 0) (shortSettings a c) i on (sourceOf g₂ false (shortSettings a c))) count spot b b₂ r) k
-      (h d refl refl))) in
       alone-acts t v first count level p i left at b r d (u .item) z spot (writes-at t p d (u .item) f refl) o
       (performed-as _
       (λ on. acts-writes v (spot .position) (spot .left) d (hand first count i) on f refl
       ∙ settings-well v (spot .position) (spot .left) d (hand first count i) _ (short-well f x y place (u .suits))
       ∙ settled v (hand first count i) f x y (spot .position) (spot .left) _ (u .suits)
       ∙ write-anywhere v (spot .position) (spot .left) f d first count i (shortSettings x y) i on (sourceOf f false (shortSettings x y)))
-      h₂)
+      (h d refl refl))
+
+-- the form g and the settings a and c are those that are read
+module _ (v : View) (k : Context) (i count : ℕ) (spot : Spot) (d : Directive) (b e : List ℕ) (r : Ran) where
+  abbrev FormWritten : Form → Setting → Setting → Type 0
+  FormWritten f x y = Performed (λ on. writeFrom v (spot .position) (spot .left) f d k (shortSettings x y) i on (sourceOf f false (shortSettings x y))) count spot b e r
+
+  pub writes-as : {f g : Form} {x y a c : Setting} → g ≡ f → a ≡ x → c ≡ y → FormWritten g a c → FormWritten f x y
+  writes-as {f} {g} {x} {y} {a} {c} q w z h =
+      subst (λ (y₂ : Setting). FormWritten f x y₂) z (subst (λ (x₂ : Setting). FormWritten f x₂ c) w (subst (λ (f₂ : Form). FormWritten f₂ a c) q h))
+
+-- the form by its kind
+pub repeat-form : (kind detail : ℕ) → 1 < kind → shortForm kind detail ≡ Repeat detail
+repeat-form kind detail h = rw (ne-eqb kind 0 (λ z. omega (arith, z)), ne-eqb kind 1 (λ z. omega (arith, z)))
+
+pub object-form : (kind detail : ℕ) → both (eqb kind 0) (eqb detail 0) ≡ true → shortForm kind detail ≡ Object false
+object-form kind detail e =
+    let h = both-true (eqb kind 0) (eqb detail 0) e in
+    rw (eqb-true kind 0 (h .0), eqb-true detail 0 (h .1))
+
+pub decimal-form : (kind detail : ℕ) → both (eqb kind 1) (eqb detail 10) ≡ true → shortForm kind detail ≡ Numeral 10
+decimal-form kind detail e =
+    let h = both-true (eqb kind 1) (eqb detail 10) e in
+    rw (eqb-true kind 1 (h .0), eqb-true detail 10 (h .1))
+
+-- a directive of the first two kinds takes the next argument
+pub own-source : (kind detail : ℕ) (s : Settings) → kind ≤ 1 → sourceOf (shortForm kind detail) false s ≡ own
+own-source kind detail s h = elim (decEq kind 0) [
+  | yes z ↦ rw (eq-eqb kind 0 z)
+  | no z ↦ let o : kind ≡ 1 = omega arith in rw (ne-eqb kind 0 z, eq-eqb kind 1 o)
+]
+
+pub own-none : (v : View) (k : Context) (i p m kind detail : ℕ) (s : Settings) (d : Directive) (on : ℕ → Flow) → kind ≤ 1 → k .count ≤ i
+    → writeFrom v p m (shortForm kind detail) d k s i on (sourceOf (shortForm kind detail) false s) ≡ refused 6 p m
+own-none v k i p m kind detail s d on h l =
+    ap (λ (x : Source). writeFrom v p m (shortForm kind detail) d k s i on x) (own-source kind detail s h) ∙ choose-no _ _ (le-ltb i (k .count) l)
+
+-- what suits a form
+none-absent : (y : Setting) → NoneIn y → y ≡ Absent
+none-absent Absent h = refl
+none-absent (Is c) h = absurd h
+
+pub object-alone : (kind detail : ℕ) (x y : Setting) → shortForm kind detail ≡ Object false → ShortIn (shortForm kind detail) x y → y ≡ Absent
+object-alone kind detail x y e s = none-absent y (subst (λ (f : Form). ShortIn f x y) e s .1)
+
+character-few : (byte : ℕ) → CharacterIn (settingOf 256 byte) → byte ≤ 256
+character-few byte h = elim (decEq byte 256) [
+  | yes z ↦ omega arith
+  | no z ↦ let k : byte < 256 = rw (ne-eqb byte 256 z) at h in omega arith
+]
+
+pub pad-few : (kind detail byte : ℕ) (x : Setting) → shortForm kind detail ≡ Numeral 10 → ShortIn (shortForm kind detail) x (settingOf 256 byte) → byte ≤ 256
+pad-few kind detail byte x e s = character-few byte (subst (λ (f : Form). ShortIn f x (settingOf 256 byte)) e s .1)

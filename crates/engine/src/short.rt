@@ -13,7 +13,6 @@ use reader::short::NO_BYTE;
 use reader::short::NO_NUMBER;
 use reader::short::NUMERAL;
 use reader::short::OBJECT;
-use reader::short::REPEAT;
 use reader::short::Short;
 use reader::short::read_short;
 use reader::short::short_form;
@@ -69,7 +68,11 @@ fn pad_or(byte: usize) -> u8
 fn is_both(kind: u8, wanted: u8, detail: u8, exactly: u8) -> bool
     ensures { λ r. ⌜ r ≡ both (eqb kind wanted) (eqb detail exactly) ⌝ }
 {
-    if kind == wanted { detail == exactly } else { false }
+    if kind == wanted {
+        detail == exactly
+    } else {
+        false
+    }
 }
 
 // A short directive that is begun, by way of its settings and its piece.
@@ -118,7 +121,7 @@ fn write_argument(
 ) -> Ran
     requires { ⌜ FormRight (shortForm kind detail) ⌝ }
     requires { ⌜ ShortIn (shortForm kind detail) (settingOf 4097 number) (settingOf 256 byte) ⌝ }
-    requires { ⌜ (kind ≡ 2 → ⊥) × (byte ≤ 256) ⌝ }
+    requires { ⌜ kind ≤ 1 ⌝ }
     requires { ⌜ InHand (now table) hand ⌝ }
     requires { ⌜ i .0 ≤ hand .count ⌝ }
     requires { ⌜ spot .at ≤ length (now out) ⌝ }
@@ -165,7 +168,6 @@ fn act_short(
 ) -> Ran
     requires { ⌜ FormRight (shortForm kind detail) ⌝ }
     requires { ⌜ ShortIn (shortForm kind detail) (settingOf 4097 number) (settingOf 256 byte) ⌝ }
-    requires { ⌜ byte ≤ 256 ⌝ }
     requires { ⌜ InHand (now table) hand ⌝ }
     requires { ⌜ next .0 ≤ hand .count ⌝ }
     requires { ⌜ at ≤ length (now out) ⌝ }
@@ -189,7 +191,7 @@ fn act_short(
         left: left - 1,
         at,
     };
-    if kind == REPEAT {
+    if NUMERAL < kind {
         return put_run(spot, detail, number_or(number, 1), next, out);
     }
     write_argument(spot, kind, detail, number, byte, table, hand, next, out)

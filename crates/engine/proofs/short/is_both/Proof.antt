@@ -1,15 +1,13 @@
+-- `is_both` meets its contract. Assumes nothing.
+use borrow.Author.Tests.{eq-eqb, ne-eqb}
 use Rattle.engine.proofs.short.is_both.Statement.{statement}
 use Rattle.engine.proofs.short.is_both.Tie as tie
-use Rattle.engine.proofs.short.is_both.Reads as reads
-use Rattle.engine.proofs.short.is_both.Lts as lts
 
--- src/short.rt:69:1
 returns : tie.Need-returns
-returns c = ?
+returns c = rw (eq-eqb (c .before .args .kind) (c .before .args .wanted) (c .if1 .taken))
 
--- src/short.rt:69:1
 returns-2 : tie.Need-returns-2
-returns-2 c = ?
+returns-2 c = rw (ne-eqb (c .before .args .kind) (c .before .args .wanted) (c .if1 .left))
 
 pub is-both-spec : {M : Type 1} → statement M
 is-both-spec = tie.close (tie.spec returns returns-2)
