@@ -29,6 +29,8 @@ use Rattle.acting.specs.declared.state.Ran.{Ran}
 use Rattle.acting.specs.declared.state.Stop.{Stop}
 use Rattle.acting.specs.declared.state.Stop.the-variants.{Ended, Left, Refused}
 use Rattle.acting.specs.Ran.{refusedRan, endedRan, hand}
+use Rattle.reader.specs.Marks.{closesAt}
+use Rattle.reader.proofs.MarkLaws.{closes-end}
 use Rattle.running.specs.Runs.{EndsAt, After, restAt, Runs, Steps, Strides, Blocks, Passes, choosing, iterating, overListed}
 use Rattle.blocks.specs.Parts.{endsSequence, endsAt, opensBlock, iterates, isListValue}
 use Rattle.engine.specs.Running.{isEnded, ActsAlone}
@@ -71,6 +73,13 @@ module _ (t : List ℕ) (p : ℕ) where
   sequence-ends v first count level i left at b r x e h q m l k =
       subst (Runs (levelsAt t) (length t) v (hand first count) level p i left at b b) (sym q)
       (runs-end (levelsAt t) (length t) v first count level p i left at b (ends-item x e h) m l k)
+
+  -- the text ends here, or a clause or a block does
+  pub sequence-closes : (v : View) (first count level i left at : ℕ) (b : List ℕ) (r : Ran) → closesAt t p ≡ true → r ≡ endedRan i left at p → p ≤ length t → at ≤ length b → i ≤ count
+      → Runs (levelsAt t) (length t) v (hand first count) level p i left at b b r
+  sequence-closes v first count level i left at b r h q m l k =
+      subst (Runs (levelsAt t) (length t) v (hand first count) level p i left at b b) (sym q)
+      (runs-end (levelsAt t) (length t) v first count level p i left at b (closes-end t p h) m l k)
 
   pub literal-inside : {x : Item} {b : ℕ} → itemAt t p ≡ x → x ≡ Literal b → p < length t
   literal-inside {x} {b} e q = stands t p (Literal b) (e ∙ q)

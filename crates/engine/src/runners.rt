@@ -20,6 +20,7 @@ use blocks::passes::one_less;
 use checking::text::after_block;
 use fitting::places::is_well_written;
 use reader::directive::item_at;
+use reader::marks::closes_at;
 use rules::ArgumentPosition;
 use rules::Directive;
 use rules::Item;
@@ -66,6 +67,10 @@ pub fn run_sequence(
         let s = run_short(text, table, p, hand, next, left, out, at);
         let halt = s.stop;
         if !is_ended(halt) {
+            return s;
+        }
+        // most sequences end at a closer or a ~; without parameters, which is seen without reading an item
+        if closes_at(text, s.place) {
             return s;
         }
         let item = item_at(text, s.place);

@@ -25,7 +25,7 @@ use Rattle.acting.proofs.ActLaws.{settings-ill, argument-there, argument-none}
 use Rattle.running.proofs.Strides.{strides-runs-on, runs-on, runs-left, runs-refused}
 use Rattle.rules.proofs.Bases.{code-right}
 use Rattle.running.proofs.BlockArms.{passes-over, passes-none, passes-on, passes-left, passes-refused, blocks-nothing, blocks-clause, blocks-clause-left, blocks-clause-refused, blocks-same, blocks-list, blocks-as}
-use Rattle.engine.proofs.RunnerLaws.{Onto, is-ended, ended-as, runs-stopped, sequence-ends, literal-inside, no-other, acts-alone, is-iteration, is-conditional, block-deep, block-none, block-iterates, block-chooses, blocks-told, closes-after, over-other, over-none, over-not, over-list, passes-none-told, passes-on-told}
+use Rattle.engine.proofs.RunnerLaws.{Onto, is-ended, ended-as, runs-stopped, sequence-ends, sequence-closes, literal-inside, no-other, acts-alone, is-iteration, is-conditional, block-deep, block-none, block-iterates, block-chooses, blocks-told, closes-after, over-other, over-none, over-not, over-list, passes-none-told, passes-on-told}
 use Rattle.rules.proofs.RunLaws.{choose-yes, choose-no}
 use Rattle.rules.proofs.TextLaws.{next-inside}
 use Prim.Native.Nat.{ℕ, _+_, _-_, _*_, _<_, _≤_}
@@ -70,6 +70,7 @@ use Rattle.engine.proofs.short.run_short.Reads as run-short-reads
 use Rattle.engine.proofs.items.is_ended.Reads as is-ended-reads
 use Rattle.acting.proofs.state.refuse.Reads as refuse-reads
 use Rattle.reader.proofs.directive.item_at.Reads as item-at-reads
+use Rattle.reader.proofs.marks.closes_at.Reads as closes-at-reads
 use Rattle.fitting.proofs.places.is_well_written.Reads as is-well-written-reads
 use Rattle.working.proofs.argument_at.Reads as argument-at-reads
 use Rattle.working.proofs.settle_directive.Reads as settle-directive-reads
@@ -648,7 +649,7 @@ run-sequence-μ-loop text table level start hand most out₀ from p₀ next₀ l
 
 -- what the callees of run_sequence ask and ensure, below the measure t
 abbrev run-sequence-claims : ℕ → run-sequence-lts.Claims
-run-sequence-claims t = (run-short-reads.Asked, run-short-reads.Learnt, is-ended-reads.Asked, is-ended-reads.Learnt, item-at-reads.Asked, item-at-reads.Learnt, ends-here-reads.Asked, ends-here-reads.Learnt, run-item-below t, run-item.Post)
+run-sequence-claims t = (run-short-reads.Asked, run-short-reads.Learnt, is-ended-reads.Asked, is-ended-reads.Learnt, closes-at-reads.Asked, closes-at-reads.Learnt, item-at-reads.Asked, item-at-reads.Learnt, ends-here-reads.Asked, ends-here-reads.Learnt, run-item-below t, run-item.Post)
 
 run-sequence-loop-holds : (t : ℕ) → run-sequence-lts.Need-loop-holds (run-sequence-claims t) (run-sequence-at t) run-sequence.Post run-sequence-Inv-loop run-sequence-μ-loop
 run-sequence-loop-holds t c = (record { ends = λ e r k. k; size = refl; fits = (c .before .before .before .pre .1 .1 .1 .1); falls = omega arith; inside = (c .before .before .before .pre .1 .1 .0) }, (c .before .before .before .pre .1 .1 .1 .0))
@@ -679,71 +680,92 @@ run-sequence-returns t c =
     let w = (c .before .before .before .before .run-short .ensures) (a .level) in
     l .inv .0 .ends _ _ (runs-stopped s n v (a .hand .first .0) (a .hand .count) (a .level) (l .p) (l .next .0) (l .left) (l .at) (l .out) w (sym (c .before .is-ended .ensures) ∙ not-true _ (c .if1 .taken)))
 
+run-sequence-closes-at-requires : (t : ℕ) → run-sequence-lts.Need-closes-at-requires (run-sequence-claims t) (run-sequence-at t) run-sequence.Post run-sequence-Inv-loop run-sequence-μ-loop
+run-sequence-closes-at-requires t c κs = search needs
+
+run-sequence-same-length-2 : (t : ℕ) → run-sequence-lts.Need-same-length-2 (run-sequence-claims t) (run-sequence-at t) run-sequence.Post run-sequence-Inv-loop run-sequence-μ-loop
+run-sequence-same-length-2 t c =
+    let a = (c .before .before .before .before .before .before .before .before .before .before .before .before .args) in
+    let l = (c .before .before .before .before .before .before .before .before .loop) in
+    let w = (c .before .before .before .before .before .before .run-short .ensures) (a .level) in
+    w .does .size ∙ l .inv .0 .size
+
+run-sequence-returns-2 : (t : ℕ) → run-sequence-lts.Need-returns-2 (run-sequence-claims t) (run-sequence-at t) run-sequence.Post run-sequence-Inv-loop run-sequence-μ-loop
+run-sequence-returns-2 t c =
+    let a = (c .before .before .before .before .before .before .before .before .before .before .before .before .args) in
+    let l = (c .before .before .before .before .before .before .before .before .loop) in
+    let s = levelsAt (a .text .now) in
+    let n = length (a .text .now) in
+    let v = viewOf (a .table .now) in
+    let w = (c .before .before .before .before .before .before .run-short .ensures) (a .level) in
+    let halt = is-ended _ (sym (c .before .before .before .is-ended .ensures) ∙ not-false _ (c .before .before .if1 .left)) in
+    l .inv .0 .ends _ _ (strides-runs-on s n v (a .hand .first .0) (a .hand .count) (a .level) (l .p) (l .next .0) (l .left) (l .at) (l .out) w halt (sequence-closes (a .text .now) (c .before .before .before .before .before .before .run-short .result .place) v (a .hand .first .0) (a .hand .count) (a .level) (c .before .before .before .before .before .before .run-short .result .next .0) (c .before .before .before .before .before .before .run-short .result .left) (c .before .before .before .before .before .before .run-short .result .at) _ (c .before .before .before .before .before .before .run-short .result) (sym (c .before .closes-at .ensures) ∙ (c .if2 .taken)) (ended-as _ halt) (w .most halt) (omega (arith, w .does .most, w .does .size)) (w .does .inside)))
+
 run-sequence-item-at-requires : (t : ℕ) → run-sequence-lts.Need-item-at-requires (run-sequence-claims t) (run-sequence-at t) run-sequence.Post run-sequence-Inv-loop run-sequence-μ-loop
 run-sequence-item-at-requires t c κs = search needs
 
 run-sequence-ends-here-requires : (t : ℕ) → run-sequence-lts.Need-ends-here-requires (run-sequence-claims t) (run-sequence-at t) run-sequence.Post run-sequence-Inv-loop run-sequence-μ-loop
 run-sequence-ends-here-requires t c κs = search needs
 
-run-sequence-same-length-2 : (t : ℕ) → run-sequence-lts.Need-same-length-2 (run-sequence-claims t) (run-sequence-at t) run-sequence.Post run-sequence-Inv-loop run-sequence-μ-loop
-run-sequence-same-length-2 t c =
-    let a = (c .before .before .before .before .before .before .before .before .before .before .before .before .before .args) in
-    let l = (c .before .before .before .before .before .before .before .before .before .loop) in
-    let s = levelsAt (a .text .now) in
-    let n = length (a .text .now) in
-    let v = viewOf (a .table .now) in
-    let w = (c .before .before .before .before .before .before .before .run-short .ensures) (a .level) in
-    w .does .size ∙ l .inv .0 .size
-
-run-sequence-returns-2 : (t : ℕ) → run-sequence-lts.Need-returns-2 (run-sequence-claims t) (run-sequence-at t) run-sequence.Post run-sequence-Inv-loop run-sequence-μ-loop
-run-sequence-returns-2 t c =
-    let a = (c .before .before .before .before .before .before .before .before .before .before .before .before .before .args) in
-    let l = (c .before .before .before .before .before .before .before .before .before .loop) in
-    let s = levelsAt (a .text .now) in
-    let n = length (a .text .now) in
-    let v = viewOf (a .table .now) in
-    let w = (c .before .before .before .before .before .before .before .run-short .ensures) (a .level) in
-    let halt = is-ended _ (sym (c .before .before .before .before .is-ended .ensures) ∙ not-false _ (c .before .before .before .if1 .left)) in
-    l .inv .0 .ends _ _ (strides-runs-on s n v (a .hand .first .0) (a .hand .count) (a .level) (l .p) (l .next .0) (l .left) (l .at) (l .out) w halt (sequence-ends (a .text .now) (c .before .before .before .before .before .before .before .run-short .result .place) v (a .hand .first .0) (a .hand .count) (a .level) (c .before .before .before .before .before .before .before .run-short .result .next .0) (c .before .before .before .before .before .before .before .run-short .result .left) (c .before .before .before .before .before .before .before .run-short .result .at) _ (c .before .before .before .before .before .before .before .run-short .result) (c .before .before .item-at .result) (sym (c .before .before .item-at .ensures)) (sym (c .before .ends-here .ensures) ∙ (c .if2 .taken)) (ended-as _ halt) (w .most halt) (omega (arith, w .does .most, w .does .size)) (w .does .inside)))
-
-run-sequence-run-item-requires : (t : ℕ) → run-sequence-lts.Need-run-item-requires (run-sequence-claims t) (run-sequence-at t) run-sequence.Post run-sequence-Inv-loop run-sequence-μ-loop
-run-sequence-run-item-requires t c κs =
+run-sequence-same-length-3 : (t : ℕ) → run-sequence-lts.Need-same-length-3 (run-sequence-claims t) (run-sequence-at t) run-sequence.Post run-sequence-Inv-loop run-sequence-μ-loop
+run-sequence-same-length-3 t c =
     let a = (c .before .before .before .before .before .before .before .before .before .before .before .before .before .before .before .args) in
     let l = (c .before .before .before .before .before .before .before .before .before .before .before .loop) in
     let s = levelsAt (a .text .now) in
     let n = length (a .text .now) in
     let v = viewOf (a .table .now) in
     let w = (c .before .before .before .before .before .before .before .before .before .run-short .ensures) (a .level) in
-    (omega (arith, (c .before .before .before .before .before .before .before .before .before .before .before .before .before .before .before .pre .0)), ((c .before .before .before .before .before .before .before .before .before .before .before .before .before .before .before .pre .1 .0), (w .does .inside, (sym (c .before .before .before .before .item-at .ensures), (sym (c .before .before .before .ends-here .ensures) ∙ (c .before .before .if2 .left), omega (arith, w .does .most, w .does .size))))))
+    w .does .size ∙ l .inv .0 .size
+
+run-sequence-returns-3 : (t : ℕ) → run-sequence-lts.Need-returns-3 (run-sequence-claims t) (run-sequence-at t) run-sequence.Post run-sequence-Inv-loop run-sequence-μ-loop
+run-sequence-returns-3 t c =
+    let a = (c .before .before .before .before .before .before .before .before .before .before .before .before .before .before .before .args) in
+    let l = (c .before .before .before .before .before .before .before .before .before .before .before .loop) in
+    let s = levelsAt (a .text .now) in
+    let n = length (a .text .now) in
+    let v = viewOf (a .table .now) in
+    let w = (c .before .before .before .before .before .before .before .before .before .run-short .ensures) (a .level) in
+    let halt = is-ended _ (sym (c .before .before .before .before .before .before .is-ended .ensures) ∙ not-false _ (c .before .before .before .before .before .if1 .left)) in
+    l .inv .0 .ends _ _ (strides-runs-on s n v (a .hand .first .0) (a .hand .count) (a .level) (l .p) (l .next .0) (l .left) (l .at) (l .out) w halt (sequence-ends (a .text .now) (c .before .before .before .before .before .before .before .before .before .run-short .result .place) v (a .hand .first .0) (a .hand .count) (a .level) (c .before .before .before .before .before .before .before .before .before .run-short .result .next .0) (c .before .before .before .before .before .before .before .before .before .run-short .result .left) (c .before .before .before .before .before .before .before .before .before .run-short .result .at) _ (c .before .before .before .before .before .before .before .before .before .run-short .result) (c .before .before .item-at .result) (sym (c .before .before .item-at .ensures)) (sym (c .before .ends-here .ensures) ∙ (c .if3 .taken)) (ended-as _ halt) (w .most halt) (omega (arith, w .does .most, w .does .size)) (w .does .inside)))
+
+run-sequence-run-item-requires : (t : ℕ) → run-sequence-lts.Need-run-item-requires (run-sequence-claims t) (run-sequence-at t) run-sequence.Post run-sequence-Inv-loop run-sequence-μ-loop
+run-sequence-run-item-requires t c κs =
+    let a = (c .before .before .before .before .before .before .before .before .before .before .before .before .before .before .before .before .before .args) in
+    let l = (c .before .before .before .before .before .before .before .before .before .before .before .before .before .loop) in
+    let s = levelsAt (a .text .now) in
+    let n = length (a .text .now) in
+    let v = viewOf (a .table .now) in
+    let w = (c .before .before .before .before .before .before .before .before .before .before .before .run-short .ensures) (a .level) in
+    (omega (arith, (c .before .before .before .before .before .before .before .before .before .before .before .before .before .before .before .before .before .pre .0)), ((c .before .before .before .before .before .before .before .before .before .before .before .before .before .before .before .before .before .pre .1 .0), (w .does .inside, (sym (c .before .before .before .before .item-at .ensures), (sym (c .before .before .before .ends-here .ensures) ∙ (c .before .before .if3 .left), omega (arith, w .does .most, w .does .size))))))
 
 run-sequence-enum-told : (t : ℕ) → run-sequence-lts.Need-enum-told (run-sequence-claims t) (run-sequence-at t) run-sequence.Post run-sequence-Inv-loop run-sequence-μ-loop
 run-sequence-enum-told t c = search needs
 
 run-sequence-loop-less : (t : ℕ) → run-sequence-lts.Need-loop-less (run-sequence-claims t) (run-sequence-at t) run-sequence.Post run-sequence-Inv-loop run-sequence-μ-loop
 run-sequence-loop-less t c =
-    let a = (c .before .before .before .before .before .before .before .before .before .before .before .before .before .before .before .before .before .before .before .before .before .args) in
-    let l = (c .before .before .before .before .before .before .before .before .before .before .before .before .before .before .before .before .before .loop) in
+    let a = (c .before .before .before .before .before .before .before .before .before .before .before .before .before .before .before .before .before .before .before .before .before .before .before .args) in
+    let l = (c .before .before .before .before .before .before .before .before .before .before .before .before .before .before .before .before .before .before .before .loop) in
     let s = levelsAt (a .text .now) in
     let n = length (a .text .now) in
     let v = viewOf (a .table .now) in
-    let w = (c .before .before .before .before .before .before .before .before .before .before .before .before .before .before .before .run-short .ensures) (a .level) in
-    let halt = is-ended _ (sym (c .before .before .before .before .before .before .before .before .before .before .before .before .is-ended .ensures) ∙ not-false _ (c .before .before .before .before .before .before .before .before .before .before .before .if1 .left)) in
+    let w = (c .before .before .before .before .before .before .before .before .before .before .before .before .before .before .before .before .before .run-short .ensures) (a .level) in
+    let halt = is-ended _ (sym (c .before .before .before .before .before .before .before .before .before .before .before .before .before .before .is-ended .ensures) ∙ not-false _ (c .before .before .before .before .before .before .before .before .before .before .before .before .before .if1 .left)) in
     let u = (c .before .before .before .before .before .run-item .ensures) in
     omega (arith, u .least (c .enum-told .given .1), u .most (c .enum-told .given .1), w .least halt)
 
 run-sequence-loop-again : (t : ℕ) → run-sequence-lts.Need-loop-again (run-sequence-claims t) (run-sequence-at t) run-sequence.Post run-sequence-Inv-loop run-sequence-μ-loop
 run-sequence-loop-again t c =
-    let a = (c .before .before .before .before .before .before .before .before .before .before .before .before .before .before .before .before .before .before .before .before .before .args) in
-    let l = (c .before .before .before .before .before .before .before .before .before .before .before .before .before .before .before .before .before .loop) in
+    let a = (c .before .before .before .before .before .before .before .before .before .before .before .before .before .before .before .before .before .before .before .before .before .before .before .args) in
+    let l = (c .before .before .before .before .before .before .before .before .before .before .before .before .before .before .before .before .before .before .before .loop) in
     let s = levelsAt (a .text .now) in
     let n = length (a .text .now) in
     let v = viewOf (a .table .now) in
-    let w = (c .before .before .before .before .before .before .before .before .before .before .before .before .before .before .before .run-short .ensures) (a .level) in
-    let halt = is-ended _ (sym (c .before .before .before .before .before .before .before .before .before .before .before .before .is-ended .ensures) ∙ not-false _ (c .before .before .before .before .before .before .before .before .before .before .before .if1 .left)) in
+    let w = (c .before .before .before .before .before .before .before .before .before .before .before .before .before .before .before .before .before .run-short .ensures) (a .level) in
+    let halt = is-ended _ (sym (c .before .before .before .before .before .before .before .before .before .before .before .before .before .before .is-ended .ensures) ∙ not-false _ (c .before .before .before .before .before .before .before .before .before .before .before .before .before .if1 .left)) in
     let u = (c .before .before .before .before .before .run-item .ensures) in
     let e = (c .enum-told .given .1) in (
       record {
-        ends = λ e₂ r k. l .inv .0 .ends e₂ r (strides-runs-on s n v (a .hand .first .0) (a .hand .count) (a .level) (l .p) (l .next .0) (l .left) (l .at) (l .out) w halt (runs-on s n v (a .hand .first .0) (a .hand .count) (a .level) (c .before .before .before .before .before .before .before .before .before .before .before .before .before .before .before .run-short .result .place) (c .before .before .before .before .before .before .before .before .before .before .before .before .before .before .before .run-short .result .next .0) (c .before .before .before .before .before .before .before .before .before .before .before .before .before .before .before .run-short .result .left) (c .before .before .before .before .before .before .before .before .before .before .before .before .before .before .before .run-short .result .at) _ u e k));
+        ends = λ e₂ r k. l .inv .0 .ends e₂ r (strides-runs-on s n v (a .hand .first .0) (a .hand .count) (a .level) (l .p) (l .next .0) (l .left) (l .at) (l .out) w halt (runs-on s n v (a .hand .first .0) (a .hand .count) (a .level) (c .before .before .before .before .before .before .before .before .before .before .before .before .before .before .before .before .before .run-short .result .place) (c .before .before .before .before .before .before .before .before .before .before .before .before .before .before .before .before .before .run-short .result .next .0) (c .before .before .before .before .before .before .before .before .before .before .before .before .before .before .before .before .before .run-short .result .left) (c .before .before .before .before .before .before .before .before .before .before .before .before .before .before .before .before .before .run-short .result .at) _ u e k));
         size = u .does .size ∙ w .does .size ∙ l .inv .0 .size;
         fits = omega (arith, u .does .most, u .does .size);
         falls = omega (arith, u .does .falls, w .does .falls, l .inv .0 .falls);
@@ -755,54 +777,54 @@ run-sequence-loop-again t c =
 run-sequence-enum-told-2 : (t : ℕ) → run-sequence-lts.Need-enum-told-2 (run-sequence-claims t) (run-sequence-at t) run-sequence.Post run-sequence-Inv-loop run-sequence-μ-loop
 run-sequence-enum-told-2 t c = search needs
 
-run-sequence-same-length-3 : (t : ℕ) → run-sequence-lts.Need-same-length-3 (run-sequence-claims t) (run-sequence-at t) run-sequence.Post run-sequence-Inv-loop run-sequence-μ-loop
-run-sequence-same-length-3 t c =
-    let a = (c .before .before .before .before .before .before .before .before .before .before .before .before .before .before .before .before .before .before .before .before .before .args) in
-    let l = (c .before .before .before .before .before .before .before .before .before .before .before .before .before .before .before .before .before .loop) in
-    let s = levelsAt (a .text .now) in
-    let n = length (a .text .now) in
-    let v = viewOf (a .table .now) in
-    let w = (c .before .before .before .before .before .before .before .before .before .before .before .before .before .before .before .run-short .ensures) (a .level) in
-    let u = (c .before .before .before .before .before .run-item .ensures) in
-    u .does .size ∙ w .does .size ∙ l .inv .0 .size
-
-run-sequence-returns-3 : (t : ℕ) → run-sequence-lts.Need-returns-3 (run-sequence-claims t) (run-sequence-at t) run-sequence.Post run-sequence-Inv-loop run-sequence-μ-loop
-run-sequence-returns-3 t c =
-    let a = (c .before .before .before .before .before .before .before .before .before .before .before .before .before .before .before .before .before .before .before .before .before .args) in
-    let l = (c .before .before .before .before .before .before .before .before .before .before .before .before .before .before .before .before .before .loop) in
-    let s = levelsAt (a .text .now) in
-    let n = length (a .text .now) in
-    let v = viewOf (a .table .now) in
-    let w = (c .before .before .before .before .before .before .before .before .before .before .before .before .before .before .before .run-short .ensures) (a .level) in
-    let halt = is-ended _ (sym (c .before .before .before .before .before .before .before .before .before .before .before .before .is-ended .ensures) ∙ not-false _ (c .before .before .before .before .before .before .before .before .before .before .before .if1 .left)) in
-    let u = (c .before .before .before .before .before .run-item .ensures) in
-    l .inv .0 .ends _ _ (strides-runs-on s n v (a .hand .first .0) (a .hand .count) (a .level) (l .p) (l .next .0) (l .left) (l .at) (l .out) w halt (runs-left s n v (a .hand .first .0) (a .hand .count) (a .level) (c .before .before .before .before .before .before .before .before .before .before .before .before .before .before .before .run-short .result .place) (c .before .before .before .before .before .before .before .before .before .before .before .before .before .before .before .run-short .result .next .0) (c .before .before .before .before .before .before .before .before .before .before .before .before .before .before .before .run-short .result .left) (c .before .before .before .before .before .before .before .before .before .before .before .before .before .before .before .run-short .result .at) _ u (c .enum-told2 .given .1)))
-
-run-sequence-enum-told-3 : (t : ℕ) → run-sequence-lts.Need-enum-told-3 (run-sequence-claims t) (run-sequence-at t) run-sequence.Post run-sequence-Inv-loop run-sequence-μ-loop
-run-sequence-enum-told-3 t c = search needs
-
 run-sequence-same-length-4 : (t : ℕ) → run-sequence-lts.Need-same-length-4 (run-sequence-claims t) (run-sequence-at t) run-sequence.Post run-sequence-Inv-loop run-sequence-μ-loop
 run-sequence-same-length-4 t c =
-    let a = (c .before .before .before .before .before .before .before .before .before .before .before .before .before .before .before .before .before .before .before .before .before .args) in
-    let l = (c .before .before .before .before .before .before .before .before .before .before .before .before .before .before .before .before .before .loop) in
+    let a = (c .before .before .before .before .before .before .before .before .before .before .before .before .before .before .before .before .before .before .before .before .before .before .before .args) in
+    let l = (c .before .before .before .before .before .before .before .before .before .before .before .before .before .before .before .before .before .before .before .loop) in
     let s = levelsAt (a .text .now) in
     let n = length (a .text .now) in
     let v = viewOf (a .table .now) in
-    let w = (c .before .before .before .before .before .before .before .before .before .before .before .before .before .before .before .run-short .ensures) (a .level) in
+    let w = (c .before .before .before .before .before .before .before .before .before .before .before .before .before .before .before .before .before .run-short .ensures) (a .level) in
     let u = (c .before .before .before .before .before .run-item .ensures) in
     u .does .size ∙ w .does .size ∙ l .inv .0 .size
 
 run-sequence-returns-4 : (t : ℕ) → run-sequence-lts.Need-returns-4 (run-sequence-claims t) (run-sequence-at t) run-sequence.Post run-sequence-Inv-loop run-sequence-μ-loop
 run-sequence-returns-4 t c =
-    let a = (c .before .before .before .before .before .before .before .before .before .before .before .before .before .before .before .before .before .before .before .before .before .args) in
-    let l = (c .before .before .before .before .before .before .before .before .before .before .before .before .before .before .before .before .before .loop) in
+    let a = (c .before .before .before .before .before .before .before .before .before .before .before .before .before .before .before .before .before .before .before .before .before .before .before .args) in
+    let l = (c .before .before .before .before .before .before .before .before .before .before .before .before .before .before .before .before .before .before .before .loop) in
     let s = levelsAt (a .text .now) in
     let n = length (a .text .now) in
     let v = viewOf (a .table .now) in
-    let w = (c .before .before .before .before .before .before .before .before .before .before .before .before .before .before .before .run-short .ensures) (a .level) in
-    let halt = is-ended _ (sym (c .before .before .before .before .before .before .before .before .before .before .before .before .is-ended .ensures) ∙ not-false _ (c .before .before .before .before .before .before .before .before .before .before .before .if1 .left)) in
+    let w = (c .before .before .before .before .before .before .before .before .before .before .before .before .before .before .before .before .before .run-short .ensures) (a .level) in
+    let halt = is-ended _ (sym (c .before .before .before .before .before .before .before .before .before .before .before .before .before .before .is-ended .ensures) ∙ not-false _ (c .before .before .before .before .before .before .before .before .before .before .before .before .before .if1 .left)) in
     let u = (c .before .before .before .before .before .run-item .ensures) in
-    l .inv .0 .ends _ _ (strides-runs-on s n v (a .hand .first .0) (a .hand .count) (a .level) (l .p) (l .next .0) (l .left) (l .at) (l .out) w halt (runs-refused s n v (a .hand .first .0) (a .hand .count) (a .level) (c .before .before .before .before .before .before .before .before .before .before .before .before .before .before .before .run-short .result .place) (c .before .before .before .before .before .before .before .before .before .before .before .before .before .before .before .run-short .result .next .0) (c .before .before .before .before .before .before .before .before .before .before .before .before .before .before .before .run-short .result .left) (c .before .before .before .before .before .before .before .before .before .before .before .before .before .before .before .run-short .result .at) _ u _ _ (c .enum-told3 .given .1)))
+    l .inv .0 .ends _ _ (strides-runs-on s n v (a .hand .first .0) (a .hand .count) (a .level) (l .p) (l .next .0) (l .left) (l .at) (l .out) w halt (runs-left s n v (a .hand .first .0) (a .hand .count) (a .level) (c .before .before .before .before .before .before .before .before .before .before .before .before .before .before .before .before .before .run-short .result .place) (c .before .before .before .before .before .before .before .before .before .before .before .before .before .before .before .before .before .run-short .result .next .0) (c .before .before .before .before .before .before .before .before .before .before .before .before .before .before .before .before .before .run-short .result .left) (c .before .before .before .before .before .before .before .before .before .before .before .before .before .before .before .before .before .run-short .result .at) _ u (c .enum-told2 .given .1)))
+
+run-sequence-enum-told-3 : (t : ℕ) → run-sequence-lts.Need-enum-told-3 (run-sequence-claims t) (run-sequence-at t) run-sequence.Post run-sequence-Inv-loop run-sequence-μ-loop
+run-sequence-enum-told-3 t c = search needs
+
+run-sequence-same-length-5 : (t : ℕ) → run-sequence-lts.Need-same-length-5 (run-sequence-claims t) (run-sequence-at t) run-sequence.Post run-sequence-Inv-loop run-sequence-μ-loop
+run-sequence-same-length-5 t c =
+    let a = (c .before .before .before .before .before .before .before .before .before .before .before .before .before .before .before .before .before .before .before .before .before .before .before .args) in
+    let l = (c .before .before .before .before .before .before .before .before .before .before .before .before .before .before .before .before .before .before .before .loop) in
+    let s = levelsAt (a .text .now) in
+    let n = length (a .text .now) in
+    let v = viewOf (a .table .now) in
+    let w = (c .before .before .before .before .before .before .before .before .before .before .before .before .before .before .before .before .before .run-short .ensures) (a .level) in
+    let u = (c .before .before .before .before .before .run-item .ensures) in
+    u .does .size ∙ w .does .size ∙ l .inv .0 .size
+
+run-sequence-returns-5 : (t : ℕ) → run-sequence-lts.Need-returns-5 (run-sequence-claims t) (run-sequence-at t) run-sequence.Post run-sequence-Inv-loop run-sequence-μ-loop
+run-sequence-returns-5 t c =
+    let a = (c .before .before .before .before .before .before .before .before .before .before .before .before .before .before .before .before .before .before .before .before .before .before .before .args) in
+    let l = (c .before .before .before .before .before .before .before .before .before .before .before .before .before .before .before .before .before .before .before .loop) in
+    let s = levelsAt (a .text .now) in
+    let n = length (a .text .now) in
+    let v = viewOf (a .table .now) in
+    let w = (c .before .before .before .before .before .before .before .before .before .before .before .before .before .before .before .before .before .run-short .ensures) (a .level) in
+    let halt = is-ended _ (sym (c .before .before .before .before .before .before .before .before .before .before .before .before .before .before .is-ended .ensures) ∙ not-false _ (c .before .before .before .before .before .before .before .before .before .before .before .before .before .if1 .left)) in
+    let u = (c .before .before .before .before .before .run-item .ensures) in
+    l .inv .0 .ends _ _ (strides-runs-on s n v (a .hand .first .0) (a .hand .count) (a .level) (l .p) (l .next .0) (l .left) (l .at) (l .out) w halt (runs-refused s n v (a .hand .first .0) (a .hand .count) (a .level) (c .before .before .before .before .before .before .before .before .before .before .before .before .before .before .before .before .before .run-short .result .place) (c .before .before .before .before .before .before .before .before .before .before .before .before .before .before .before .before .before .run-short .result .next .0) (c .before .before .before .before .before .before .before .before .before .before .before .before .before .before .before .before .before .run-short .result .left) (c .before .before .before .before .before .before .before .before .before .before .before .before .before .before .before .before .before .run-short .result .at) _ u _ _ (c .enum-told3 .given .1)))
 
 pub +run-block+run-clause+run-conditional+run-item+run-iteration+run-over-list+run-passes+run-sequence-spec :
     {M : Type 1} → statement M
@@ -1018,6 +1040,8 @@ pub +run-block+run-clause+run-conditional+run-item+run-iteration+run-over-list+r
       run-short-reads.Learnt,
       is-ended-reads.Asked,
       is-ended-reads.Learnt,
+      closes-at-reads.Asked,
+      closes-at-reads.Learnt,
       item-at-reads.Asked,
       item-at-reads.Learnt,
       ends-here-reads.Asked,
@@ -1034,17 +1058,20 @@ pub +run-block+run-clause+run-conditional+run-item+run-iteration+run-over-list+r
     (run-sequence-is-ended-requires t)
     (run-sequence-same-length t)
     (run-sequence-returns t)
-    (run-sequence-item-at-requires t)
-    (run-sequence-ends-here-requires t)
+    (run-sequence-closes-at-requires t)
     (run-sequence-same-length-2 t)
     (run-sequence-returns-2 t)
+    (run-sequence-item-at-requires t)
+    (run-sequence-ends-here-requires t)
+    (run-sequence-same-length-3 t)
+    (run-sequence-returns-3 t)
     (run-sequence-run-item-requires t)
     (run-sequence-enum-told t)
     (run-sequence-loop-less t)
     (run-sequence-loop-again t)
     (run-sequence-enum-told-2 t)
-    (run-sequence-same-length-3 t)
-    (run-sequence-returns-3 t)
-    (run-sequence-enum-told-3 t)
     (run-sequence-same-length-4 t)
     (run-sequence-returns-4 t)
+    (run-sequence-enum-told-3 t)
+    (run-sequence-same-length-5 t)
+    (run-sequence-returns-5 t)
