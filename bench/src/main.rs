@@ -6,6 +6,7 @@ mod growth;
 mod lines;
 mod plain;
 mod printing;
+mod slowest;
 mod whole;
 
 use clock::processor_time;
@@ -24,10 +25,11 @@ const ROUNDS: usize = 301;
 type Digits = fn(u64, u64, &mut [u8]) -> usize;
 
 /// The tables that are printed, with their names: all of them, or one that is named.
-const TABLES: [(&str, fn()); 5] = [
+const TABLES: [(&str, fn()); 6] = [
     ("lines", lines::measure),
     ("growth", growth::measure),
     ("whole", whole::measure),
+    ("slowest", slowest::measure),
     ("digits", all_digits),
     ("check", tables),
 ];
