@@ -70,6 +70,11 @@ enum tilde_tag {
 #define TILDE_MOST_KINDS 1024
 #define TILDE_MOST_LONGEST 4096
 
+/* A call of tilde_format or tilde_vet takes at most so many bytes of stack on x86-64, with libtilde.a as rt staticlib
+   builds it: from its caller's frame down, with the memcpy and memset that it calls. What runs on the same stack
+   meanwhile, a signal handler or the loader that binds memcpy at its first call, comes on top. */
+#define TILDE_STACK_BYTES 16384
+
 /* Writes the text of a format over the arguments of a table at the start of a buffer, and answers a tilde_code: one of
    0 to 10.
 

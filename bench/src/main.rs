@@ -1,13 +1,19 @@
 //! The proved calls against the same work in Rust or in the C library, as ratios of times measured in one run.
 
+mod clock;
+mod counting;
+mod growth;
+mod lines;
 mod plain;
 mod printing;
-mod stations;
+mod slowest;
 mod whole;
 
+use clock::processor_time;
 use random::Random;
 use reference::entry;
 use std::hint::black_box;
+use std::process::ExitCode;
 use std::time::Instant;
 
 const SEED: u64 = 3;
@@ -18,39 +24,63 @@ const ROUNDS: usize = 301;
 /// A call that writes digits: base, number, buffer, and the count as its answer.
 type Digits = fn(u64, u64, &mut [u8]) -> usize;
 
-fn main() {
-    stations::measure();
-    whole::measure();
-    title("digits, against the same loops in Rust", "proved", "Rust");
-    digits(plain::digits);
-    title(
-        "digits, against a loop over the places in Rust",
-        "proved",
-        "Rust",
-    );
-    digits(plain::digits_by_place);
-    title(
-        "check of a table, against a plain check in Rust",
-        "proved",
-        "Rust",
-    );
-    tables();
+/// The tables that are printed, with their names: all of them, or one that is named.
+const TABLES: [(&str, fn()); 6] = [
+    ("lines", lines::measure),
+    ("growth", growth::measure),
+    ("whole", whole::measure),
+    ("slowest", slowest::measure),
+    ("digits", all_digits),
+    ("check", tables),
+];
+
+fn main() -> ExitCode {
+    let given: Vec<String> = std::env::args().skip(1).collect();
+    let given: Vec<&str> = given.iter().map(String::as_str).collect();
+    match given[..] {
+        [] => TABLES.iter().for_each(|(_, measure)| measure()),
+        ["--instructions"] => return counting::measure(),
+        ["--counted", line, side] => counting::run(line, side),
+        [name] => match TABLES.iter().find(|table| table.0 == name) {
+            Some((_, measure)) => measure(),
+            None => return usage(),
+        },
+        _ => return usage(),
+    }
+    ExitCode::SUCCESS
+}
+
+fn usage() -> ExitCode {
+    let names = TABLES.map(|(name, _)| name).join(" | ");
+    eprintln!("usage: bench/run [{names} | --instructions]");
+    ExitCode::from(2)
 }
 
 fn title(what: &str, ours: &str, theirs: &str) {
     println!("{what:<50} {ours:>11} {theirs:>11} {:>6}", "ratio");
 }
 
-/// Nanoseconds for each of `count` items, in each round of each side.
+/// Rounds of so many items are long enough for the processor to turn to other work meanwhile.
+const LONG_ROUND: usize = 10_000;
+
+/// Nanoseconds for each of `count` items, in each round of each side. The processor's own clock, which other work does
+/// not move, takes too long to read for a short round.
 fn rounds(
     count: usize,
     ours: &mut dyn FnMut() -> usize,
     theirs: &mut dyn FnMut() -> usize,
 ) -> (Vec<f64>, Vec<f64>) {
     let time = |work: &mut dyn FnMut() -> usize| {
-        let start = Instant::now();
-        black_box(work());
-        start.elapsed().as_nanos() as f64 / count as f64
+        let time = if count < LONG_ROUND {
+            let start = Instant::now();
+            black_box(work());
+            start.elapsed().as_nanos() as f64
+        } else {
+            let start = processor_time();
+            black_box(work());
+            processor_time() - start
+        };
+        time / count as f64
     };
     (0..ROUNDS).map(|_| (time(ours), time(theirs))).unzip()
 }
@@ -70,6 +100,17 @@ fn race(
         "  {name:<48} {ours:>8.1} ns {theirs:>8.1} ns {:>6.2}",
         ours / theirs
     );
+}
+
+fn all_digits() {
+    title("digits, against the same loops in Rust", "proved", "Rust");
+    digits(plain::digits);
+    title(
+        "digits, against a loop over the places in Rust",
+        "proved",
+        "Rust",
+    );
+    digits(plain::digits_by_place);
 }
 
 fn digits(rust: Digits) {
@@ -107,6 +148,11 @@ fn digits(rust: Digits) {
 }
 
 fn tables() {
+    title(
+        "check of a table, against a plain check in Rust",
+        "proved",
+        "Rust",
+    );
     let random = Random::new(SEED);
     let integers = |n| plain::table(n, 0, |_| entry(1, 7, 7));
     let mixed = |n: usize| {

@@ -1,6 +1,6 @@
 //! Whole calls: a format against the C library's snprintf writing the same bytes, and a vet against a format.
 
-use crate::printing::snprintf;
+use crate::printing::printed;
 use crate::{plain, rounds, title, SEED};
 use random::Random;
 use reference::entry;
@@ -21,16 +21,6 @@ struct Given {
 }
 
 type Print = fn(&Given, &mut [u8]) -> usize;
-
-macro_rules! printed {
-    ($out:expr, $format:expr $(, $argument:expr)*) => {{
-        let (out, format) = ($out, black_box($format));
-        // SAFETY: pointer and length are those of one slice; the format and its string end in a zero byte, and its
-        // directives are those of the arguments.
-        let length = unsafe { snprintf(out.as_mut_ptr().cast(), out.len(), format.as_ptr() $(, $argument)*) };
-        length as usize
-    }};
-}
 
 fn print_bulletin(given: &Given, out: &mut [u8]) -> usize {
     let (text, n) = (given.text.as_ptr(), &given.numbers);
