@@ -52,6 +52,9 @@ module _ (t : List ℕ) (v : View) (first count level p byte i left at : ℕ) (b
       (steps-acts (levelsAt t) (length t) v first count level p i left at b (literal-at t p byte e) z (literal-acts v first count p byte i (left - 1) at (p + 1) b k h) (omega arith) (omega (arith, stands t p (Literal byte) e)))
 
 -- literal bytes one after another
+pub one-nearer : (most k : ℕ) → k < most → most - (k + 1) < most - k
+one-nearer most k h = omega arith
+
 ended-is : {i l l₂ a a₂ q q₂ : ℕ} → l ≡ l₂ → a ≡ a₂ → q ≡ q₂ → endedRan i l a q ≡ endedRan i l₂ a₂ q₂
 ended-is x y z = rw (x, y, z)
 

@@ -39,7 +39,7 @@ use Rattle.running.proofs.BlockArms.{chooses-run, iterates-run, blocks-refused,
 use Rattle.running.proofs.Strides.{strides-runs-left, strides-runs-refused}
 use Rattle.running.proofs.Places.{end-at, bad-at, unfinished-at, separator-at, closer-at, unknown-at, iteration-at, conditional-at}
 
-not-both : {b : Bool} → b ≡ true → b ≡ false → ⊥
+pub not-both : {b : Bool} → b ≡ true → b ≡ false → ⊥
 not-both p q = let z : _≡_ {A = ℕ} 0 1 = cc in omega arith
 
 -- what a loop of a runner knows at its head: whatever ends from here is the whole

@@ -4,7 +4,7 @@ use mathlib.Core.Path.{_≡_}
 use mathlib.Core.Bool.{Bool, true, false, cond}
 use mathlib.Core.List.{List}
 use lib.Dec.{leb}
-use lib.ListN.{length}
+use lib.ListN.{length, getD}
 use Rattle.rules.specs.Directive.{FormRight}
 use Rattle.rules.specs.Run.{writeFrom}
 use Rattle.rules.specs.Table.{View, viewOf}
@@ -20,7 +20,8 @@ use Rattle.rules.specs.declared.Directive.{Directive}
 use Rattle.rules.specs.declared.Setting.{Setting}
 use Rattle.rules.specs.declared.Setting.the-variants.{Absent}
 use Rattle.rules.specs.declared.Settings.{Settings}
-use Rattle.reader.specs.Shorts.{settingOf, shortForm}
+use Rattle.reader.specs.Shorts.{settingOf, shortForm, shortAt}
+use Rattle.reader.specs.declared.short.Short.the-variants.{Other}
 use Rattle.working.specs.Settling.{handAt}
 use Rattle.working.specs.declared.Hand.{Hand}
 use Rattle.acting.specs.Acting.{Performed}
@@ -70,3 +71,7 @@ WritesShort t hand i kind detail number byte spot b e r =
     → Performed (λ on. writeFrom (viewOf t) (spot .position) (spot .left) (shortForm kind detail) d (handAt hand 0)
     (shortSettings (settingOf 4097 number) (settingOf 256 byte)) i on
     (sourceOf (shortForm kind detail) false (shortSettings (settingOf 4097 number) (settingOf 256 byte)))) (hand .count) spot b e r
+
+-- a directive stands at p that is not short
+abbrev pub NotShort : List ℕ → ℕ → Type 0
+NotShort t p = (getD t p 0 ≡ 126) × (shortAt t p ≡ Other)

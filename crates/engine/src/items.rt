@@ -12,8 +12,8 @@ use rules::Directive;
 use working::Hand;
 ghost use mathlib.Core.Path.{_≡_};
 ghost use mathlib.Core.List.{List};
-ghost use Prim.Native.Nat.{ℕ, _≤_, _<_};
-ghost use lib.ListN.{length};
+ghost use Prim.Native.Nat.{ℕ, _+_, _-_, _≤_, _<_};
+ghost use lib.ListN.{length, getD};
 ghost use Rattle.rules.specs.Directive.{itemAt};
 ghost use Rattle.rules.specs.Table.{View, viewOf};
 ghost use Rattle.rules.specs.Text.{levelsAt};
@@ -64,7 +64,7 @@ pub fn put_literal(
 }
 
 fn smaller(a: usize, b: usize) -> usize
-    ensures { λ r. ⌜ (r ≤ a) × (r ≤ b) ⌝ }
+    ensures { λ r. ⌜ r ≡ a - (a - b) ⌝ }
 {
     if a <= b {
         return a;
@@ -76,7 +76,8 @@ fn smaller(a: usize, b: usize) -> usize
 pub fn put_literals(text: &[u8], p: usize, left: usize, out: &mut [u8], at: usize) -> usize
     requires { ⌜ p ≤ length (now text) ⌝ }
     requires { ⌜ at ≤ length (now out) ⌝ }
-    ensures { λ r. ⌜ PutsLiterals (now (text .entry)) p left at (now (out .entry)) (now (out .exit)) r ⌝ }
+    ensures puts { λ r. ⌜ PutsLiterals (now (text .entry)) p left at (now (out .entry)) (now (out .exit)) r ⌝ }
+    ensures all { λ r. ⌜ (r < left → p + r < length (now (text .entry)) → at + r < length (now (out .entry)) → getD (now (text .entry)) (p + r) 0 ≡ 126) ⌝ }
 {
     // the least bound first, so that a turn of the loop asks it and the byte alone
     let most = smaller(left, smaller(text.len() - p, out.len() - at));

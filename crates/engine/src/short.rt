@@ -24,18 +24,20 @@ use working::Hand;
 use working::argument_at;
 ghost use mathlib.Core.Path.{_≡_};
 ghost use mathlib.Core.List.{List};
-ghost use Prim.Native.Nat.{ℕ, _≤_};
+ghost use Prim.Native.Nat.{ℕ, _≤_, _<_};
 ghost use lib.ListN.{length};
 ghost use lib.Dec.{eqb};
 ghost use Rattle.rules.specs.Choice.{both};
 ghost use Rattle.rules.specs.Piece.{orElse};
 ghost use Rattle.rules.specs.Table.{viewOf};
 ghost use Rattle.rules.specs.Text.{levelsAt};
-ghost use Rattle.reader.specs.Shorts.{settingOf, shortForm, ShortIn, IsShort};
+ghost use Rattle.reader.specs.Shorts.{settingOf, shortForm, shortAt, ShortIn, IsShort};
+ghost use Rattle.reader.specs.declared.short.Short.the-variants.{Other};
+ghost use Rattle.acting.specs.declared.state.Stop.the-variants.{Ended};
 ghost use Rattle.working.specs.Settling.{InHand, handAt};
 ghost use Rattle.rules.specs.Directive.{FormRight};
 ghost use Rattle.running.specs.Runs.{Steps, Strides};
-ghost use Rattle.engine.specs.Running.{WritesShort};
+ghost use Rattle.engine.specs.Running.{WritesShort, NotShort};
 
 // A parameter as its setting, where none stands for one that is not written.
 fn setting_of(n: usize, none: usize) -> Setting
@@ -212,7 +214,8 @@ fn run_one(
     requires { ⌜ next .0 ≤ hand .count ⌝ }
     requires { ⌜ p ≤ length (now text) ⌝ }
     requires { ⌜ at ≤ length (now out) ⌝ }
-    ensures { λ r. ⌜ ((level : ℕ) → Strides (levelsAt (now (text .entry))) (length (now (text .entry))) (viewOf (now (table .entry))) (handAt hand) level p (next .0) left at (now (out .entry)) (now (out .exit)) r) ⌝ }
+    ensures strides { λ r. ⌜ ((level : ℕ) → Strides (levelsAt (now (text .entry))) (length (now (text .entry))) (viewOf (now (table .entry))) (handAt hand) level p (next .0) left at (now (out .entry)) (now (out .exit)) r) ⌝ }
+    ensures other { λ r. ⌜ (r .stop ≡ Ended → r .place ≡ p → (shortAt (now (text .entry)) p ≡ Other) × ((r .left ≡ left) × (r .at ≡ at))) ⌝ }
 {
     let short = read_short(text, p);
     match short {
@@ -246,7 +249,7 @@ fn run_one(
     }
 }
 
-// The literal bytes and the short directives that stand from start on.
+// The literal bytes and the short directives that stand from start on, all of them unless steps or room run out.
 pub fn run_short(
     text: &[u8],
     table: &[u8],
@@ -261,7 +264,8 @@ pub fn run_short(
     requires { ⌜ first .0 ≤ hand .count ⌝ }
     requires { ⌜ start ≤ length (now text) ⌝ }
     requires { ⌜ from ≤ length (now out) ⌝ }
-    ensures { λ r. ⌜ ((level : ℕ) → Strides (levelsAt (now (text .entry))) (length (now (text .entry))) (viewOf (now (table .entry))) (handAt hand) level start (first .0) most from (now (out .entry)) (now (out .exit)) r) ⌝ }
+    ensures strides { λ r. ⌜ ((level : ℕ) → Strides (levelsAt (now (text .entry))) (length (now (text .entry))) (viewOf (now (table .entry))) (handAt hand) level start (first .0) most from (now (out .entry)) (now (out .exit)) r) ⌝ }
+    ensures all { λ r. ⌜ (r .stop ≡ Ended → 0 < r .left → r .place < length (now (text .entry)) → r .at < length (now (out .entry)) → NotShort (now (text .entry)) (r .place)) ⌝ }
 {
     let mut p = start;
     let mut next = first;

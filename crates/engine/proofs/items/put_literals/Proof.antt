@@ -5,7 +5,7 @@ use native.Mathlib.Omega.{arith}
 use lib.ListN.{length, length-set}
 use borrow.Author.Needs.{needs}
 use Rattle.engine.specs.Running.{PutsLiterals}
-use Rattle.engine.proofs.ItemLaws.{literals-none, literals-more}
+use Rattle.engine.proofs.ItemLaws.{one-nearer, literals-none, literals-more}
 use Rattle.engine.proofs.items.put_literals.Statement.{statement}
 use Rattle.engine.proofs.items.put_literals.Tie as tie
 
@@ -41,8 +41,7 @@ same-length : tie.Need-same-length Inv-loop μ-loop
 same-length c = search needs
 
 returns : tie.Need-returns Inv-loop μ-loop
-returns c =
-    c .before .before .before .loop .inv .1
+returns c = (c .before .before .before .loop .inv .1, λ _ _ _. c .if1 .taken)
 
 add-out : tie.Need-add-out Inv-loop μ-loop
 add-out c = search needs
@@ -54,7 +53,7 @@ add-k : tie.Need-add-k Inv-loop μ-loop
 add-k c = search needs
 
 loop-less : tie.Need-loop-less Inv-loop μ-loop
-loop-less c = search needs
+loop-less c = one-nearer _ _ (c .before .before .loop-test .taken)
 
 loop-again : tie.Need-loop-again Inv-loop μ-loop
 loop-again c =
@@ -66,8 +65,7 @@ same-length-2 : tie.Need-same-length-2 Inv-loop μ-loop
 same-length-2 c = search needs
 
 returns-2 : tie.Need-returns-2 Inv-loop μ-loop
-returns-2 c =
-    c .before .loop .inv .1
+returns-2 c = (c .before .loop .inv .1, λ x y z. absurd (omega (arith, x, y, z)))
 
 pub put-literals-spec : {M : Type 1} → statement M
 put-literals-spec =

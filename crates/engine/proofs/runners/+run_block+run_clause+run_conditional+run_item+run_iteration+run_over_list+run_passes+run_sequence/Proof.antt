@@ -667,7 +667,7 @@ run-sequence-same-length t c =
     let s = levelsAt (a .text .now) in
     let n = length (a .text .now) in
     let v = viewOf (a .table .now) in
-    let w = (c .before .before .before .before .run-short .ensures) (a .level) in
+    let w = (c .before .before .before .before .run-short .ensures .0) (a .level) in
     w .does .size ∙ l .inv .0 .size
 
 run-sequence-returns : (t : ℕ) → run-sequence-lts.Need-returns (run-sequence-claims t) (run-sequence-at t) run-sequence.Post run-sequence-Inv-loop run-sequence-μ-loop
@@ -677,7 +677,7 @@ run-sequence-returns t c =
     let s = levelsAt (a .text .now) in
     let n = length (a .text .now) in
     let v = viewOf (a .table .now) in
-    let w = (c .before .before .before .before .run-short .ensures) (a .level) in
+    let w = (c .before .before .before .before .run-short .ensures .0) (a .level) in
     l .inv .0 .ends _ _ (runs-stopped s n v (a .hand .first .0) (a .hand .count) (a .level) (l .p) (l .next .0) (l .left) (l .at) (l .out) w (sym (c .before .is-ended .ensures) ∙ not-true _ (c .if1 .taken)))
 
 run-sequence-closes-at-requires : (t : ℕ) → run-sequence-lts.Need-closes-at-requires (run-sequence-claims t) (run-sequence-at t) run-sequence.Post run-sequence-Inv-loop run-sequence-μ-loop
@@ -687,7 +687,7 @@ run-sequence-same-length-2 : (t : ℕ) → run-sequence-lts.Need-same-length-2 (
 run-sequence-same-length-2 t c =
     let a = (c .before .before .before .before .before .before .before .before .before .before .before .before .args) in
     let l = (c .before .before .before .before .before .before .before .before .loop) in
-    let w = (c .before .before .before .before .before .before .run-short .ensures) (a .level) in
+    let w = (c .before .before .before .before .before .before .run-short .ensures .0) (a .level) in
     w .does .size ∙ l .inv .0 .size
 
 run-sequence-returns-2 : (t : ℕ) → run-sequence-lts.Need-returns-2 (run-sequence-claims t) (run-sequence-at t) run-sequence.Post run-sequence-Inv-loop run-sequence-μ-loop
@@ -697,7 +697,7 @@ run-sequence-returns-2 t c =
     let s = levelsAt (a .text .now) in
     let n = length (a .text .now) in
     let v = viewOf (a .table .now) in
-    let w = (c .before .before .before .before .before .before .run-short .ensures) (a .level) in
+    let w = (c .before .before .before .before .before .before .run-short .ensures .0) (a .level) in
     let halt = is-ended _ (sym (c .before .before .before .is-ended .ensures) ∙ not-false _ (c .before .before .if1 .left)) in
     l .inv .0 .ends _ _ (strides-runs-on s n v (a .hand .first .0) (a .hand .count) (a .level) (l .p) (l .next .0) (l .left) (l .at) (l .out) w halt (sequence-closes (a .text .now) (c .before .before .before .before .before .before .run-short .result .place) v (a .hand .first .0) (a .hand .count) (a .level) (c .before .before .before .before .before .before .run-short .result .next .0) (c .before .before .before .before .before .before .run-short .result .left) (c .before .before .before .before .before .before .run-short .result .at) _ (c .before .before .before .before .before .before .run-short .result) (sym (c .before .closes-at .ensures) ∙ (c .if2 .taken)) (ended-as _ halt) (w .most halt) (omega (arith, w .does .most, w .does .size)) (w .does .inside)))
 
@@ -714,7 +714,7 @@ run-sequence-same-length-3 t c =
     let s = levelsAt (a .text .now) in
     let n = length (a .text .now) in
     let v = viewOf (a .table .now) in
-    let w = (c .before .before .before .before .before .before .before .before .before .run-short .ensures) (a .level) in
+    let w = (c .before .before .before .before .before .before .before .before .before .run-short .ensures .0) (a .level) in
     w .does .size ∙ l .inv .0 .size
 
 run-sequence-returns-3 : (t : ℕ) → run-sequence-lts.Need-returns-3 (run-sequence-claims t) (run-sequence-at t) run-sequence.Post run-sequence-Inv-loop run-sequence-μ-loop
@@ -724,7 +724,7 @@ run-sequence-returns-3 t c =
     let s = levelsAt (a .text .now) in
     let n = length (a .text .now) in
     let v = viewOf (a .table .now) in
-    let w = (c .before .before .before .before .before .before .before .before .before .run-short .ensures) (a .level) in
+    let w = (c .before .before .before .before .before .before .before .before .before .run-short .ensures .0) (a .level) in
     let halt = is-ended _ (sym (c .before .before .before .before .before .before .is-ended .ensures) ∙ not-false _ (c .before .before .before .before .before .if1 .left)) in
     l .inv .0 .ends _ _ (strides-runs-on s n v (a .hand .first .0) (a .hand .count) (a .level) (l .p) (l .next .0) (l .left) (l .at) (l .out) w halt (sequence-ends (a .text .now) (c .before .before .before .before .before .before .before .before .before .run-short .result .place) v (a .hand .first .0) (a .hand .count) (a .level) (c .before .before .before .before .before .before .before .before .before .run-short .result .next .0) (c .before .before .before .before .before .before .before .before .before .run-short .result .left) (c .before .before .before .before .before .before .before .before .before .run-short .result .at) _ (c .before .before .before .before .before .before .before .before .before .run-short .result) (c .before .before .item-at .result) (sym (c .before .before .item-at .ensures)) (sym (c .before .ends-here .ensures) ∙ (c .if3 .taken)) (ended-as _ halt) (w .most halt) (omega (arith, w .does .most, w .does .size)) (w .does .inside)))
 
@@ -735,7 +735,7 @@ run-sequence-run-item-requires t c κs =
     let s = levelsAt (a .text .now) in
     let n = length (a .text .now) in
     let v = viewOf (a .table .now) in
-    let w = (c .before .before .before .before .before .before .before .before .before .before .before .run-short .ensures) (a .level) in
+    let w = (c .before .before .before .before .before .before .before .before .before .before .before .run-short .ensures .0) (a .level) in
     (omega (arith, (c .before .before .before .before .before .before .before .before .before .before .before .before .before .before .before .before .before .pre .0)), ((c .before .before .before .before .before .before .before .before .before .before .before .before .before .before .before .before .before .pre .1 .0), (w .does .inside, (sym (c .before .before .before .before .item-at .ensures), (sym (c .before .before .before .ends-here .ensures) ∙ (c .before .before .if3 .left), omega (arith, w .does .most, w .does .size))))))
 
 run-sequence-enum-told : (t : ℕ) → run-sequence-lts.Need-enum-told (run-sequence-claims t) (run-sequence-at t) run-sequence.Post run-sequence-Inv-loop run-sequence-μ-loop
@@ -748,7 +748,7 @@ run-sequence-loop-less t c =
     let s = levelsAt (a .text .now) in
     let n = length (a .text .now) in
     let v = viewOf (a .table .now) in
-    let w = (c .before .before .before .before .before .before .before .before .before .before .before .before .before .before .before .before .before .run-short .ensures) (a .level) in
+    let w = (c .before .before .before .before .before .before .before .before .before .before .before .before .before .before .before .before .before .run-short .ensures .0) (a .level) in
     let halt = is-ended _ (sym (c .before .before .before .before .before .before .before .before .before .before .before .before .before .before .is-ended .ensures) ∙ not-false _ (c .before .before .before .before .before .before .before .before .before .before .before .before .before .if1 .left)) in
     let u = (c .before .before .before .before .before .run-item .ensures) in
     omega (arith, u .least (c .enum-told .given .1), u .most (c .enum-told .given .1), w .least halt)
@@ -760,7 +760,7 @@ run-sequence-loop-again t c =
     let s = levelsAt (a .text .now) in
     let n = length (a .text .now) in
     let v = viewOf (a .table .now) in
-    let w = (c .before .before .before .before .before .before .before .before .before .before .before .before .before .before .before .before .before .run-short .ensures) (a .level) in
+    let w = (c .before .before .before .before .before .before .before .before .before .before .before .before .before .before .before .before .before .run-short .ensures .0) (a .level) in
     let halt = is-ended _ (sym (c .before .before .before .before .before .before .before .before .before .before .before .before .before .before .is-ended .ensures) ∙ not-false _ (c .before .before .before .before .before .before .before .before .before .before .before .before .before .if1 .left)) in
     let u = (c .before .before .before .before .before .run-item .ensures) in
     let e = (c .enum-told .given .1) in (
@@ -784,7 +784,7 @@ run-sequence-same-length-4 t c =
     let s = levelsAt (a .text .now) in
     let n = length (a .text .now) in
     let v = viewOf (a .table .now) in
-    let w = (c .before .before .before .before .before .before .before .before .before .before .before .before .before .before .before .before .before .run-short .ensures) (a .level) in
+    let w = (c .before .before .before .before .before .before .before .before .before .before .before .before .before .before .before .before .before .run-short .ensures .0) (a .level) in
     let u = (c .before .before .before .before .before .run-item .ensures) in
     u .does .size ∙ w .does .size ∙ l .inv .0 .size
 
@@ -795,7 +795,7 @@ run-sequence-returns-4 t c =
     let s = levelsAt (a .text .now) in
     let n = length (a .text .now) in
     let v = viewOf (a .table .now) in
-    let w = (c .before .before .before .before .before .before .before .before .before .before .before .before .before .before .before .before .before .run-short .ensures) (a .level) in
+    let w = (c .before .before .before .before .before .before .before .before .before .before .before .before .before .before .before .before .before .run-short .ensures .0) (a .level) in
     let halt = is-ended _ (sym (c .before .before .before .before .before .before .before .before .before .before .before .before .before .before .is-ended .ensures) ∙ not-false _ (c .before .before .before .before .before .before .before .before .before .before .before .before .before .if1 .left)) in
     let u = (c .before .before .before .before .before .run-item .ensures) in
     l .inv .0 .ends _ _ (strides-runs-on s n v (a .hand .first .0) (a .hand .count) (a .level) (l .p) (l .next .0) (l .left) (l .at) (l .out) w halt (runs-left s n v (a .hand .first .0) (a .hand .count) (a .level) (c .before .before .before .before .before .before .before .before .before .before .before .before .before .before .before .before .before .run-short .result .place) (c .before .before .before .before .before .before .before .before .before .before .before .before .before .before .before .before .before .run-short .result .next .0) (c .before .before .before .before .before .before .before .before .before .before .before .before .before .before .before .before .before .run-short .result .left) (c .before .before .before .before .before .before .before .before .before .before .before .before .before .before .before .before .before .run-short .result .at) _ u (c .enum-told2 .given .1)))
@@ -810,7 +810,7 @@ run-sequence-same-length-5 t c =
     let s = levelsAt (a .text .now) in
     let n = length (a .text .now) in
     let v = viewOf (a .table .now) in
-    let w = (c .before .before .before .before .before .before .before .before .before .before .before .before .before .before .before .before .before .run-short .ensures) (a .level) in
+    let w = (c .before .before .before .before .before .before .before .before .before .before .before .before .before .before .before .before .before .run-short .ensures .0) (a .level) in
     let u = (c .before .before .before .before .before .run-item .ensures) in
     u .does .size ∙ w .does .size ∙ l .inv .0 .size
 
@@ -821,7 +821,7 @@ run-sequence-returns-5 t c =
     let s = levelsAt (a .text .now) in
     let n = length (a .text .now) in
     let v = viewOf (a .table .now) in
-    let w = (c .before .before .before .before .before .before .before .before .before .before .before .before .before .before .before .before .before .run-short .ensures) (a .level) in
+    let w = (c .before .before .before .before .before .before .before .before .before .before .before .before .before .before .before .before .before .run-short .ensures .0) (a .level) in
     let halt = is-ended _ (sym (c .before .before .before .before .before .before .before .before .before .before .before .before .before .before .is-ended .ensures) ∙ not-false _ (c .before .before .before .before .before .before .before .before .before .before .before .before .before .if1 .left)) in
     let u = (c .before .before .before .before .before .run-item .ensures) in
     l .inv .0 .ends _ _ (strides-runs-on s n v (a .hand .first .0) (a .hand .count) (a .level) (l .p) (l .next .0) (l .left) (l .at) (l .out) w halt (runs-refused s n v (a .hand .first .0) (a .hand .count) (a .level) (c .before .before .before .before .before .before .before .before .before .before .before .before .before .before .before .before .before .run-short .result .place) (c .before .before .before .before .before .before .before .before .before .before .before .before .before .before .before .before .before .run-short .result .next .0) (c .before .before .before .before .before .before .before .before .before .before .before .before .before .before .before .before .before .run-short .result .left) (c .before .before .before .before .before .before .before .before .before .before .before .before .before .before .before .before .before .run-short .result .at) _ u _ _ (c .enum-told3 .given .1)))

@@ -1,14 +1,17 @@
 -- The loop: whatever is run from here is run from the start. The measure is what is left of the text. Assumes nothing.
 use Prim.Native.Nat.{ℕ, _+_, _-_, _≤_}
-use mathlib.Core.Path.{refl, sym, _∙_}
+use mathlib.Core.Path.{_≡_, refl, sym, ap, subst, _∙_}
 use native.Mathlib.Omega.{arith}
-use borrow.Author.Tests.{not-false}
-use lib.ListN.{length}
+use borrow.Author.Tests.{not-true, not-false}
+use lib.ListN.{length, getD}
 use Rattle.rules.specs.Table.{viewOf}
 use Rattle.rules.specs.Text.{levelsAt}
 use Rattle.working.specs.Settling.{handAt}
+use Rattle.reader.specs.Shorts.{shortAt}
+use Rattle.reader.specs.declared.short.Short.the-variants.{Other}
 use Rattle.running.specs.Runs.{Strides}
-use Rattle.engine.proofs.RunnerLaws.{Onto, is-ended}
+use Rattle.engine.specs.Running.{isEnded}
+use Rattle.engine.proofs.RunnerLaws.{Onto, not-both, is-ended}
 use Rattle.running.proofs.Strides.{strides-on}
 use borrow.Author.Needs.{needs}
 use Rattle.engine.proofs.short.run_short.Statement.{statement}
@@ -31,13 +34,13 @@ put-literals-requires : tie.Need-put-literals-requires Inv-loop μ-loop
 put-literals-requires c κs = ((c .before .loop .inv .1), (c .before .loop .inv .0 .fits))
 
 add-p : tie.Need-add-p Inv-loop μ-loop
-add-p c = omega (arith, (c .before .before .put-literals .ensures .inside), (c .before .before .before .before .before .before .before .before .good))
+add-p c = omega (arith, (c .before .before .put-literals .ensures .0 .inside), (c .before .before .before .before .before .before .before .before .good))
 
 sub-run-one : tie.Need-sub-run-one Inv-loop μ-loop
-sub-run-one c = omega (arith, (c .before .before .put-literals .ensures .steps))
+sub-run-one c = omega (arith, (c .before .before .put-literals .ensures .0 .steps))
 
 add-run-one : tie.Need-add-run-one Inv-loop μ-loop
-add-run-one c = omega (arith, (c .before .before .before .put-literals .ensures .room), (c .before .before .before .before .before .before .before .before .before .good), (c .before .before .before .before .before .loop .inv .0 .size))
+add-run-one c = omega (arith, (c .before .before .before .put-literals .ensures .0 .room), (c .before .before .before .before .before .before .before .before .before .good), (c .before .before .before .before .before .loop .inv .0 .size))
 
 run-one-requires : tie.Need-run-one-requires Inv-loop μ-loop
 run-one-requires c κs =
@@ -46,8 +49,8 @@ run-one-requires c κs =
     let s = levelsAt (a .text .now) in
     let n = length (a .text .now) in
     let v = viewOf (a .table .now) in
-    let puts = (c .before .before .before .put-literals .ensures .runs) v (a .hand .first .0) (a .hand .count) in
-    ((c .before .before .before .before .before .before .before .before .before .pre .0), ((l .inv .0 .inside), ((c .before .before .before .put-literals .ensures .inside), omega (arith, (c .before .before .before .put-literals .ensures .room), (puts 0 (l .next .0) (l .inv .0 .inside)) .does .size))))
+    let puts = (c .before .before .before .put-literals .ensures .0 .runs) v (a .hand .first .0) (a .hand .count) in
+    ((c .before .before .before .before .before .before .before .before .before .pre .0), ((l .inv .0 .inside), ((c .before .before .before .put-literals .ensures .0 .inside), omega (arith, (c .before .before .before .put-literals .ensures .0 .room), (puts 0 (l .next .0) (l .inv .0 .inside)) .does .size))))
 
 is-ended-requires : tie.Need-is-ended-requires Inv-loop μ-loop
 is-ended-requires c κs = search needs
@@ -59,8 +62,8 @@ same-length c =
     let s = levelsAt (a .text .now) in
     let n = length (a .text .now) in
     let v = viewOf (a .table .now) in
-    let puts = (c .before .before .before .before .before .before .before .before .put-literals .ensures .runs) v (a .hand .first .0) (a .hand .count) in
-    let one = (c .before .before .before .before .run-one .ensures) in
+    let puts = (c .before .before .before .before .before .before .before .before .put-literals .ensures .0 .runs) v (a .hand .first .0) (a .hand .count) in
+    let one = (c .before .before .before .before .run-one .ensures .0) in
     (one 0) .does .size ∙ (puts 0 (l .next .0) (l .inv .0 .inside)) .does .size ∙ l .inv .0 .size
 
 returns : tie.Need-returns Inv-loop μ-loop
@@ -70,9 +73,11 @@ returns c =
     let s = levelsAt (a .text .now) in
     let n = length (a .text .now) in
     let v = viewOf (a .table .now) in
-    let puts = (c .before .before .before .before .before .before .before .before .put-literals .ensures .runs) v (a .hand .first .0) (a .hand .count) in
-    let one = (c .before .before .before .before .run-one .ensures) in
-    (l .inv .0 .ends) _ _ (λ level. strides-on s n v (a .hand .first .0) (a .hand .count) level (l .p) (l .next .0) (l .left) (l .at) (l .out) (puts level (l .next .0) (l .inv .0 .inside)) refl (one level))
+    let puts = (c .before .before .before .before .before .before .before .before .put-literals .ensures .0 .runs) v (a .hand .first .0) (a .hand .count) in
+    let one = (c .before .before .before .before .run-one .ensures .0) in (
+      (l .inv .0 .ends) _ _ (λ level. strides-on s n v (a .hand .first .0) (a .hand .count) level (l .p) (l .next .0) (l .left) (l .at) (l .out) (puts level (l .next .0) (l .inv .0 .inside)) refl (one level)),
+      λ h. absurd (not-both (ap isEnded h) (sym (c .before .is-ended .ensures) ∙ not-true _ (c .if1 .taken))),
+    )
 
 same-length-2 : tie.Need-same-length-2 Inv-loop μ-loop
 same-length-2 c =
@@ -81,8 +86,8 @@ same-length-2 c =
     let s = levelsAt (a .text .now) in
     let n = length (a .text .now) in
     let v = viewOf (a .table .now) in
-    let puts = (c .before .before .before .before .before .before .before .before .before .before .put-literals .ensures .runs) v (a .hand .first .0) (a .hand .count) in
-    let one = (c .before .before .before .before .before .before .run-one .ensures) in
+    let puts = (c .before .before .before .before .before .before .before .before .before .before .put-literals .ensures .0 .runs) v (a .hand .first .0) (a .hand .count) in
+    let one = (c .before .before .before .before .before .before .run-one .ensures .0) in
     (one 0) .does .size ∙ (puts 0 (l .next .0) (l .inv .0 .inside)) .does .size ∙ l .inv .0 .size
 
 returns-2 : tie.Need-returns-2 Inv-loop μ-loop
@@ -92,9 +97,14 @@ returns-2 c =
     let s = levelsAt (a .text .now) in
     let n = length (a .text .now) in
     let v = viewOf (a .table .now) in
-    let puts = (c .before .before .before .before .before .before .before .before .before .before .put-literals .ensures .runs) v (a .hand .first .0) (a .hand .count) in
-    let one = (c .before .before .before .before .before .before .run-one .ensures) in
-    (l .inv .0 .ends) _ _ (λ level. strides-on s n v (a .hand .first .0) (a .hand .count) level (l .p) (l .next .0) (l .left) (l .at) (l .out) (puts level (l .next .0) (l .inv .0 .inside)) refl (one level))
+    let puts = (c .before .before .before .before .before .before .before .before .before .before .put-literals .ensures .0 .runs) v (a .hand .first .0) (a .hand .count) in
+    let one = (c .before .before .before .before .before .before .run-one .ensures .0) in (
+      (l .inv .0 .ends) _ _ (λ level. strides-on s n v (a .hand .first .0) (a .hand .count) level (l .p) (l .next .0) (l .left) (l .at) (l .out) (puts level (l .next .0) (l .inv .0 .inside)) refl (one level)),
+      λ h m q o.
+          let other = (c .before .before .before .before .before .before .run-one .ensures .1) h (c .if2 .taken) in
+          let there = (c .before .before .before .before .before .before .before .before .before .before .put-literals .ensures .1) (omega (arith, m, other .1 .0)) (omega (arith, q, c .if2 .taken)) (omega (arith, o, other .1 .1, l .inv .0 .size)) in
+          (subst (λ (p : ℕ). getD (a .text .now) p 0 ≡ 126) (sym (c .if2 .taken)) there, subst (λ (p : ℕ). shortAt (a .text .now) p ≡ Other) (sym (c .if2 .taken)) (other .0)),
+    )
 
 loop-less : tie.Need-loop-less Inv-loop μ-loop
 loop-less c =
@@ -103,8 +113,8 @@ loop-less c =
     let s = levelsAt (a .text .now) in
     let n = length (a .text .now) in
     let v = viewOf (a .table .now) in
-    let puts = (c .before .before .before .before .before .before .before .before .before .before .before .put-literals .ensures .runs) v (a .hand .first .0) (a .hand .count) in
-    let one = (c .before .before .before .before .before .before .before .run-one .ensures) in
+    let puts = (c .before .before .before .before .before .before .before .before .before .before .before .put-literals .ensures .0 .runs) v (a .hand .first .0) (a .hand .count) in
+    let one = (c .before .before .before .before .before .before .before .run-one .ensures .0) in
     let halt = is-ended _ (sym (c .before .before .before .before .is-ended .ensures) ∙ not-false _ (c .before .before .before .if1 .left)) in
     omega (arith, (one 0) .least halt, (one 0) .most halt, (c .before .if2 .left))
 
@@ -115,8 +125,8 @@ loop-again c =
     let s = levelsAt (a .text .now) in
     let n = length (a .text .now) in
     let v = viewOf (a .table .now) in
-    let puts = (c .before .before .before .before .before .before .before .before .before .before .before .put-literals .ensures .runs) v (a .hand .first .0) (a .hand .count) in
-    let one = (c .before .before .before .before .before .before .before .run-one .ensures) in
+    let puts = (c .before .before .before .before .before .before .before .before .before .before .before .put-literals .ensures .0 .runs) v (a .hand .first .0) (a .hand .count) in
+    let one = (c .before .before .before .before .before .before .before .run-one .ensures .0) in
     let halt = is-ended _ (sym (c .before .before .before .before .is-ended .ensures) ∙ not-false _ (c .before .before .before .if1 .left)) in (
       record {
         ends = λ e₂ r k. (l .inv .0 .ends) e₂ r (λ level. strides-on s n v (a .hand .first .0) (a .hand .count) level (l .p) (l .next .0) (l .left) (l .at) (l .out) (puts level (l .next .0) (l .inv .0 .inside)) refl (strides-on s n v (a .hand .first .0) (a .hand .count) level _ _ _ _ _ (one level) halt (k level)));
