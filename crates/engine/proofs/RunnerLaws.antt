@@ -31,7 +31,7 @@ use Rattle.acting.specs.declared.state.Stop.the-variants.{Ended, Left, Refused}
 use Rattle.acting.specs.Ran.{refusedRan, endedRan, hand}
 use Rattle.reader.specs.Marks.{closesAt}
 use Rattle.reader.proofs.MarkLaws.{closes-end}
-use Rattle.running.specs.Runs.{EndsAt, After, restAt, Runs, Steps, Strides, Blocks, Passes, choosing, iterating, overListed}
+use Rattle.running.specs.Runs.{EndsAt, After, restAt, Runs, Steps, Strides, Blocks, Passes, opening, overListed}
 use Rattle.blocks.specs.Parts.{endsSequence, endsAt, opensBlock, iterates, isListValue}
 use Rattle.engine.specs.Running.{isEnded, ActsAlone}
 use Rattle.running.proofs.Arms.{runs-end, steps-deep, steps-block-none, steps-block}
@@ -119,27 +119,6 @@ acts-alone Separator r o e = absurd (not-both refl e)
 acts-alone (Closes b) r o e = absurd (not-both refl e)
 acts-alone Unknown r o e = absurd (not-both refl e)
 
--- a code that opens a block is one of two
-pub is-iteration : (c : Code) → iterates c ≡ true → c ≡ Opens Iteration
-is-iteration (Writes f) h = absurd (not-both h refl)
-is-iteration Jump h = absurd (not-both h refl)
-is-iteration Escape h = absurd (not-both h refl)
-is-iteration (Opens Conditional) h = absurd (not-both h refl)
-is-iteration (Opens Iteration) h = refl
-is-iteration Separator h = absurd (not-both h refl)
-is-iteration (Closes b) h = absurd (not-both h refl)
-is-iteration Unknown h = absurd (not-both h refl)
-
-pub is-conditional : (c : Code) → opensBlock c ≡ true → iterates c ≡ false → c ≡ Opens Conditional
-is-conditional (Writes f) o h = absurd (not-both o refl)
-is-conditional Jump o h = absurd (not-both o refl)
-is-conditional Escape o h = absurd (not-both o refl)
-is-conditional (Opens Conditional) o h = refl
-is-conditional (Opens Iteration) o h = absurd (not-both refl h)
-is-conditional Separator o h = absurd (not-both o refl)
-is-conditional (Closes b) o h = absurd (not-both o refl)
-is-conditional Unknown o h = absurd (not-both o refl)
-
 module _ (t : List ℕ) (v : View) (first count level p i left at : ℕ) (b : List ℕ) (d : Directive) (e : itemAt t p ≡ Written d) where
   abbrev StepsHere : List ℕ → Ran → Type 0
   StepsHere b₂ r = Steps (levelsAt t) (length t) v (hand first count) level p i left at b b₂ r
@@ -170,18 +149,26 @@ module _ (t : List ℕ) (v : View) (first count level p i left at : ℕ) (b : Li
       by (Closes c) w o = absurd (not-both o refl)
       by Unknown w o = absurd (not-both o refl)
 
-  module _ (lv : level ≡ 0 → ⊥) (z : left ≡ 0 → ⊥) {b₂ : List ℕ} {r : Ran} where
-    pub block-iterates : d .code ≡ Opens Iteration
-        → Blocks (levelsAt t) (length t) v (hand first count) (level - 1) (d .next) (iterating (levelsAt t) v (hand first count) p d (d .next) i (left - 1)) (left - 1) at b b₂ r → StepsHere b₂ r
-    block-iterates w u =
-        steps-block (levelsAt t) (length t) v first count level p i left at b p (d .next) (λ m ks. iterating (levelsAt t) v (hand first count) p d (d .next) i m ks) lv z
-        (iterates-run (levelsAt t) v first count p p i left d (d .next) (iteration-at t p d e w)) (ap outer (iteration-at t p d e w .is)) (omega (arith, next-inside t p d e .above)) u
-
-    pub block-chooses : d .code ≡ Opens Conditional
-        → Blocks (levelsAt t) (length t) v (hand first count) (level - 1) (d .next) (choosing (levelsAt t) v (hand first count) p d (d .next) i (left - 1)) (left - 1) at b b₂ r → StepsHere b₂ r
-    block-chooses w u =
-        steps-block (levelsAt t) (length t) v first count level p i left at b p (d .next) (λ m ks. choosing (levelsAt t) v (hand first count) p d (d .next) i m ks) lv z
-        (chooses-run (levelsAt t) v first count p p i left d (d .next) (conditional-at t p d e w)) (ap outer (conditional-at t p d e w .is)) (omega (arith, next-inside t p d e .above)) u
+  pub block-opens : (level ≡ 0 → ⊥) → (left ≡ 0 → ⊥) → {b₂ : List ℕ} {r : Ran} → opensBlock (d .code) ≡ true
+      → Blocks (levelsAt t) (length t) v (hand first count) (level - 1) (d .next) (opening (iterates (d .code)) (levelsAt t) v (hand first count) p d (d .next) i (left - 1)) (left - 1) at b b₂ r
+      → StepsHere b₂ r
+  block-opens lv z {b₂} {r} o u = by (d .code) refl o u
+    where
+      by : (c : Code) → d .code ≡ c → opensBlock c ≡ true
+          → Blocks (levelsAt t) (length t) v (hand first count) (level - 1) (d .next) (opening (iterates c) (levelsAt t) v (hand first count) p d (d .next) i (left - 1)) (left - 1) at b b₂ r
+          → StepsHere b₂ r
+      by (Writes f) w o u = absurd (not-both o refl)
+      by Jump w o u = absurd (not-both o refl)
+      by Escape w o u = absurd (not-both o refl)
+      by (Opens Conditional) w o u =
+          steps-block (levelsAt t) (length t) v first count level p i left at b p (d .next) (λ m ks. opening false (levelsAt t) v (hand first count) p d (d .next) i m ks) lv z
+          (chooses-run (levelsAt t) v first count p p i left d (d .next) (conditional-at t p d e w)) (ap outer (conditional-at t p d e w .is)) (omega (arith, next-inside t p d e .above)) u
+      by (Opens Iteration) w o u =
+          steps-block (levelsAt t) (length t) v first count level p i left at b p (d .next) (λ m ks. opening true (levelsAt t) v (hand first count) p d (d .next) i m ks) lv z
+          (iterates-run (levelsAt t) v first count p p i left d (d .next) (iteration-at t p d e w)) (ap outer (iteration-at t p d e w .is)) (omega (arith, next-inside t p d e .above)) u
+      by Separator w o u = absurd (not-both o refl)
+      by (Closes y) w o u = absurd (not-both o refl)
+      by Unknown w o u = absurd (not-both o refl)
 
 -- a block that is refused, as it is told
 pub blocks-told : (s : ℕ → List Level) (n : ℕ) (v : View) (first count level q : ℕ) (f : List Frame → Flow) (left at : ℕ) (b : List ℕ) (r : Ran) (code x i place : ℕ)

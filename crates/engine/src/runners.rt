@@ -25,21 +25,22 @@ use rules::ArgumentPosition;
 use rules::Directive;
 use rules::Item;
 use rules::Setting;
+use rules::Settings;
 use working::Hand;
 use working::SettledOut;
 use working::argument_at;
 use working::settle_directive;
 ghost use mathlib.Core.Path.{_≡_};
 ghost use mathlib.Core.Bool.{true, false};
-ghost use Prim.Native.Nat.{_≤_};
+ghost use Prim.Native.Nat.{ℕ, _≤_};
 ghost use lib.ListN.{length};
 ghost use Rattle.rules.specs.Directive.{itemAt};
 ghost use Rattle.rules.specs.Table.{viewOf};
 ghost use Rattle.rules.specs.Text.{levelsAt};
 ghost use Rattle.rules.specs.declared.Item.the-variants.{Written};
 ghost use Rattle.working.specs.Settling.{InHand, handAt};
-ghost use Rattle.running.specs.Runs.{Runs, Steps, Blocks, Passes, RunsClause, EndsBlock, choosing, iterating, overListed};
-ghost use Rattle.blocks.specs.Parts.{endsAt, opensBlock};
+ghost use Rattle.running.specs.Runs.{Runs, Steps, Blocks, Passes, RunsClause, EndsBlock, picking, entering, opening, overListed};
+ghost use Rattle.blocks.specs.Parts.{endsAt, opensBlock, iterates};
 
 // The sequence that is read at start, with level levels left for blocks.
 pub fn run_sequence(
@@ -174,7 +175,6 @@ fn run_block(
     requires { ⌜ at ≤ length (now out) ⌝ }
     ensures { λ r. ⌜ Steps (levelsAt (now (text .entry))) (length (now (text .entry))) (viewOf (now (table .entry))) (handAt hand) level p (next .0) left at (now (out .entry)) (now (out .exit)) r ⌝ }
 {
-    let code = d.code;
     let place = d.next;
     let spot = Spot {
         position: p,
@@ -194,14 +194,11 @@ fn run_block(
         left: left - 1,
         at,
     };
-    if is_iteration(code) {
-        return run_iteration(text, table, level - 1, begun, d, hand, next, out);
-    }
-    run_conditional(text, table, level - 1, begun, d, hand, next, out)
+    run_opened(text, table, level - 1, begun, d, hand, next, out)
 }
 
-// The conditional d, once it is begun.
-fn run_conditional(
+// The block that d opens, once it is begun: its parameters are worked out, for either bracket.
+fn run_opened(
     text: &[u8],
     table: &[u8],
     level: usize,
@@ -215,7 +212,7 @@ fn run_conditional(
     requires { ⌜ next .0 ≤ hand .count ⌝ }
     requires { ⌜ d .next ≤ length (now text) ⌝ }
     requires { ⌜ spot .at ≤ length (now out) ⌝ }
-    ensures { λ r. ⌜ Blocks (levelsAt (now (text .entry))) (length (now (text .entry))) (viewOf (now (table .entry))) (handAt hand) level (d .next) (choosing (levelsAt (now (text .entry))) (viewOf (now (table .entry))) (handAt hand) (spot .position) d (d .next) (next .0) (spot .left)) (spot .left) (spot .at) (now (out .entry)) (now (out .exit)) r ⌝ }
+    ensures { λ r. ⌜ Blocks (levelsAt (now (text .entry))) (length (now (text .entry))) (viewOf (now (table .entry))) (handAt hand) level (d .next) (opening (iterates (d .code)) (levelsAt (now (text .entry))) (viewOf (now (table .entry))) (handAt hand) (spot .position) d (d .next) (next .0) (spot .left)) (spot .left) (spot .at) (now (out .entry)) (now (out .exit)) r ⌝ }
 {
     if !is_well_written(d) {
         return refuse(spot, 5, next);
@@ -224,22 +221,38 @@ fn run_conditional(
     match settled {
         SettledOut::Wrong(code) => refuse(spot, code, next),
         SettledOut::Is { settings, next: i } => {
-            let chosen = choose_clause(text, table, hand, d, settings, i);
-            match chosen {
-                Chosen::At { place, next: j } => run_clause(
-                    text,
-                    table,
-                    level,
-                    spot,
-                    place,
-                    hand,
-                    j,
-                    out,
-                ),
-                Chosen::Nothing { inside, next: j } => end_block(text, spot, inside, j),
-                Chosen::Wrong(code) => refuse(spot, code, next),
+            let code = d.code;
+            if is_iteration(code) {
+                return run_iteration(text, table, level, spot, d, settings, hand, i, out);
             }
+            run_conditional(text, table, level, spot, d, settings, hand, i, out)
         }
+    }
+}
+
+// The conditional d, whose parameters are worked out.
+fn run_conditional(
+    text: &[u8],
+    table: &[u8],
+    level: usize,
+    spot: Spot,
+    d: Directive,
+    settings: Settings,
+    hand: Hand,
+    i: ArgumentPosition,
+    out: &mut [u8],
+) -> Ran
+    requires { ⌜ InHand (now table) hand ⌝ }
+    requires { ⌜ i .0 ≤ hand .count ⌝ }
+    requires { ⌜ d .next ≤ length (now text) ⌝ }
+    requires { ⌜ spot .at ≤ length (now out) ⌝ }
+    ensures { λ r. ⌜ ((j : ℕ) → Blocks (levelsAt (now (text .entry))) (length (now (text .entry))) (viewOf (now (table .entry))) (handAt hand) level (d .next) (picking (levelsAt (now (text .entry))) (viewOf (now (table .entry))) (handAt hand) (spot .position) d (d .next) j (spot .left) settings (i .0)) (spot .left) (spot .at) (now (out .entry)) (now (out .exit)) r) ⌝ }
+{
+    let chosen = choose_clause(text, table, hand, d, settings, i);
+    match chosen {
+        Chosen::At { place, next: j } => run_clause(text, table, level, spot, place, hand, j, out),
+        Chosen::Nothing { inside, next: j } => end_block(text, spot, inside, j),
+        Chosen::Wrong(code) => refuse(spot, code, i),
     }
 }
 
@@ -294,37 +307,29 @@ fn run_clause(
     }
 }
 
-// The iteration d, once it is begun.
+// The iteration d, whose parameters are worked out.
 fn run_iteration(
     text: &[u8],
     table: &[u8],
     level: usize,
     spot: Spot,
     d: Directive,
+    settings: Settings,
     hand: Hand,
-    next: ArgumentPosition,
+    i: ArgumentPosition,
     out: &mut [u8],
 ) -> Ran
     requires { ⌜ InHand (now table) hand ⌝ }
-    requires { ⌜ next .0 ≤ hand .count ⌝ }
+    requires { ⌜ i .0 ≤ hand .count ⌝ }
     requires { ⌜ d .next ≤ length (now text) ⌝ }
     requires { ⌜ spot .at ≤ length (now out) ⌝ }
-    ensures { λ r. ⌜ Blocks (levelsAt (now (text .entry))) (length (now (text .entry))) (viewOf (now (table .entry))) (handAt hand) level (d .next) (iterating (levelsAt (now (text .entry))) (viewOf (now (table .entry))) (handAt hand) (spot .position) d (d .next) (next .0) (spot .left)) (spot .left) (spot .at) (now (out .entry)) (now (out .exit)) r ⌝ }
+    ensures { λ r. ⌜ ((j : ℕ) → Blocks (levelsAt (now (text .entry))) (length (now (text .entry))) (viewOf (now (table .entry))) (handAt hand) level (d .next) (entering (levelsAt (now (text .entry))) (viewOf (now (table .entry))) (handAt hand) (spot .position) d (d .next) j (spot .left) settings (i .0)) (spot .left) (spot .at) (now (out .entry)) (now (out .exit)) r) ⌝ }
 {
-    if !is_well_written(d) {
-        return refuse(spot, 5, next);
+    let limit = settings.first;
+    if d.at {
+        return run_passes(text, table, level, spot, d.next, limit, hand, i, out);
     }
-    let settled = settle_directive(table, hand, d, next);
-    match settled {
-        SettledOut::Wrong(code) => refuse(spot, code, next),
-        SettledOut::Is { settings, next: i } => {
-            let limit = settings.first;
-            if d.at {
-                return run_passes(text, table, level, spot, d.next, limit, hand, i, out);
-            }
-            run_over_list(text, table, level, spot, d.next, limit, hand, i, out)
-        }
-    }
+    run_over_list(text, table, level, spot, d.next, limit, hand, i, out)
 }
 
 // The passes over the list that the next argument is.

@@ -18,7 +18,7 @@ use Rattle.acting.specs.declared.state.Stop.the-variants.{Ended, Left, Refused}
 use Rattle.acting.specs.declared.state.Ran.{Ran}
 use Rattle.acting.specs.Ran.{refusedRan, onward, Same, Does, hand}
 use Rattle.acting.proofs.Joining.{stays, here, joined, said, from, then-on, renamed, onward-ended, onward-left, onward-refused}
-use Rattle.running.specs.Runs.{ChoosesAt, IteratesAt, After, restAt, leaving, Runs, Blocks, Passes, choosing, iterating}
+use Rattle.running.specs.Runs.{ChoosesAt, IteratesAt, After, restAt, leaving, Runs, Blocks, Passes, opening}
 use Rattle.running.proofs.Arms.{no-end, no-end-left}
 
 -- what follows a block, by the place after it
@@ -189,13 +189,13 @@ module _ (s : ℕ → List Level) (n : ℕ) (v : View) (first count level q : �
 -- what stands at the place of a conditional and of an iteration, as the runner of blocks takes it
 module _ (s : ℕ → List Level) (v : View) (first count p x i left : ℕ) (d : Directive) (q : ℕ) where
   pub chooses-run : ChoosesAt s p x d q → (ks : List Frame)
-      → run v left (restAt s p) ks (hand first count i) ≡ nested v x left ks (λ _. begin x left (λ m. choosing s v (hand first count) x d q i m ks))
+      → run v left (restAt s p) ks (hand first count i) ≡ nested v x left ks (λ _. begin x left (λ m. opening false s v (hand first count) x d q i m ks))
   chooses-run a ks =
       ap (λ (y : List Level). run v left (innermost y .rest) ks (hand first count i)) (a .is)
       ∙ run-chooses v (hand first count i) x (innermost (outer (s q)) .rest) d (asClauses false (s q)) ks left
 
   pub iterates-run : IteratesAt s p x d q → (ks : List Frame)
-      → run v left (restAt s p) ks (hand first count i) ≡ nested v x left ks (λ _. begin x left (λ m. iterating s v (hand first count) x d q i m ks))
+      → run v left (restAt s p) ks (hand first count i) ≡ nested v x left ks (λ _. begin x left (λ m. opening true s v (hand first count) x d q i m ks))
   iterates-run a ks =
       ap (λ (y : List Level). run v left (innermost y .rest) ks (hand first count i)) (a .is)
       ∙ run-iterates v (hand first count i) x (innermost (outer (s q)) .rest) d (restAt s q) ks left

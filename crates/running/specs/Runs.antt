@@ -1,7 +1,7 @@
 -- What each runner promises, whatever blocks are open around it. Assumes nothing: these are definitions.
 use mathlib.Core.Path.{_≡_}
 use mathlib.Core.List.{List, _∷_}
-use mathlib.Core.Bool.{false}
+use mathlib.Core.Bool.{Bool, true, false}
 use Prim.Native.Nat.{ℕ, _≤_, _+_}
 use lib.ListN.{length}
 use Rattle.rules.specs.Table.{View}
@@ -11,6 +11,7 @@ use Rattle.rules.specs.Run.{Flow, Frame, iteration, conditional, Outside, other
 use Rattle.rules.specs.declared.Directive.{Directive}
 use Rattle.rules.specs.declared.Item.{Item}
 use Rattle.rules.specs.declared.Setting.{Setting}
+use Rattle.rules.specs.declared.Settings.{Settings}
 use Rattle.acting.specs.declared.state.Stop.the-variants.{Ended}
 use Rattle.acting.specs.declared.state.Ran.{Ran}
 use Rattle.acting.specs.declared.state.Spot.{Spot}
@@ -81,17 +82,23 @@ pub record Blocks (s : ℕ → List Level) (n : ℕ) (v : View) (c : ℕ → Con
   pub does : Does (RunsTo v c (level + 1) f (λ ks l j. run v l (restAt s (r .place)) ks (c j)) at b e r) (c 0 .count) left at b e r
   pub after : r .stop ≡ Ended → After s n q (r .place)
 
--- what a conditional at p does once it is begun
-abbrev pub choosing : (ℕ → List Level) → View → (ℕ → Context) → ℕ → Directive → ℕ → ℕ → ℕ → List Frame → Flow
-choosing s v c p d q i left ks =
-    withSettings v p left d (c i)
-    (λ st j. pick v p left d (asClauses false (s q)) (c i) st j (λ x after. run v left x (conditional (innermost (outer (s q)) .rest) ∷ ks) (c after)))
+-- what a conditional at p does once its parameters are worked out, st, and j is the next argument
+abbrev pub picking : (ℕ → List Level) → View → (ℕ → Context) → ℕ → Directive → ℕ → ℕ → ℕ → Settings → ℕ → List Frame → Flow
+picking s v c p d q i left st j ks =
+    pick v p left d (asClauses false (s q)) (c i) st j (λ x after. run v left x (conditional (innermost (outer (s q)) .rest) ∷ ks) (c after))
 
--- what an iteration at p does once it is begun
-abbrev pub iterating : (ℕ → List Level) → View → (ℕ → Context) → ℕ → Directive → ℕ → ℕ → ℕ → List Frame → Flow
-iterating s v c p d q i left ks =
-    withSettings v p left d (c i)
-    (λ st j. enter v p left d (restAt s q) (innermost (outer (s q)) .rest) (c i) st j (λ k inner. run v left end (k ∷ ks) inner))
+-- what an iteration does
+abbrev pub entering : (ℕ → List Level) → View → (ℕ → Context) → ℕ → Directive → ℕ → ℕ → ℕ → Settings → ℕ → List Frame → Flow
+entering s v c p d q i left st j ks =
+    enter v p left d (restAt s q) (innermost (outer (s q)) .rest) (c i) st j (λ k inner. run v left end (k ∷ ks) inner)
+
+-- what a block at p does once it is begun, an iteration or a conditional
+abbrev pub inside : Bool → (ℕ → List Level) → View → (ℕ → Context) → ℕ → Directive → ℕ → ℕ → ℕ → Settings → ℕ → List Frame → Flow
+inside true = entering
+inside false = picking
+
+abbrev pub opening : Bool → (ℕ → List Level) → View → (ℕ → Context) → ℕ → Directive → ℕ → ℕ → ℕ → List Frame → Flow
+opening looped s v c p d q i left ks = withSettings v p left d (c i) (λ st j. inside looped s v c p d q i left st j ks)
 
 -- the passes of the iteration at p whose inside is at q, over the arguments that c gives; it ends as the arguments in
 -- hand outside want it

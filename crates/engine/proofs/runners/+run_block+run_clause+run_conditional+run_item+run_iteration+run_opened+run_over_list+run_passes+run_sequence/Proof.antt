@@ -1,6 +1,7 @@
 -- The runners meet their contracts. The levels that are left fall at each block; the text falls in each turn of the runner
 -- of a sequence, and the steps in each pass. The loops: whatever ends from here is the whole. Assumes nothing.
 use mathlib.Core.Path.{_≡_, refl, sym, ap, subst, _∙_}
+use mathlib.Core.Bool.{Bool}
 use mathlib.Core.List.{List, _∷_}
 use native.Mathlib.Omega.{arith}
 use borrow.Author.Needs.{needs}
@@ -17,15 +18,15 @@ use Rattle.working.specs.Settling.{InHand, handAt}
 use Rattle.working.proofs.Answers.{next-reaches, run-settled, run-refused}
 use Rattle.blocks.specs.Clauses.{onChosen, ChosenIn}
 use Rattle.blocks.specs.declared.clauses.Chosen.{Chosen}
-use Rattle.blocks.specs.Parts.{endsAt, endsSequence, ListsTo}
+use Rattle.blocks.specs.Parts.{endsAt, endsSequence, ListsTo, iterates}
 use Rattle.blocks.specs.declared.passes.Listed.{Listed}
 use Rattle.acting.specs.declared.state.Ran.{Ran}
-use Rattle.running.specs.Runs.{Runs, Steps, Blocks, Passes, restAt, choosing, iterating, overListed}
+use Rattle.running.specs.Runs.{Runs, Steps, Blocks, Passes, restAt, picking, entering, inside, opening, overListed}
 use Rattle.acting.proofs.ActLaws.{settings-ill, argument-there, argument-none}
 use Rattle.running.proofs.Strides.{strides-runs-on, runs-on, runs-left, runs-refused}
 use Rattle.rules.proofs.Bases.{code-right}
 use Rattle.running.proofs.BlockArms.{passes-over, passes-none, passes-on, passes-left, passes-refused, blocks-nothing, blocks-clause, blocks-clause-left, blocks-clause-refused, blocks-same, blocks-list, blocks-as}
-use Rattle.engine.proofs.RunnerLaws.{Onto, is-ended, ended-as, runs-stopped, sequence-ends, sequence-closes, literal-inside, no-other, acts-alone, is-iteration, is-conditional, block-deep, block-none, block-iterates, block-chooses, blocks-told, closes-after, over-other, over-none, over-not, over-list, passes-none-told, passes-on-told}
+use Rattle.engine.proofs.RunnerLaws.{Onto, is-ended, ended-as, runs-stopped, sequence-ends, sequence-closes, literal-inside, no-other, acts-alone, block-deep, block-none, block-opens, blocks-told, closes-after, over-other, over-none, over-not, over-list, passes-none-told, passes-on-told}
 use Rattle.rules.proofs.RunLaws.{choose-yes, choose-no}
 use Rattle.rules.proofs.TextLaws.{next-inside}
 use Prim.Native.Nat.{ℕ, _+_, _-_, _*_, _<_, _≤_}
@@ -33,28 +34,31 @@ use borrow.Fn.Kinds.{In}
 use borrow.Fn.PlainCycle.{Measures, is, falls, and}
 use Rattle.engine.proofs.runners.run_block.Reads as run-block
 use Rattle.engine.proofs.runners.run_block.Kinds as run-block-kinds
-use Rattle.engine.proofs.runners.+run_block+run_clause+run_conditional+run_item+run_iteration+run_over_list+run_passes+run_sequence.Lts-run_block as run-block-lts
+use Rattle.engine.proofs.runners.+run_block+run_clause+run_conditional+run_item+run_iteration+run_opened+run_over_list+run_passes+run_sequence.Lts-run_block as run-block-lts
 use Rattle.engine.proofs.runners.run_clause.Reads as run-clause
 use Rattle.engine.proofs.runners.run_clause.Kinds as run-clause-kinds
-use Rattle.engine.proofs.runners.+run_block+run_clause+run_conditional+run_item+run_iteration+run_over_list+run_passes+run_sequence.Lts-run_clause as run-clause-lts
+use Rattle.engine.proofs.runners.+run_block+run_clause+run_conditional+run_item+run_iteration+run_opened+run_over_list+run_passes+run_sequence.Lts-run_clause as run-clause-lts
 use Rattle.engine.proofs.runners.run_conditional.Reads as run-conditional
 use Rattle.engine.proofs.runners.run_conditional.Kinds as run-conditional-kinds
-use Rattle.engine.proofs.runners.+run_block+run_clause+run_conditional+run_item+run_iteration+run_over_list+run_passes+run_sequence.Lts-run_conditional as run-conditional-lts
+use Rattle.engine.proofs.runners.+run_block+run_clause+run_conditional+run_item+run_iteration+run_opened+run_over_list+run_passes+run_sequence.Lts-run_conditional as run-conditional-lts
 use Rattle.engine.proofs.runners.run_item.Reads as run-item
 use Rattle.engine.proofs.runners.run_item.Kinds as run-item-kinds
-use Rattle.engine.proofs.runners.+run_block+run_clause+run_conditional+run_item+run_iteration+run_over_list+run_passes+run_sequence.Lts-run_item as run-item-lts
+use Rattle.engine.proofs.runners.+run_block+run_clause+run_conditional+run_item+run_iteration+run_opened+run_over_list+run_passes+run_sequence.Lts-run_item as run-item-lts
 use Rattle.engine.proofs.runners.run_iteration.Reads as run-iteration
 use Rattle.engine.proofs.runners.run_iteration.Kinds as run-iteration-kinds
-use Rattle.engine.proofs.runners.+run_block+run_clause+run_conditional+run_item+run_iteration+run_over_list+run_passes+run_sequence.Lts-run_iteration as run-iteration-lts
+use Rattle.engine.proofs.runners.+run_block+run_clause+run_conditional+run_item+run_iteration+run_opened+run_over_list+run_passes+run_sequence.Lts-run_iteration as run-iteration-lts
+use Rattle.engine.proofs.runners.run_opened.Reads as run-opened
+use Rattle.engine.proofs.runners.run_opened.Kinds as run-opened-kinds
+use Rattle.engine.proofs.runners.+run_block+run_clause+run_conditional+run_item+run_iteration+run_opened+run_over_list+run_passes+run_sequence.Lts-run_opened as run-opened-lts
 use Rattle.engine.proofs.runners.run_over_list.Reads as run-over-list
 use Rattle.engine.proofs.runners.run_over_list.Kinds as run-over-list-kinds
-use Rattle.engine.proofs.runners.+run_block+run_clause+run_conditional+run_item+run_iteration+run_over_list+run_passes+run_sequence.Lts-run_over_list as run-over-list-lts
+use Rattle.engine.proofs.runners.+run_block+run_clause+run_conditional+run_item+run_iteration+run_opened+run_over_list+run_passes+run_sequence.Lts-run_over_list as run-over-list-lts
 use Rattle.engine.proofs.runners.run_passes.Reads as run-passes
 use Rattle.engine.proofs.runners.run_passes.Kinds as run-passes-kinds
-use Rattle.engine.proofs.runners.+run_block+run_clause+run_conditional+run_item+run_iteration+run_over_list+run_passes+run_sequence.Lts-run_passes as run-passes-lts
+use Rattle.engine.proofs.runners.+run_block+run_clause+run_conditional+run_item+run_iteration+run_opened+run_over_list+run_passes+run_sequence.Lts-run_passes as run-passes-lts
 use Rattle.engine.proofs.runners.run_sequence.Reads as run-sequence
 use Rattle.engine.proofs.runners.run_sequence.Kinds as run-sequence-kinds
-use Rattle.engine.proofs.runners.+run_block+run_clause+run_conditional+run_item+run_iteration+run_over_list+run_passes+run_sequence.Lts-run_sequence as run-sequence-lts
+use Rattle.engine.proofs.runners.+run_block+run_clause+run_conditional+run_item+run_iteration+run_opened+run_over_list+run_passes+run_sequence.Lts-run_sequence as run-sequence-lts
 use Rattle.blocks.proofs.clauses.choose_clause.Reads as choose-clause-reads
 use Rattle.engine.proofs.items.act.Reads as act-reads
 use Rattle.checking.proofs.text.after_block.Reads as after-block-reads
@@ -74,10 +78,10 @@ use Rattle.reader.proofs.marks.closes_at.Reads as closes-at-reads
 use Rattle.fitting.proofs.places.is_well_written.Reads as is-well-written-reads
 use Rattle.working.proofs.argument_at.Reads as argument-at-reads
 use Rattle.working.proofs.settle_directive.Reads as settle-directive-reads
-use Rattle.engine.proofs.runners.+run_block+run_clause+run_conditional+run_item+run_iteration+run_over_list+run_passes+run_sequence.{
+use Rattle.engine.proofs.runners.+run_block+run_clause+run_conditional+run_item+run_iteration+run_opened+run_over_list+run_passes+run_sequence.{
   statement,
 }
-use Rattle.engine.proofs.runners.+run_block+run_clause+run_conditional+run_item+run_iteration+run_over_list+run_passes+run_sequence.Tie.{
+use Rattle.engine.proofs.runners.+run_block+run_clause+run_conditional+run_item+run_iteration+run_opened+run_over_list+run_passes+run_sequence.Tie.{
   close,
 }
 
@@ -95,6 +99,9 @@ abbrev μ-run-item : Measures 3 run-item-kinds.ps ℕ
 
 abbrev μ-run-iteration : Measures 3 run-iteration-kinds.ps ℕ
 μ-run-iteration κs a = 8 * a .1 .1 .0 + 10
+
+abbrev μ-run-opened : Measures 3 run-opened-kinds.ps ℕ
+μ-run-opened κs a = 8 * a .1 .1 .0 + 11
 
 abbrev μ-run-over-list : Measures 3 run-over-list-kinds.ps ℕ
 μ-run-over-list κs a = 8 * a .1 .1 .0 + 9
@@ -155,6 +162,12 @@ run-iteration-below t =
     (falls 3 run-iteration-kinds.ps _<_ μ-run-iteration t)
     run-iteration.Pre
 
+abbrev run-opened-at : ℕ → In 3 run-opened-kinds.ps
+run-opened-at t = and 3 run-opened-kinds.ps (is 3 run-opened-kinds.ps μ-run-opened t) run-opened.Pre
+
+abbrev run-opened-below : ℕ → In 3 run-opened-kinds.ps
+run-opened-below t = and 3 run-opened-kinds.ps (falls 3 run-opened-kinds.ps _<_ μ-run-opened t) run-opened.Pre
+
 abbrev run-over-list-at : ℕ → In 3 run-over-list-kinds.ps
 run-over-list-at t =
     and 3 run-over-list-kinds.ps (is 3 run-over-list-kinds.ps μ-run-over-list t) run-over-list.Pre
@@ -189,7 +202,7 @@ run-sequence-below t =
 
 -- what the callees of run_block ask and ensure, below the measure t
 abbrev run-block-claims : ℕ → run-block-lts.Claims
-run-block-claims t = (refuse-reads.Asked, refuse-reads.Learnt, is-iteration-reads.Asked, is-iteration-reads.Learnt, run-iteration-below t, run-iteration.Post, run-conditional-below t, run-conditional.Post)
+run-block-claims t = (refuse-reads.Asked, refuse-reads.Learnt, run-opened-below t, run-opened.Post)
 
 run-block-refuse-requires : (t : ℕ) → run-block-lts.Need-refuse-requires (run-block-claims t) (run-block-at t) run-block.Post
 run-block-refuse-requires t c κs = search needs
@@ -207,39 +220,22 @@ run-block-returns-2 t c =
     let a = (c .before .before .before .before .before .before .args) in
     block-none (a .text .now) (viewOf (a .table .now)) (a .hand .first .0) (a .hand .count) (a .level) (a .p) (a .next .0) (a .left) (a .at) (a .out .now) (a .d) (c .before .before .before .before .before .before .pre .1 .1 .1 .0) _ (c .before .before .before .before .before .before .pre .1 .1 .1 .1 .0) (c .before .before .if1 .left) (c .before .if2 .taken) (c .refuse2 .ensures) (c .before .before .before .before .before .before .pre .1 .1 .1 .1 .1) (c .before .before .before .before .before .before .pre .1 .1 .0)
 
-run-block-sub-run-conditional : (t : ℕ) → run-block-lts.Need-sub-run-conditional (run-block-claims t) (run-block-at t) run-block.Post
-run-block-sub-run-conditional t c = search needs
+run-block-sub-run-opened : (t : ℕ) → run-block-lts.Need-sub-run-opened (run-block-claims t) (run-block-at t) run-block.Post
+run-block-sub-run-opened t c = search needs
 
-run-block-is-iteration-requires : (t : ℕ) → run-block-lts.Need-is-iteration-requires (run-block-claims t) (run-block-at t) run-block.Post
-run-block-is-iteration-requires t c κs = search needs
+run-block-sub-run-opened-2 : (t : ℕ) → run-block-lts.Need-sub-run-opened-2 (run-block-claims t) (run-block-at t) run-block.Post
+run-block-sub-run-opened-2 t c = search needs
 
-run-block-sub-run-iteration : (t : ℕ) → run-block-lts.Need-sub-run-iteration (run-block-claims t) (run-block-at t) run-block.Post
-run-block-sub-run-iteration t c = search needs
-
-run-block-run-iteration-requires : (t : ℕ) → run-block-lts.Need-run-iteration-requires (run-block-claims t) (run-block-at t) run-block.Post
-run-block-run-iteration-requires t c κs = (omega (arith, (c .before .before .before .before .before .before .before .before .pre .0), (c .before .before .before .before .if1 .left)), ((c .before .before .before .before .before .before .before .before .pre .1 .0), ((c .before .before .before .before .before .before .before .before .pre .1 .1 .0), ((next-inside ((c .before .before .before .before .before .before .before .before .args .text .now)) ((c .before .before .before .before .before .before .before .before .args .p)) ((c .before .before .before .before .before .before .before .before .args .d)) ((c .before .before .before .before .before .before .before .before .pre .1 .1 .1 .0))) .most, (c .before .before .before .before .before .before .before .before .pre .1 .1 .1 .1 .1)))))
+run-block-run-opened-requires : (t : ℕ) → run-block-lts.Need-run-opened-requires (run-block-claims t) (run-block-at t) run-block.Post
+run-block-run-opened-requires t c κs = (omega (arith, c .before .before .before .before .before .before .pre .0, c .before .before .if1 .left), (c .before .before .before .before .before .before .pre .1 .0, (c .before .before .before .before .before .before .pre .1 .1 .0, ((next-inside (c .before .before .before .before .before .before .args .text .now) (c .before .before .before .before .before .before .args .p) (c .before .before .before .before .before .before .args .d) (c .before .before .before .before .before .before .pre .1 .1 .1 .0)) .most, c .before .before .before .before .before .before .pre .1 .1 .1 .1 .1))))
 
 run-block-same-length : (t : ℕ) → run-block-lts.Need-same-length (run-block-claims t) (run-block-at t) run-block.Post
-run-block-same-length t c = (c .before .before .run-iteration .ensures .does .size)
+run-block-same-length t c = c .before .before .run-opened .ensures .does .size
 
 run-block-returns-3 : (t : ℕ) → run-block-lts.Need-returns-3 (run-block-claims t) (run-block-at t) run-block.Post
 run-block-returns-3 t c =
-    let a = (c .before .before .before .before .before .before .before .before .before .before .before .args) in
-    block-iterates (a .text .now) (viewOf (a .table .now)) (a .hand .first .0) (a .hand .count) (a .level) (a .p) (a .next .0) (a .left) (a .at) (a .out .now) (a .d) (c .before .before .before .before .before .before .before .before .before .before .before .pre .1 .1 .1 .0) (c .before .before .before .before .before .before .before .if1 .left) (c .before .before .before .before .before .before .if2 .left) (is-iteration (a .d .code) (sym (c .before .before .before .before .before .is-iteration .ensures) ∙ (c .before .before .before .before .if3 .taken))) (c .before .before .run-iteration .ensures)
-
-run-block-sub-run-conditional-2 : (t : ℕ) → run-block-lts.Need-sub-run-conditional-2 (run-block-claims t) (run-block-at t) run-block.Post
-run-block-sub-run-conditional-2 t c = search needs
-
-run-block-run-conditional-requires : (t : ℕ) → run-block-lts.Need-run-conditional-requires (run-block-claims t) (run-block-at t) run-block.Post
-run-block-run-conditional-requires t c κs = (omega (arith, (c .before .before .before .before .before .before .before .before .pre .0), (c .before .before .before .before .if1 .left)), ((c .before .before .before .before .before .before .before .before .pre .1 .0), ((c .before .before .before .before .before .before .before .before .pre .1 .1 .0), ((next-inside ((c .before .before .before .before .before .before .before .before .args .text .now)) ((c .before .before .before .before .before .before .before .before .args .p)) ((c .before .before .before .before .before .before .before .before .args .d)) ((c .before .before .before .before .before .before .before .before .pre .1 .1 .1 .0))) .most, (c .before .before .before .before .before .before .before .before .pre .1 .1 .1 .1 .1)))))
-
-run-block-same-length-2 : (t : ℕ) → run-block-lts.Need-same-length-2 (run-block-claims t) (run-block-at t) run-block.Post
-run-block-same-length-2 t c = (c .before .before .run-conditional .ensures .does .size)
-
-run-block-returns-4 : (t : ℕ) → run-block-lts.Need-returns-4 (run-block-claims t) (run-block-at t) run-block.Post
-run-block-returns-4 t c =
-    let a = (c .before .before .before .before .before .before .before .before .before .before .before .args) in
-    block-chooses (a .text .now) (viewOf (a .table .now)) (a .hand .first .0) (a .hand .count) (a .level) (a .p) (a .next .0) (a .left) (a .at) (a .out .now) (a .d) (c .before .before .before .before .before .before .before .before .before .before .before .pre .1 .1 .1 .0) (c .before .before .before .before .before .before .before .if1 .left) (c .before .before .before .before .before .before .if2 .left) (is-conditional (a .d .code) (c .before .before .before .before .before .before .before .before .before .before .before .pre .1 .1 .1 .1 .0) (sym (c .before .before .before .before .before .is-iteration .ensures) ∙ (c .before .before .before .before .if3 .left))) (c .before .before .run-conditional .ensures)
+    let a = c .before .before .before .before .before .before .before .before .before .args in
+    block-opens (a .text .now) (viewOf (a .table .now)) (a .hand .first .0) (a .hand .count) (a .level) (a .p) (a .next .0) (a .left) (a .at) (a .out .now) (a .d) (c .before .before .before .before .before .before .before .before .before .pre .1 .1 .1 .0) (c .before .before .before .before .before .if1 .left) (c .before .before .before .before .if2 .left) (c .before .before .before .before .before .before .before .before .before .pre .1 .1 .1 .1 .0) (c .before .before .run-opened .ensures)
 
 -- what the callees of run_clause ask and ensure, below the measure t
 abbrev run-clause-claims : ℕ → run-clause-lts.Claims
@@ -288,95 +284,63 @@ run-clause-returns-3 t c =
 
 -- what the callees of run_conditional ask and ensure, below the measure t
 abbrev run-conditional-claims : ℕ → run-conditional-lts.Claims
-run-conditional-claims t = (is-well-written-reads.Asked, is-well-written-reads.Learnt, refuse-reads.Asked, refuse-reads.Learnt, settle-directive-reads.Asked, settle-directive-reads.Learnt, choose-clause-reads.Asked, choose-clause-reads.Learnt, run-clause-below t, run-clause.Post, end-block-reads.Asked, end-block-reads.Learnt)
-
-run-conditional-is-well-written-requires : (t : ℕ) → run-conditional-lts.Need-is-well-written-requires (run-conditional-claims t) (run-conditional-at t) run-conditional.Post
-run-conditional-is-well-written-requires t c κs = search needs
-
-run-conditional-refuse-requires : (t : ℕ) → run-conditional-lts.Need-refuse-requires (run-conditional-claims t) (run-conditional-at t) run-conditional.Post
-run-conditional-refuse-requires t c κs = search needs
-
-run-conditional-returns : (t : ℕ) → run-conditional-lts.Need-returns (run-conditional-claims t) (run-conditional-at t) run-conditional.Post
-run-conditional-returns t c =
-    let a = (c .before .before .before .before .before .before .args) in
-    blocks-told (levelsAt (a .text .now)) (length (a .text .now)) (viewOf (a .table .now)) (a .hand .first .0) (a .hand .count) (a .level) (a .d .next) (choosing (levelsAt (a .text .now)) (viewOf (a .table .now)) (handAt (a .hand)) (a .spot .position) (a .d) (a .d .next) (a .next .0) (a .spot .left)) (a .spot .left) (a .spot .at) (a .out .now) _ 5 (a .spot .position) (a .next .0) _ (c .refuse .ensures) (λ ks. settings-ill (viewOf (a .table .now)) (a .spot .position) (a .spot .left) (a .d) (handAt (a .hand) (a .next .0)) _ (sym (c .before .before .is-well-written .ensures) ∙ not-true _ (c .before .if1 .taken))) (c .before .before .before .before .before .before .pre .1 .1 .1 .1) (c .before .before .before .before .before .before .pre .1 .1 .0)
-
-run-conditional-settle-directive-requires : (t : ℕ) → run-conditional-lts.Need-settle-directive-requires (run-conditional-claims t) (run-conditional-at t) run-conditional.Post
-run-conditional-settle-directive-requires t c κs = search needs
-
-run-conditional-enum-known-settled : (t : ℕ) → run-conditional-lts.Need-enum-known-settled (run-conditional-claims t) (run-conditional-at t) run-conditional.Post
-run-conditional-enum-known-settled t c = search needs
-
-run-conditional-refuse-requires-2 : (t : ℕ) → run-conditional-lts.Need-refuse-requires-2 (run-conditional-claims t) (run-conditional-at t) run-conditional.Post
-run-conditional-refuse-requires-2 t c κs = search needs
-
-run-conditional-enum-known-settled-2 : (t : ℕ) → run-conditional-lts.Need-enum-known-settled-2 (run-conditional-claims t) (run-conditional-at t) run-conditional.Post
-run-conditional-enum-known-settled-2 t c = search needs
+run-conditional-claims t = (choose-clause-reads.Asked, choose-clause-reads.Learnt, run-clause-below t, run-clause.Post, end-block-reads.Asked, end-block-reads.Learnt, refuse-reads.Asked, refuse-reads.Learnt)
 
 run-conditional-choose-clause-requires : (t : ℕ) → run-conditional-lts.Need-choose-clause-requires (run-conditional-claims t) (run-conditional-at t) run-conditional.Post
-run-conditional-choose-clause-requires t c κs = ((c .before .before .before .before .before .before .before .before .before .pre .1 .0), (next-reaches (c .before .before .before .settle-directive .ensures) (c .before .settled2 .given .1), (c .before .before .before .before .before .before .before .before .before .pre .1 .1 .1 .0)))
+run-conditional-choose-clause-requires t c κs = (c .before .before .before .pre .1 .0, (c .before .before .before .pre .1 .1 .0, c .before .before .before .pre .1 .1 .1 .0))
 
 run-conditional-enum-known-chosen : (t : ℕ) → run-conditional-lts.Need-enum-known-chosen (run-conditional-claims t) (run-conditional-at t) run-conditional.Post
 run-conditional-enum-known-chosen t c = search needs
 
 run-conditional-run-clause-requires : (t : ℕ) → run-conditional-lts.Need-run-clause-requires (run-conditional-claims t) (run-conditional-at t) run-conditional.Post
 run-conditional-run-clause-requires t c κs =
-    let a = (c .before .before .before .before .before .before .before .before .before .before .before .before .before .before .args) in
+    let a = c .before .before .before .before .before .before .before .before .args in
     let w = subst (ChosenIn (a .text .now) (a .d .next) (a .hand .count)) (c .before .before .chosen .given .1) (c .before .before .before .before .choose-clause .ensures .inside) in
-    (omega (arith, (c .before .before .before .before .before .before .before .before .before .before .before .before .before .before .pre .0)), ((c .before .before .before .before .before .before .before .before .before .before .before .before .before .before .pre .1 .0), (w .1, (w .0 .most, (c .before .before .before .before .before .before .before .before .before .before .before .before .before .before .pre .1 .1 .1 .1)))))
+    (omega (arith, c .before .before .before .before .before .before .before .before .pre .0), (c .before .before .before .before .before .before .before .before .pre .1 .0, (w .1, (w .0 .most, c .before .before .before .before .before .before .before .before .pre .1 .1 .1 .1))))
 
 run-conditional-enum-known-chosen-2 : (t : ℕ) → run-conditional-lts.Need-enum-known-chosen-2 (run-conditional-claims t) (run-conditional-at t) run-conditional.Post
 run-conditional-enum-known-chosen-2 t c = search needs
 
 run-conditional-end-block-requires : (t : ℕ) → run-conditional-lts.Need-end-block-requires (run-conditional-claims t) (run-conditional-at t) run-conditional.Post
 run-conditional-end-block-requires t c κs =
-    let a = (c .before .before .before .before .before .before .before .before .before .before .before .before .before .args) in
-    (subst (ChosenIn (a .text .now) (a .d .next) (a .hand .count)) (c .before .chosen2 .given .1) (c .before .before .before .choose-clause .ensures .inside)) .0 .most
+    let a = c .before .before .before .before .before .before .before .args in
+    let w = subst (ChosenIn (a .text .now) (a .d .next) (a .hand .count)) (c .before .chosen2 .given .1) (c .before .before .before .choose-clause .ensures .inside) in
+    w .0 .most
 
 run-conditional-enum-known-chosen-3 : (t : ℕ) → run-conditional-lts.Need-enum-known-chosen-3 (run-conditional-claims t) (run-conditional-at t) run-conditional.Post
 run-conditional-enum-known-chosen-3 t c = search needs
 
-run-conditional-refuse-requires-3 : (t : ℕ) → run-conditional-lts.Need-refuse-requires-3 (run-conditional-claims t) (run-conditional-at t) run-conditional.Post
-run-conditional-refuse-requires-3 t c κs = search needs
-
-run-conditional-returns-2 : (t : ℕ) → run-conditional-lts.Need-returns-2 (run-conditional-claims t) (run-conditional-at t) run-conditional.Post
-run-conditional-returns-2 t c =
-    let a = (c .before .before .before .before .before .before .before .before .before .before .args) in
-    blocks-told (levelsAt (a .text .now)) (length (a .text .now)) (viewOf (a .table .now)) (a .hand .first .0) (a .hand .count) (a .level) (a .d .next) (choosing (levelsAt (a .text .now)) (viewOf (a .table .now)) (handAt (a .hand)) (a .spot .position) (a .d) (a .d .next) (a .next .0) (a .spot .left)) (a .spot .left) (a .spot .at) (a .out .now) _ _ (a .spot .position) (a .next .0) _ (c .refuse2 .ensures) (λ ks. run-refused (c .before .before .before .before .settle-directive .ensures) (sym (c .before .before .before .before .before .before .is-well-written .ensures) ∙ not-false _ (c .before .before .before .before .before .if1 .left)) (a .spot .position) (a .spot .left) _ (c .before .before .settled .given .1)) (c .before .before .before .before .before .before .before .before .before .before .pre .1 .1 .1 .1) (c .before .before .before .before .before .before .before .before .before .before .pre .1 .1 .0)
+run-conditional-refuse-requires : (t : ℕ) → run-conditional-lts.Need-refuse-requires (run-conditional-claims t) (run-conditional-at t) run-conditional.Post
+run-conditional-refuse-requires t c κs = search needs
 
 run-conditional-same-length : (t : ℕ) → run-conditional-lts.Need-same-length (run-conditional-claims t) (run-conditional-at t) run-conditional.Post
 run-conditional-same-length t c =
-    let a = (c .before .before .before .before .before .before .before .before .before .before .before .before .before .before .before .before .before .args) in
+    let a = c .before .before .before .before .before .before .before .before .before .before .before .args in
     let w = subst (ChosenIn (a .text .now) (a .d .next) (a .hand .count)) (c .before .before .before .before .before .chosen .given .1) (c .before .before .before .before .before .before .before .choose-clause .ensures .inside) in
     (c .before .before .run-clause .ensures .is) (a .d .next) _ (λ ks. refl) (w .0 .outside) (w .0 .least) .does .size
 
+run-conditional-returns : (t : ℕ) → run-conditional-lts.Need-returns (run-conditional-claims t) (run-conditional-at t) run-conditional.Post
+run-conditional-returns t c =
+    let a = c .before .before .before .before .before .before .before .before .before .before .before .args in
+    let w = subst (ChosenIn (a .text .now) (a .d .next) (a .hand .count)) (c .before .before .before .before .before .chosen .given .1) (c .before .before .before .before .before .before .before .choose-clause .ensures .inside) in
+    λ j. (c .before .before .run-clause .ensures .is) (a .d .next) (picking (levelsAt (a .text .now)) (viewOf (a .table .now)) (handAt (a .hand)) (a .spot .position) (a .d) (a .d .next) j (a .spot .left) (a .settings) (a .i .0))
+    (λ ks. (c .before .before .before .before .before .before .before .choose-clause .ensures .is) (a .spot .position) (a .spot .left) j _ ∙ ap (λ (x : Chosen). onChosen (levelsAt (a .text .now)) (a .spot .position) (a .spot .left) x (λ y after. run (viewOf (a .table .now)) (a .spot .left) y (conditional (innermost (outer (levelsAt (a .text .now) (a .d .next))) .rest) ∷ ks) (handAt (a .hand) after))) (c .before .before .before .before .before .chosen .given .1)) (w .0 .outside) (w .0 .least)
+
+run-conditional-returns-2 : (t : ℕ) → run-conditional-lts.Need-returns-2 (run-conditional-claims t) (run-conditional-at t) run-conditional.Post
+run-conditional-returns-2 t c =
+    let a = c .before .before .before .before .before .before .before .before .args in
+    let w = subst (ChosenIn (a .text .now) (a .d .next) (a .hand .count)) (c .before .before .chosen2 .given .1) (c .before .before .before .before .choose-clause .ensures .inside) in
+    let u = c .end-block .ensures in
+    λ j. subst (Blocks (levelsAt (a .text .now)) (length (a .text .now)) (viewOf (a .table .now)) (handAt (a .hand)) (a .level) (a .d .next) (picking (levelsAt (a .text .now)) (viewOf (a .table .now)) (handAt (a .hand)) (a .spot .position) (a .d) (a .d .next) j (a .spot .left) (a .settings) (a .i .0)) (a .spot .left) (a .spot .at) (a .out .now) (a .out .now)) (sym (u .is))
+    (blocks-nothing (levelsAt (a .text .now)) (length (a .text .now)) (viewOf (a .table .now)) (a .hand .first .0) (a .hand .count) (a .level) (a .d .next) (picking (levelsAt (a .text .now)) (viewOf (a .table .now)) (handAt (a .hand)) (a .spot .position) (a .d) (a .d .next) j (a .spot .left) (a .settings) (a .i .0)) (a .spot .left) (a .spot .at) (a .out .now) _ _
+    (λ ks. (c .before .before .before .before .choose-clause .ensures .is) (a .spot .position) (a .spot .left) j _ ∙ ap (λ (x : Chosen). onChosen (levelsAt (a .text .now)) (a .spot .position) (a .spot .left) x (λ y after. run (viewOf (a .table .now)) (a .spot .left) y (conditional (innermost (outer (levelsAt (a .text .now) (a .d .next))) .rest) ∷ ks) (handAt (a .hand) after))) (c .before .before .chosen2 .given .1))
+    (record { is = u .after .is ∙ w .0 .outside; least = omega (arith, u .after .least, w .0 .least); most = u .after .most }) (c .before .before .before .before .before .before .before .before .pre .1 .1 .1 .1) (w .1))
+
 run-conditional-returns-3 : (t : ℕ) → run-conditional-lts.Need-returns-3 (run-conditional-claims t) (run-conditional-at t) run-conditional.Post
 run-conditional-returns-3 t c =
-    let a = (c .before .before .before .before .before .before .before .before .before .before .before .before .before .before .before .before .before .args) in
-    let w = subst (ChosenIn (a .text .now) (a .d .next) (a .hand .count)) (c .before .before .before .before .before .chosen .given .1) (c .before .before .before .before .before .before .before .choose-clause .ensures .inside) in
-    (c .before .before .run-clause .ensures .is) (a .d .next) (choosing (levelsAt (a .text .now)) (viewOf (a .table .now)) (handAt (a .hand)) (a .spot .position) (a .d) (a .d .next) (a .next .0) (a .spot .left))
-    (λ ks. run-settled (c .before .before .before .before .before .before .before .before .before .before .before .settle-directive .ensures) (sym (c .before .before .before .before .before .before .before .before .before .before .before .before .before .is-well-written .ensures) ∙ not-false _ (c .before .before .before .before .before .before .before .before .before .before .before .before .if1 .left)) (a .spot .position) (a .spot .left) _ (c .before .before .before .before .before .before .before .before .before .settled2 .given .1)
-    ∙ (c .before .before .before .before .before .before .before .choose-clause .ensures .is) (a .spot .position) (a .spot .left) (a .next .0) _
-    ∙ ap (λ (x : Chosen). onChosen (levelsAt (a .text .now)) (a .spot .position) (a .spot .left) x (λ y after. run (viewOf (a .table .now)) (a .spot .left) y (conditional (innermost (outer (levelsAt (a .text .now) (a .d .next))) .rest) ∷ ks) (handAt (a .hand) after))) (c .before .before .before .before .before .chosen .given .1)) (w .0 .outside) (w .0 .least)
-
-run-conditional-returns-4 : (t : ℕ) → run-conditional-lts.Need-returns-4 (run-conditional-claims t) (run-conditional-at t) run-conditional.Post
-run-conditional-returns-4 t c =
-    let a = (c .before .before .before .before .before .before .before .before .before .before .before .before .before .before .args) in
-    let w = subst (ChosenIn (a .text .now) (a .d .next) (a .hand .count)) (c .before .before .chosen2 .given .1) (c .before .before .before .before .choose-clause .ensures .inside) in
-    let u = (c .end-block .ensures) in
-    subst (Blocks (levelsAt (a .text .now)) (length (a .text .now)) (viewOf (a .table .now)) (handAt (a .hand)) (a .level) (a .d .next) (choosing (levelsAt (a .text .now)) (viewOf (a .table .now)) (handAt (a .hand)) (a .spot .position) (a .d) (a .d .next) (a .next .0) (a .spot .left)) (a .spot .left) (a .spot .at) (a .out .now) (a .out .now)) (sym (u .is))
-    (blocks-nothing (levelsAt (a .text .now)) (length (a .text .now)) (viewOf (a .table .now)) (a .hand .first .0) (a .hand .count) (a .level) (a .d .next) (choosing (levelsAt (a .text .now)) (viewOf (a .table .now)) (handAt (a .hand)) (a .spot .position) (a .d) (a .d .next) (a .next .0) (a .spot .left)) (a .spot .left) (a .spot .at) (a .out .now) _ _
-    (λ ks. run-settled (c .before .before .before .before .before .before .before .before .settle-directive .ensures) (sym (c .before .before .before .before .before .before .before .before .before .before .is-well-written .ensures) ∙ not-false _ (c .before .before .before .before .before .before .before .before .before .if1 .left)) (a .spot .position) (a .spot .left) _ (c .before .before .before .before .before .before .settled2 .given .1)
-    ∙ (c .before .before .before .before .choose-clause .ensures .is) (a .spot .position) (a .spot .left) (a .next .0) _
-    ∙ ap (λ (x : Chosen). onChosen (levelsAt (a .text .now)) (a .spot .position) (a .spot .left) x (λ y after. run (viewOf (a .table .now)) (a .spot .left) y (conditional (innermost (outer (levelsAt (a .text .now) (a .d .next))) .rest) ∷ ks) (handAt (a .hand) after))) (c .before .before .chosen2 .given .1)) (record { is = u .after .is ∙ w .0 .outside; least = omega (arith, u .after .least, w .0 .least); most = u .after .most }) (c .before .before .before .before .before .before .before .before .before .before .before .before .before .before .pre .1 .1 .1 .1) (w .1))
-
-run-conditional-returns-5 : (t : ℕ) → run-conditional-lts.Need-returns-5 (run-conditional-claims t) (run-conditional-at t) run-conditional.Post
-run-conditional-returns-5 t c =
-    let a = (c .before .before .before .before .before .before .before .before .before .before .before .before .before .before .args) in
-    blocks-told (levelsAt (a .text .now)) (length (a .text .now)) (viewOf (a .table .now)) (a .hand .first .0) (a .hand .count) (a .level) (a .d .next) (choosing (levelsAt (a .text .now)) (viewOf (a .table .now)) (handAt (a .hand)) (a .spot .position) (a .d) (a .d .next) (a .next .0) (a .spot .left)) (a .spot .left) (a .spot .at) (a .out .now) _ _ (a .spot .position) (a .next .0) _ (c .refuse3 .ensures)
-    (λ ks. run-settled (c .before .before .before .before .before .before .before .before .settle-directive .ensures) (sym (c .before .before .before .before .before .before .before .before .before .before .is-well-written .ensures) ∙ not-false _ (c .before .before .before .before .before .before .before .before .before .if1 .left)) (a .spot .position) (a .spot .left) _ (c .before .before .before .before .before .before .settled2 .given .1)
-    ∙ (c .before .before .before .before .choose-clause .ensures .is) (a .spot .position) (a .spot .left) (a .next .0) _
-    ∙ ap (λ (x : Chosen). onChosen (levelsAt (a .text .now)) (a .spot .position) (a .spot .left) x (λ y after. run (viewOf (a .table .now)) (a .spot .left) y (conditional (innermost (outer (levelsAt (a .text .now) (a .d .next))) .rest) ∷ ks) (handAt (a .hand) after))) (c .before .before .chosen3 .given .1)) (c .before .before .before .before .before .before .before .before .before .before .before .before .before .before .pre .1 .1 .1 .1) (c .before .before .before .before .before .before .before .before .before .before .before .before .before .before .pre .1 .1 .0)
+    let a = c .before .before .before .before .before .before .before .before .args in
+    λ j. blocks-told (levelsAt (a .text .now)) (length (a .text .now)) (viewOf (a .table .now)) (a .hand .first .0) (a .hand .count) (a .level) (a .d .next) (picking (levelsAt (a .text .now)) (viewOf (a .table .now)) (handAt (a .hand)) (a .spot .position) (a .d) (a .d .next) j (a .spot .left) (a .settings) (a .i .0)) (a .spot .left) (a .spot .at) (a .out .now) _ _ (a .spot .position) (a .i .0) _ (c .refuse .ensures)
+    (λ ks. (c .before .before .before .before .choose-clause .ensures .is) (a .spot .position) (a .spot .left) j _ ∙ ap (λ (x : Chosen). onChosen (levelsAt (a .text .now)) (a .spot .position) (a .spot .left) x (λ y after. run (viewOf (a .table .now)) (a .spot .left) y (conditional (innermost (outer (levelsAt (a .text .now) (a .d .next))) .rest) ∷ ks) (handAt (a .hand) after))) (c .before .before .chosen3 .given .1)) (c .before .before .before .before .before .before .before .before .pre .1 .1 .1 .1) (c .before .before .before .before .before .before .before .before .pre .1 .1 .0)
 
 -- what the callees of run_item ask and ensure, below the measure t
 abbrev run-item-claims : ℕ → run-item-lts.Claims
@@ -429,58 +393,86 @@ run-item-returns-4 t c = absurd (no-other _ ((c .before .before .before .before 
 
 -- what the callees of run_iteration ask and ensure, below the measure t
 abbrev run-iteration-claims : ℕ → run-iteration-lts.Claims
-run-iteration-claims t = (is-well-written-reads.Asked, is-well-written-reads.Learnt, refuse-reads.Asked, refuse-reads.Learnt, settle-directive-reads.Asked, settle-directive-reads.Learnt, run-passes-below t, run-passes.Post, run-over-list-below t, run-over-list.Post)
+run-iteration-claims t = (run-passes-below t, run-passes.Post, run-over-list-below t, run-over-list.Post)
 
-run-iteration-is-well-written-requires : (t : ℕ) → run-iteration-lts.Need-is-well-written-requires (run-iteration-claims t) (run-iteration-at t) run-iteration.Post
-run-iteration-is-well-written-requires t c κs = search needs
+run-iteration-run-passes-requires : (t : ℕ) → run-iteration-lts.Need-run-passes-requires (run-iteration-claims t) (run-iteration-at t) run-iteration.Post
+run-iteration-run-passes-requires t c κs = (omega (arith, c .before .before .before .before .before .pre .0), (c .before .before .before .before .before .pre .1 .0, (c .before .before .before .before .before .pre .1 .1 .0, (c .before .before .before .before .before .pre .1 .1 .1 .0, c .before .before .before .before .before .pre .1 .1 .1 .1))))
 
-run-iteration-refuse-requires : (t : ℕ) → run-iteration-lts.Need-refuse-requires (run-iteration-claims t) (run-iteration-at t) run-iteration.Post
-run-iteration-refuse-requires t c κs = search needs
+run-iteration-same-length : (t : ℕ) → run-iteration-lts.Need-same-length (run-iteration-claims t) (run-iteration-at t) run-iteration.Post
+run-iteration-same-length t c = c .before .before .run-passes .ensures .does .size
 
 run-iteration-returns : (t : ℕ) → run-iteration-lts.Need-returns (run-iteration-claims t) (run-iteration-at t) run-iteration.Post
 run-iteration-returns t c =
-    let a = (c .before .before .before .before .before .before .args) in
-    blocks-told (levelsAt (a .text .now)) (length (a .text .now)) (viewOf (a .table .now)) (a .hand .first .0) (a .hand .count) (a .level) (a .d .next) (iterating (levelsAt (a .text .now)) (viewOf (a .table .now)) (handAt (a .hand)) (a .spot .position) (a .d) (a .d .next) (a .next .0) (a .spot .left)) (a .spot .left) (a .spot .at) (a .out .now) _ 5 (a .spot .position) (a .next .0) _ (c .refuse .ensures) (λ ks. settings-ill (viewOf (a .table .now)) (a .spot .position) (a .spot .left) (a .d) (handAt (a .hand) (a .next .0)) _ (sym (c .before .before .is-well-written .ensures) ∙ not-true _ (c .before .if1 .taken))) (c .before .before .before .before .before .before .pre .1 .1 .1 .1) (c .before .before .before .before .before .before .pre .1 .1 .0)
+    let a = c .before .before .before .before .before .before .before .before .args in
+    λ j. blocks-same (levelsAt (a .text .now)) (length (a .text .now)) (viewOf (a .table .now)) (a .hand .first .0) (a .hand .count) (a .level) (a .d .next) (entering (levelsAt (a .text .now)) (viewOf (a .table .now)) (handAt (a .hand)) (a .spot .position) (a .d) (a .d .next) j (a .spot .left) (a .settings) (a .i .0)) (a .spot .left) (a .spot .at) (a .out .now) (a .spot .position) _ _ (λ ks. choose-yes _ _ (c .before .before .before .before .if1 .taken)) (c .before .before .run-passes .ensures)
 
-run-iteration-settle-directive-requires : (t : ℕ) → run-iteration-lts.Need-settle-directive-requires (run-iteration-claims t) (run-iteration-at t) run-iteration.Post
-run-iteration-settle-directive-requires t c κs = search needs
+run-iteration-run-over-list-requires : (t : ℕ) → run-iteration-lts.Need-run-over-list-requires (run-iteration-claims t) (run-iteration-at t) run-iteration.Post
+run-iteration-run-over-list-requires t c κs = (omega (arith, c .before .before .before .before .before .pre .0), (c .before .before .before .before .before .pre .1 .0, (c .before .before .before .before .before .pre .1 .1 .0, (c .before .before .before .before .before .pre .1 .1 .1 .0, c .before .before .before .before .before .pre .1 .1 .1 .1))))
 
-run-iteration-enum-known-settled : (t : ℕ) → run-iteration-lts.Need-enum-known-settled (run-iteration-claims t) (run-iteration-at t) run-iteration.Post
-run-iteration-enum-known-settled t c = search needs
-
-run-iteration-refuse-requires-2 : (t : ℕ) → run-iteration-lts.Need-refuse-requires-2 (run-iteration-claims t) (run-iteration-at t) run-iteration.Post
-run-iteration-refuse-requires-2 t c κs = search needs
-
-run-iteration-enum-known-settled-2 : (t : ℕ) → run-iteration-lts.Need-enum-known-settled-2 (run-iteration-claims t) (run-iteration-at t) run-iteration.Post
-run-iteration-enum-known-settled-2 t c = search needs
-
-run-iteration-run-passes-requires : (t : ℕ) → run-iteration-lts.Need-run-passes-requires (run-iteration-claims t) (run-iteration-at t) run-iteration.Post
-run-iteration-run-passes-requires t c κs = (omega (arith, (c .before .before .before .before .before .before .before .before .before .before .before .pre .0)), ((c .before .before .before .before .before .before .before .before .before .before .before .pre .1 .0), (next-reaches (c .before .before .before .before .before .settle-directive .ensures) (c .before .before .before .settled2 .given .1), ((c .before .before .before .before .before .before .before .before .before .before .before .pre .1 .1 .1 .0), (c .before .before .before .before .before .before .before .before .before .before .before .pre .1 .1 .1 .1)))))
-
-run-iteration-same-length : (t : ℕ) → run-iteration-lts.Need-same-length (run-iteration-claims t) (run-iteration-at t) run-iteration.Post
-run-iteration-same-length t c = (c .before .before .run-passes .ensures .does .size)
+run-iteration-same-length-2 : (t : ℕ) → run-iteration-lts.Need-same-length-2 (run-iteration-claims t) (run-iteration-at t) run-iteration.Post
+run-iteration-same-length-2 t c = c .before .before .run-over-list .ensures .does .size
 
 run-iteration-returns-2 : (t : ℕ) → run-iteration-lts.Need-returns-2 (run-iteration-claims t) (run-iteration-at t) run-iteration.Post
 run-iteration-returns-2 t c =
-    let a = (c .before .before .before .before .before .before .before .before .before .before .before .before .before .before .args) in
-    blocks-same (levelsAt (a .text .now)) (length (a .text .now)) (viewOf (a .table .now)) (a .hand .first .0) (a .hand .count) (a .level) (a .d .next) (iterating (levelsAt (a .text .now)) (viewOf (a .table .now)) (handAt (a .hand)) (a .spot .position) (a .d) (a .d .next) (a .next .0) (a .spot .left)) (a .spot .left) (a .spot .at) (a .out .now) (a .spot .position) _ _
-    (λ ks. run-settled (c .before .before .before .before .before .before .before .before .settle-directive .ensures) (sym (c .before .before .before .before .before .before .before .before .before .before .is-well-written .ensures) ∙ not-false _ (c .before .before .before .before .before .before .before .before .before .if1 .left)) (a .spot .position) (a .spot .left) _ (c .before .before .before .before .before .before .settled2 .given .1) ∙ choose-yes _ _ (c .before .before .before .before .if2 .taken)) (c .before .before .run-passes .ensures)
+    let a = c .before .before .before .before .before .before .before .before .args in
+    λ j. blocks-as (entering (levelsAt (a .text .now)) (viewOf (a .table .now)) (handAt (a .hand)) (a .spot .position) (a .d) (a .d .next) j (a .spot .left) (a .settings) (a .i .0)) _ (λ ks. choose-no _ _ (c .before .before .before .before .if1 .left)) (c .before .before .run-over-list .ensures)
 
-run-iteration-run-over-list-requires : (t : ℕ) → run-iteration-lts.Need-run-over-list-requires (run-iteration-claims t) (run-iteration-at t) run-iteration.Post
-run-iteration-run-over-list-requires t c κs = (omega (arith, (c .before .before .before .before .before .before .before .before .before .before .before .pre .0)), ((c .before .before .before .before .before .before .before .before .before .before .before .pre .1 .0), (next-reaches (c .before .before .before .before .before .settle-directive .ensures) (c .before .before .before .settled2 .given .1), ((c .before .before .before .before .before .before .before .before .before .before .before .pre .1 .1 .1 .0), (c .before .before .before .before .before .before .before .before .before .before .before .pre .1 .1 .1 .1)))))
+-- what the callees of run_opened ask and ensure, below the measure t
+abbrev run-opened-claims : ℕ → run-opened-lts.Claims
+run-opened-claims t = (is-well-written-reads.Asked, is-well-written-reads.Learnt, refuse-reads.Asked, refuse-reads.Learnt, settle-directive-reads.Asked, settle-directive-reads.Learnt, is-iteration-reads.Asked, is-iteration-reads.Learnt, run-iteration-below t, run-iteration.Post, run-conditional-below t, run-conditional.Post)
 
-run-iteration-returns-3 : (t : ℕ) → run-iteration-lts.Need-returns-3 (run-iteration-claims t) (run-iteration-at t) run-iteration.Post
-run-iteration-returns-3 t c =
-    let a = (c .before .before .before .before .before .before .before .before .before .before .args) in
-    blocks-told (levelsAt (a .text .now)) (length (a .text .now)) (viewOf (a .table .now)) (a .hand .first .0) (a .hand .count) (a .level) (a .d .next) (iterating (levelsAt (a .text .now)) (viewOf (a .table .now)) (handAt (a .hand)) (a .spot .position) (a .d) (a .d .next) (a .next .0) (a .spot .left)) (a .spot .left) (a .spot .at) (a .out .now) _ _ (a .spot .position) (a .next .0) _ (c .refuse2 .ensures) (λ ks. run-refused (c .before .before .before .before .settle-directive .ensures) (sym (c .before .before .before .before .before .before .is-well-written .ensures) ∙ not-false _ (c .before .before .before .before .before .if1 .left)) (a .spot .position) (a .spot .left) _ (c .before .before .settled .given .1)) (c .before .before .before .before .before .before .before .before .before .before .pre .1 .1 .1 .1) (c .before .before .before .before .before .before .before .before .before .before .pre .1 .1 .0)
+run-opened-is-well-written-requires : (t : ℕ) → run-opened-lts.Need-is-well-written-requires (run-opened-claims t) (run-opened-at t) run-opened.Post
+run-opened-is-well-written-requires t c κs = search needs
 
-run-iteration-same-length-2 : (t : ℕ) → run-iteration-lts.Need-same-length-2 (run-iteration-claims t) (run-iteration-at t) run-iteration.Post
-run-iteration-same-length-2 t c = (c .before .before .run-over-list .ensures .does .size)
+run-opened-refuse-requires : (t : ℕ) → run-opened-lts.Need-refuse-requires (run-opened-claims t) (run-opened-at t) run-opened.Post
+run-opened-refuse-requires t c κs = search needs
 
-run-iteration-returns-4 : (t : ℕ) → run-iteration-lts.Need-returns-4 (run-iteration-claims t) (run-iteration-at t) run-iteration.Post
-run-iteration-returns-4 t c =
-    let a = (c .before .before .before .before .before .before .before .before .before .before .before .before .before .before .args) in
-    blocks-as (iterating (levelsAt (a .text .now)) (viewOf (a .table .now)) (handAt (a .hand)) (a .spot .position) (a .d) (a .d .next) (a .next .0) (a .spot .left)) _ (λ ks. run-settled (c .before .before .before .before .before .before .before .before .settle-directive .ensures) (sym (c .before .before .before .before .before .before .before .before .before .before .is-well-written .ensures) ∙ not-false _ (c .before .before .before .before .before .before .before .before .before .if1 .left)) (a .spot .position) (a .spot .left) _ (c .before .before .before .before .before .before .settled2 .given .1) ∙ choose-no _ _ (c .before .before .before .before .if2 .left)) (c .before .before .run-over-list .ensures)
+run-opened-returns : (t : ℕ) → run-opened-lts.Need-returns (run-opened-claims t) (run-opened-at t) run-opened.Post
+run-opened-returns t c =
+    let a = c .before .before .before .before .before .before .args in
+    blocks-told (levelsAt (a .text .now)) (length (a .text .now)) (viewOf (a .table .now)) (a .hand .first .0) (a .hand .count) (a .level) (a .d .next) (opening (iterates (a .d .code)) (levelsAt (a .text .now)) (viewOf (a .table .now)) (handAt (a .hand)) (a .spot .position) (a .d) (a .d .next) (a .next .0) (a .spot .left)) (a .spot .left) (a .spot .at) (a .out .now) _ 5 (a .spot .position) (a .next .0) _ (c .refuse .ensures) (λ ks. settings-ill (viewOf (a .table .now)) (a .spot .position) (a .spot .left) (a .d) (handAt (a .hand) (a .next .0)) _ (sym (c .before .before .is-well-written .ensures) ∙ not-true _ (c .before .if1 .taken))) (c .before .before .before .before .before .before .pre .1 .1 .1 .1) (c .before .before .before .before .before .before .pre .1 .1 .0)
+
+run-opened-settle-directive-requires : (t : ℕ) → run-opened-lts.Need-settle-directive-requires (run-opened-claims t) (run-opened-at t) run-opened.Post
+run-opened-settle-directive-requires t c κs = search needs
+
+run-opened-enum-known-settled : (t : ℕ) → run-opened-lts.Need-enum-known-settled (run-opened-claims t) (run-opened-at t) run-opened.Post
+run-opened-enum-known-settled t c = search needs
+
+run-opened-refuse-requires-2 : (t : ℕ) → run-opened-lts.Need-refuse-requires-2 (run-opened-claims t) (run-opened-at t) run-opened.Post
+run-opened-refuse-requires-2 t c κs = search needs
+
+run-opened-enum-known-settled-2 : (t : ℕ) → run-opened-lts.Need-enum-known-settled-2 (run-opened-claims t) (run-opened-at t) run-opened.Post
+run-opened-enum-known-settled-2 t c = search needs
+
+run-opened-is-iteration-requires : (t : ℕ) → run-opened-lts.Need-is-iteration-requires (run-opened-claims t) (run-opened-at t) run-opened.Post
+run-opened-is-iteration-requires t c κs = search needs
+
+run-opened-run-iteration-requires : (t : ℕ) → run-opened-lts.Need-run-iteration-requires (run-opened-claims t) (run-opened-at t) run-opened.Post
+run-opened-run-iteration-requires t c κs = (omega (arith, c .before .before .before .before .before .before .before .before .before .before .before .before .pre .0), (c .before .before .before .before .before .before .before .before .before .before .before .before .pre .1 .0, (next-reaches (c .before .before .before .before .before .before .settle-directive .ensures) (c .before .before .before .before .settled2 .given .1), (c .before .before .before .before .before .before .before .before .before .before .before .before .pre .1 .1 .1 .0, c .before .before .before .before .before .before .before .before .before .before .before .before .pre .1 .1 .1 .1))))
+
+run-opened-same-length : (t : ℕ) → run-opened-lts.Need-same-length (run-opened-claims t) (run-opened-at t) run-opened.Post
+run-opened-same-length t c = ((c .before .before .run-iteration .ensures) 0) .does .size
+
+run-opened-returns-2 : (t : ℕ) → run-opened-lts.Need-returns-2 (run-opened-claims t) (run-opened-at t) run-opened.Post
+run-opened-returns-2 t c =
+    let a = c .before .before .before .before .before .before .before .before .before .before .before .before .before .before .before .args in
+    blocks-as (opening (iterates (a .d .code)) (levelsAt (a .text .now)) (viewOf (a .table .now)) (handAt (a .hand)) (a .spot .position) (a .d) (a .d .next) (a .next .0) (a .spot .left)) _ (λ ks. run-settled (c .before .before .before .before .before .before .before .before .before .settle-directive .ensures) (sym (c .before .before .before .before .before .before .before .before .before .before .before .is-well-written .ensures) ∙ not-false _ (c .before .before .before .before .before .before .before .before .before .before .if1 .left)) (a .spot .position) (a .spot .left) _ (c .before .before .before .before .before .before .before .settled2 .given .1) ∙ ap (λ (y : Bool). inside y (levelsAt (a .text .now)) (viewOf (a .table .now)) (handAt (a .hand)) (a .spot .position) (a .d) (a .d .next) (a .next .0) (a .spot .left) (c .before .before .before .before .before .before .before .settled2 .given .0 .0) (c .before .before .before .before .before .before .before .settled2 .given .0 .1 .0 .0) ks) (sym (c .before .before .before .before .before .is-iteration .ensures) ∙ c .before .before .before .before .if2 .taken)) ((c .before .before .run-iteration .ensures) (a .next .0))
+
+run-opened-run-conditional-requires : (t : ℕ) → run-opened-lts.Need-run-conditional-requires (run-opened-claims t) (run-opened-at t) run-opened.Post
+run-opened-run-conditional-requires t c κs = (omega (arith, c .before .before .before .before .before .before .before .before .before .before .before .before .pre .0), (c .before .before .before .before .before .before .before .before .before .before .before .before .pre .1 .0, (next-reaches (c .before .before .before .before .before .before .settle-directive .ensures) (c .before .before .before .before .settled2 .given .1), (c .before .before .before .before .before .before .before .before .before .before .before .before .pre .1 .1 .1 .0, c .before .before .before .before .before .before .before .before .before .before .before .before .pre .1 .1 .1 .1))))
+
+run-opened-returns-3 : (t : ℕ) → run-opened-lts.Need-returns-3 (run-opened-claims t) (run-opened-at t) run-opened.Post
+run-opened-returns-3 t c =
+    let a = c .before .before .before .before .before .before .before .before .before .before .args in
+    blocks-told (levelsAt (a .text .now)) (length (a .text .now)) (viewOf (a .table .now)) (a .hand .first .0) (a .hand .count) (a .level) (a .d .next) (opening (iterates (a .d .code)) (levelsAt (a .text .now)) (viewOf (a .table .now)) (handAt (a .hand)) (a .spot .position) (a .d) (a .d .next) (a .next .0) (a .spot .left)) (a .spot .left) (a .spot .at) (a .out .now) _ _ (a .spot .position) (a .next .0) _ (c .refuse2 .ensures) (λ ks. run-refused (c .before .before .before .before .settle-directive .ensures) (sym (c .before .before .before .before .before .before .is-well-written .ensures) ∙ not-false _ (c .before .before .before .before .before .if1 .left)) (a .spot .position) (a .spot .left) _ (c .before .before .settled .given .1)) (c .before .before .before .before .before .before .before .before .before .before .pre .1 .1 .1 .1) (c .before .before .before .before .before .before .before .before .before .before .pre .1 .1 .0)
+
+run-opened-same-length-2 : (t : ℕ) → run-opened-lts.Need-same-length-2 (run-opened-claims t) (run-opened-at t) run-opened.Post
+run-opened-same-length-2 t c = ((c .before .before .run-conditional .ensures) 0) .does .size
+
+run-opened-returns-4 : (t : ℕ) → run-opened-lts.Need-returns-4 (run-opened-claims t) (run-opened-at t) run-opened.Post
+run-opened-returns-4 t c =
+    let a = c .before .before .before .before .before .before .before .before .before .before .before .before .before .before .before .args in
+    blocks-as (opening (iterates (a .d .code)) (levelsAt (a .text .now)) (viewOf (a .table .now)) (handAt (a .hand)) (a .spot .position) (a .d) (a .d .next) (a .next .0) (a .spot .left)) _ (λ ks. run-settled (c .before .before .before .before .before .before .before .before .before .settle-directive .ensures) (sym (c .before .before .before .before .before .before .before .before .before .before .before .is-well-written .ensures) ∙ not-false _ (c .before .before .before .before .before .before .before .before .before .before .if1 .left)) (a .spot .position) (a .spot .left) _ (c .before .before .before .before .before .before .before .settled2 .given .1) ∙ ap (λ (y : Bool). inside y (levelsAt (a .text .now)) (viewOf (a .table .now)) (handAt (a .hand)) (a .spot .position) (a .d) (a .d .next) (a .next .0) (a .spot .left) (c .before .before .before .before .before .before .before .settled2 .given .0 .0) (c .before .before .before .before .before .before .before .settled2 .given .0 .1 .0 .0) ks) (sym (c .before .before .before .before .before .is-iteration .ensures) ∙ c .before .before .before .before .if2 .left)) ((c .before .before .run-conditional .ensures) (a .next .0))
 
 -- what the callees of run_over_list ask and ensure, below the measure t
 abbrev run-over-list-claims : ℕ → run-over-list-lts.Claims
@@ -826,27 +818,24 @@ run-sequence-returns-5 t c =
     let u = (c .before .before .before .before .before .run-item .ensures) in
     l .inv .0 .ends _ _ (strides-runs-on s n v (a .hand .first .0) (a .hand .count) (a .level) (l .p) (l .next .0) (l .left) (l .at) (l .out) w halt (runs-refused s n v (a .hand .first .0) (a .hand .count) (a .level) (c .before .before .before .before .before .before .before .before .before .before .before .before .before .before .before .before .before .run-short .result .place) (c .before .before .before .before .before .before .before .before .before .before .before .before .before .before .before .before .before .run-short .result .next .0) (c .before .before .before .before .before .before .before .before .before .before .before .before .before .before .before .before .before .run-short .result .left) (c .before .before .before .before .before .before .before .before .before .before .before .before .before .before .before .before .before .run-short .result .at) _ u _ _ (c .enum-told3 .given .1)))
 
-pub +run-block+run-clause+run-conditional+run-item+run-iteration+run-over-list+run-passes+run-sequence-spec :
+pub +run-block+run-clause+run-conditional+run-item+run-iteration+run-opened+run-over-list+run-passes+run-sequence-spec :
     {M : Type 1} → statement M
-+run-block+run-clause+run-conditional+run-item+run-iteration+run-over-list+run-passes+run-sequence-spec =
++run-block+run-clause+run-conditional+run-item+run-iteration+run-opened+run-over-list+run-passes+run-sequence-spec =
     close
     μ-run-block
     μ-run-clause
     μ-run-conditional
     μ-run-item
     μ-run-iteration
+    μ-run-opened
     μ-run-over-list
     μ-run-passes
     μ-run-sequence
     (λ t. run-block-lts.spec (
       refuse-reads.Asked,
       refuse-reads.Learnt,
-      is-iteration-reads.Asked,
-      is-iteration-reads.Learnt,
-      run-iteration-below t,
-      run-iteration.Post,
-      run-conditional-below t,
-      run-conditional.Post,
+      run-opened-below t,
+      run-opened.Post,
     )
     (run-block-at t)
     run-block.Post
@@ -854,16 +843,11 @@ pub +run-block+run-clause+run-conditional+run-item+run-iteration+run-over-list+r
     (run-block-returns t)
     (run-block-refuse-requires-2 t)
     (run-block-returns-2 t)
-    (run-block-sub-run-conditional t)
-    (run-block-is-iteration-requires t)
-    (run-block-sub-run-iteration t)
-    (run-block-run-iteration-requires t)
+    (run-block-sub-run-opened t)
+    (run-block-sub-run-opened-2 t)
+    (run-block-run-opened-requires t)
     (run-block-same-length t)
-    (run-block-returns-3 t)
-    (run-block-sub-run-conditional-2 t)
-    (run-block-run-conditional-requires t)
-    (run-block-same-length-2 t)
-    (run-block-returns-4 t))
+    (run-block-returns-3 t))
     (λ t. run-clause-lts.spec (
       run-sequence-below t,
       run-sequence.Post,
@@ -884,40 +868,28 @@ pub +run-block+run-clause+run-conditional+run-item+run-iteration+run-over-list+r
     (run-clause-same-length-3 t)
     (run-clause-returns-3 t))
     (λ t. run-conditional-lts.spec (
-      is-well-written-reads.Asked,
-      is-well-written-reads.Learnt,
-      refuse-reads.Asked,
-      refuse-reads.Learnt,
-      settle-directive-reads.Asked,
-      settle-directive-reads.Learnt,
       choose-clause-reads.Asked,
       choose-clause-reads.Learnt,
       run-clause-below t,
       run-clause.Post,
       end-block-reads.Asked,
       end-block-reads.Learnt,
+      refuse-reads.Asked,
+      refuse-reads.Learnt,
     )
     (run-conditional-at t)
     run-conditional.Post
-    (run-conditional-is-well-written-requires t)
-    (run-conditional-refuse-requires t)
-    (run-conditional-returns t)
-    (run-conditional-settle-directive-requires t)
-    (run-conditional-enum-known-settled t)
-    (run-conditional-refuse-requires-2 t)
-    (run-conditional-enum-known-settled-2 t)
     (run-conditional-choose-clause-requires t)
     (run-conditional-enum-known-chosen t)
     (run-conditional-run-clause-requires t)
     (run-conditional-enum-known-chosen-2 t)
     (run-conditional-end-block-requires t)
     (run-conditional-enum-known-chosen-3 t)
-    (run-conditional-refuse-requires-3 t)
-    (run-conditional-returns-2 t)
+    (run-conditional-refuse-requires t)
     (run-conditional-same-length t)
-    (run-conditional-returns-3 t)
-    (run-conditional-returns-4 t)
-    (run-conditional-returns-5 t))
+    (run-conditional-returns t)
+    (run-conditional-returns-2 t)
+    (run-conditional-returns-3 t))
     (λ t. run-item-lts.spec (
       put-literal-reads.Asked,
       put-literal-reads.Learnt,
@@ -947,12 +919,6 @@ pub +run-block+run-clause+run-conditional+run-item+run-iteration+run-over-list+r
     (run-item-returns-3 t)
     (run-item-returns-4 t))
     (λ t. run-iteration-lts.spec (
-      is-well-written-reads.Asked,
-      is-well-written-reads.Learnt,
-      refuse-reads.Asked,
-      refuse-reads.Learnt,
-      settle-directive-reads.Asked,
-      settle-directive-reads.Learnt,
       run-passes-below t,
       run-passes.Post,
       run-over-list-below t,
@@ -960,20 +926,43 @@ pub +run-block+run-clause+run-conditional+run-item+run-iteration+run-over-list+r
     )
     (run-iteration-at t)
     run-iteration.Post
-    (run-iteration-is-well-written-requires t)
-    (run-iteration-refuse-requires t)
-    (run-iteration-returns t)
-    (run-iteration-settle-directive-requires t)
-    (run-iteration-enum-known-settled t)
-    (run-iteration-refuse-requires-2 t)
-    (run-iteration-enum-known-settled-2 t)
     (run-iteration-run-passes-requires t)
     (run-iteration-same-length t)
-    (run-iteration-returns-2 t)
+    (run-iteration-returns t)
     (run-iteration-run-over-list-requires t)
-    (run-iteration-returns-3 t)
     (run-iteration-same-length-2 t)
-    (run-iteration-returns-4 t))
+    (run-iteration-returns-2 t))
+    (λ t. run-opened-lts.spec (
+      is-well-written-reads.Asked,
+      is-well-written-reads.Learnt,
+      refuse-reads.Asked,
+      refuse-reads.Learnt,
+      settle-directive-reads.Asked,
+      settle-directive-reads.Learnt,
+      is-iteration-reads.Asked,
+      is-iteration-reads.Learnt,
+      run-iteration-below t,
+      run-iteration.Post,
+      run-conditional-below t,
+      run-conditional.Post,
+    )
+    (run-opened-at t)
+    run-opened.Post
+    (run-opened-is-well-written-requires t)
+    (run-opened-refuse-requires t)
+    (run-opened-returns t)
+    (run-opened-settle-directive-requires t)
+    (run-opened-enum-known-settled t)
+    (run-opened-refuse-requires-2 t)
+    (run-opened-enum-known-settled-2 t)
+    (run-opened-is-iteration-requires t)
+    (run-opened-run-iteration-requires t)
+    (run-opened-same-length t)
+    (run-opened-returns-2 t)
+    (run-opened-run-conditional-requires t)
+    (run-opened-returns-3 t)
+    (run-opened-same-length-2 t)
+    (run-opened-returns-4 t))
     (λ t. run-over-list-lts.spec (
       refuse-reads.Asked,
       refuse-reads.Learnt,
