@@ -9,10 +9,10 @@ use native.Mathlib.Decide.{decLt, ℕ-discrete as decEq}
 use native.Mathlib.Numerals.{add-one}
 use lib.Dec.{ltb, eqb}
 use lib.ListN.{length}
-use borrow.Author.Tests.{lt-ltb, le-ltb, ltb-true, eq-eqb, ne-eqb}
+use borrow.Author.Tests.{lt-ltb, le-ltb, ltb-true, ne-eqb}
 use Rattle.rules.specs.Choice.{both}
 use Rattle.rules.specs.Directive.{blank, either, itemAt, wellWritten}
-use Rattle.rules.specs.Text.{Block, opened, opensConditional, maySeparate, rightCount, isCloserOf, isWhole, provided, deepest, directiveMet, verdictAt, longest, textVerdict}
+use Rattle.rules.specs.Text.{Block, opened, opensConditional, maySeparate, rightCount, isCloserOf, provided, deepest, directiveMet, verdictAt, longest, textVerdict}
 use Rattle.rules.specs.declared.Bracket.{Bracket}
 use Rattle.rules.specs.declared.Bracket.the-variants.{Conditional, Iteration}
 use Rattle.rules.specs.declared.Code.{Code}
@@ -31,8 +31,8 @@ use Rattle.checking.specs.declared.text.Met.the-variants.{Wrong, Ends, S
 use Rattle.checking.specs.declared.text.Checked.{Checked}
 use Rattle.checking.specs.declared.text.Checked.the-variants.{Ended, Closed}
 use Rattle.reader.specs.Shorts.{Skips}
-use Rattle.reader.specs.Marks.{markCode, markSize, markDirective, IsMark}
-use Rattle.checking.specs.Checks.{hasClauses, isRepeated, partedBy, mayPart, countIn, blockBy, blockOfMark, unless, metOpener, metSeparator, metEndConditional, metEndIteration, metBy, metMark, metEnd, metItem, blockOf, blocks, levels, Kind, Opener, onward, Room, Goes, Checks}
+use Rattle.reader.specs.Marks.{markSize, markDirective, IsMark}
+use Rattle.checking.specs.Checks.{hasClauses, isRepeated, mayPart, countIn, blockBy, blockOfMark, unless, metOpener, metSeparator, metEndConditional, metEndIteration, metBy, metMark, metEnd, metItem, blockOf, blocks, levels, Kind, Opener, onward, Room, Goes, Checks}
 
 -- 1. What a block is asked for depends on the kind of its opener, not on the opener.
 

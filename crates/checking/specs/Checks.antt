@@ -1,6 +1,6 @@
 -- What the parts of the check of a text answer, in terms of the definition of the first fault.
 -- Assumes nothing: these are definitions.
-use Prim.Native.Nat.{ℕ, suc, _+_, _<_, _≤_}
+use Prim.Native.Nat.{ℕ, suc, _+_, _≤_}
 use mathlib.Core.Path.{_≡_}
 use mathlib.Core.Bool.{Bool, true, false, cond, not}
 use mathlib.Core.List.{List, [], _∷_}
@@ -16,7 +16,6 @@ use Rattle.rules.specs.declared.Directive.{Directive}
 use Rattle.rules.specs.declared.Item.{Item}
 use Rattle.rules.specs.declared.Item.the-variants.{End, Literal, Written, BadNumber, Unfinished}
 use Rattle.rules.specs.declared.Verdict.{Verdict}
-use Rattle.rules.specs.declared.Verdict.the-variants.{Refused}
 use Rattle.reader.specs.Marks.{markCode}
 use Rattle.checking.specs.declared.text.Around.{Around}
 use Rattle.checking.specs.declared.text.Around.the-variants.{Top, Numbered, TwoClauses, OneClause, Repeated}

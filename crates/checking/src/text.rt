@@ -28,8 +28,8 @@ ghost use Rattle.reader.specs.Marks.{markCode};
 ghost use Rattle.checking.specs.Checks.{hasClauses, isRepeated, mayPart, countIn, blockBy, blockOfMark, unless, metOpener, metSeparator, metEndConditional, metEndIteration, metBy, metEnd, metItem, metMark, Checks};
 ghost use Rattle.checking.specs.Ends.{shapeOfCode, shapeOf, AfterBlock, EndsClause};
 
-// The innermost open block, by its opener: none, ~[, ~:[, ~@[, or one of ~{ and ~@{. It is passed down instead of the
-// opener, which takes longer to move than what stands in the block to read.
+// The innermost open block, by the kind of its opener: none, ~[, ~:[, ~@[, or one of ~{ and ~@{. The opener itself is not
+// kept: a Directive travels by memory, which takes longer than to read a mark.
 enum Around {
     Top,
     Numbered,

@@ -1,5 +1,5 @@
 -- `block_of_mark` meets its contract. Assumes nothing.
-use borrow.Author.Tests.{eq-eqb, ne-eqb}
+use borrow.Author.Tests.{ne-eqb}
 use Rattle.checking.proofs.text.block_of_mark.Statement.{statement}
 use Rattle.checking.proofs.text.block_of_mark.Tie as tie
 

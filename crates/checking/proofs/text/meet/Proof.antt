@@ -1,5 +1,5 @@
 -- `meet` meets its contract: by the mark, or the item, at the place. Assumes nothing.
-use mathlib.Core.Path.{sym, ap, _∙_}
+use mathlib.Core.Path.{ap, _∙_}
 use Rattle.rules.proofs.TextLaws.{stands}
 use Prim.Native.Nat.{ℕ}
 use native.Mathlib.Omega.{arith}
