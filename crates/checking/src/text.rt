@@ -1,12 +1,15 @@
 // A whole text: its first fault, and where its clauses and blocks end.
-use fitting::places::both;
 use fitting::places::either;
 use fitting::places::is_well_written;
 use fitting::places::not;
 use reader::directive::item_at;
+use reader::marks::END_CONDITIONAL;
 use reader::marks::END_ITERATION;
 use reader::marks::NO_MARK;
+use reader::marks::NUMBERED;
+use reader::marks::ONE_CLAUSE;
 use reader::marks::SEPARATOR;
+use reader::marks::TWO_CLAUSES;
 use reader::marks::after_mark;
 use reader::marks::mark_at;
 use reader::short::skip_short;
@@ -16,30 +19,44 @@ use rules::Directive;
 use rules::Item;
 use rules::Verdict;
 ghost use mathlib.Core.Path.{_≡_};
-ghost use mathlib.Core.Bool.{false};
-ghost use mathlib.Core.List.{[]};
-ghost use Prim.Native.Nat.{ℕ, _≤_};
+ghost use Prim.Native.Nat.{_≤_};
 ghost use lib.Dec.{eqb};
 ghost use lib.ListN.{length};
-ghost use Rattle.rules.specs.Directive.{itemAt};
-ghost use Rattle.rules.specs.Text.{opensConditional, maySeparate, rightCount, hasBody, isCloserOf, isWhole, atEnd, textVerdict};
+ghost use Rattle.rules.specs.Directive.{itemAt, wellWritten};
+ghost use Rattle.rules.specs.Text.{textVerdict};
 ghost use Rattle.reader.specs.Marks.{markCode};
-ghost use Rattle.checking.specs.Checks.{blockOf, blocks, unless, metOpener, metSeparator, metCloser, metOf, Checks};
+ghost use Rattle.checking.specs.Checks.{hasClauses, isRepeated, mayPart, countIn, blockBy, blockOfMark, unless, metOpener, metSeparator, metEndConditional, metEndIteration, metBy, metEnd, metItem, metMark, Checks};
 ghost use Rattle.checking.specs.Ends.{shapeOfCode, shapeOf, AfterBlock, EndsClause};
 
-// The innermost open block: none, or the one that the directive opener opens at at.
+// The innermost open block, by the kind of its opener: none, ~[, ~:[, ~@[, or one of ~{ and ~@{. The opener itself is not
+// kept: a Directive travels by memory, which takes longer than to read a mark.
 enum Around {
     Top,
-    Inside { at: usize, opener: Directive },
+    Numbered,
+    TwoClauses,
+    OneClause,
+    Repeated,
 }
 
-// What a directive does where it is met.
+// Where a check stands: the innermost block, where it is opened and where its inside starts, how many ~; it has so far,
+// whether the last is a ~:;, and how many blocks more may be open.
+struct Place {
+    around: Around,
+    opened: usize,
+    start: usize,
+    separators: usize,
+    fallback: bool,
+    room: usize,
+}
+
+// What an item does where it is met, and where the text goes on after it.
 enum Met {
     Wrong { code: u32, position: usize },
-    Stays,
-    Enters,
-    Parts,
-    Leaves,
+    Ends,
+    Stays { next: usize },
+    Enters { block: Around, next: usize },
+    Parts { colon: bool, next: usize },
+    Leaves { next: usize },
 }
 
 // How reading a block ends: the whole check ends, or the block is closed and the text goes on at a position.
@@ -57,134 +74,176 @@ fn unless(holds: bool, code: u32, position: usize, then: Met) -> Met
     Met::Wrong { code, position }
 }
 
-fn is_conditional(code: Code) -> bool
-    ensures { λ r. ⌜ r ≡ opensConditional code ⌝ }
+fn has_clauses(around: Around) -> bool
+    ensures { λ r. ⌜ r ≡ hasClauses around ⌝ }
 {
-    match code {
-        Code::Writes(_) => false,
-        Code::Jump => false,
-        Code::Escape => false,
-        Code::Opens(bracket) => match bracket {
-            Bracket::Conditional => true,
-            Bracket::Iteration => false,
-        },
-        Code::Separator => false,
-        Code::Closes(_) => false,
-        Code::Unknown => false,
+    match around {
+        Around::Top => false,
+        Around::Numbered => true,
+        Around::TwoClauses => true,
+        Around::OneClause => true,
+        Around::Repeated => false,
     }
 }
 
-fn may_separate(opener: Directive, fallback: bool, d: Directive) -> bool
-    ensures { λ r. ⌜ r ≡ maySeparate (blockOf 0 opener 0 fallback) d ⌝ }
+fn is_repeated(around: Around) -> bool
+    ensures { λ r. ⌜ r ≡ isRepeated around ⌝ }
 {
-    let code = opener.code;
-    let alone = not(both(d.colon, either(opener.colon, opener.at)));
-    both(is_conditional(code), both(not(fallback), alone))
+    match around {
+        Around::Top => false,
+        Around::Numbered => false,
+        Around::TwoClauses => false,
+        Around::OneClause => false,
+        Around::Repeated => true,
+    }
 }
 
-fn is_right_count(opener: Directive, separators: usize) -> bool
-    ensures { λ r. ⌜ r ≡ rightCount (blockOf 0 opener separators false) ⌝ }
+fn may_separate(around: Around, fallback: bool, colon: bool) -> bool
+    ensures { λ r. ⌜ r ≡ mayPart around fallback colon ⌝ }
 {
-    if opener.colon {
-        return separators == 1;
+    if fallback {
+        return false;
     }
-    if opener.at {
-        return separators == 0;
+    match around {
+        Around::Top => false,
+        Around::Numbered => true,
+        Around::TwoClauses => not(colon),
+        Around::OneClause => not(colon),
+        Around::Repeated => false,
     }
-    true
 }
 
-fn has_body(opener: Directive, p: usize) -> bool
-    ensures { λ r. ⌜ r ≡ hasBody (blockOf 0 opener 0 false) p ⌝ }
+fn is_right_count(around: Around, separators: usize) -> bool
+    ensures { λ r. ⌜ r ≡ countIn around separators ⌝ }
 {
-    not(opener.next == p)
+    match around {
+        Around::Top => true,
+        Around::Numbered => true,
+        Around::TwoClauses => separators == 1,
+        Around::OneClause => separators == 0,
+        Around::Repeated => true,
+    }
+}
+
+// The block that a directive opens, by its modifiers.
+fn block_by(bracket: Bracket, colon: bool, at: bool) -> Around
+    ensures { λ r. ⌜ r ≡ blockBy bracket colon at ⌝ }
+{
+    match bracket {
+        Bracket::Iteration => Around::Repeated,
+        Bracket::Conditional => {
+            if colon {
+                return Around::TwoClauses;
+            }
+            if at {
+                Around::OneClause
+            } else {
+                Around::Numbered
+            }
+        }
+    }
+}
+
+// The block that a mark opens.
+fn block_of_mark(mark: u8) -> Around
+    ensures { λ r. ⌜ r ≡ blockOfMark mark ⌝ }
+{
+    if mark == NUMBERED {
+        return Around::Numbered;
+    }
+    if mark == TWO_CLAUSES {
+        return Around::TwoClauses;
+    }
+    if mark == ONE_CLAUSE {
+        Around::OneClause
+    } else {
+        Around::Repeated
+    }
 }
 
 // A block is opened at p, where room more may be open.
-fn meet_opener(p: usize, d: Directive, room: usize) -> Met
-    ensures { λ r. ⌜ r ≡ metOpener p d room ⌝ }
+fn meet_opener(p: usize, next: usize, well: bool, block: Around, room: usize) -> Met
+    ensures { λ r. ⌜ r ≡ metOpener p next well block room ⌝ }
 {
     unless(
         0 < room,
         4,
         p,
-        unless(is_well_written(d), 5, p, Met::Enters),
+        unless(well, 5, p, Met::Enters { block, next }),
     )
 }
 
-fn meet_separator(p: usize, d: Directive, around: Around, fallback: bool) -> Met
-    ensures { λ r. ⌜ r ≡ metSeparator p d around fallback ⌝ }
-{
-    match around {
-        Around::Top => Met::Wrong {
-            code: 4,
-            position: p,
-        },
-        Around::Inside { at: _, opener } => {
-            let may = may_separate(opener, fallback, d);
-            let well = is_well_written(d);
-            unless(may, 4, p, unless(well, 5, p, Met::Parts))
-        }
-    }
-}
-
-// Whether a closer is that of the block that opener opens.
-fn is_closer_of(bracket: Bracket, opener: Directive) -> bool
-    ensures { λ r. ⌜ ((q n : ℕ) → r ≡ isCloserOf bracket (blockOf q opener n false)) ⌝ }
-{
-    let code = opener.code;
-    match bracket {
-        Bracket::Conditional => is_conditional(code),
-        Bracket::Iteration => not(is_conditional(code)),
-    }
-}
-
-// Whether a block has what it must where its closer stands at p: the right count of clauses, or a body.
-fn is_whole(bracket: Bracket, opener: Directive, separators: usize, p: usize) -> bool
-    ensures { λ r. ⌜ ((q : ℕ) → r ≡ isWhole bracket (blockOf q opener separators false) p) ⌝ }
-{
-    match bracket {
-        Bracket::Conditional => is_right_count(opener, separators),
-        Bracket::Iteration => has_body(opener, p),
-    }
-}
-
-fn meet_closer(p: usize, d: Directive, bracket: Bracket, around: Around, separators: usize) -> Met
-    ensures { λ r. ⌜ r ≡ metCloser p d bracket around separators ⌝ }
-{
-    match around {
-        Around::Top => Met::Wrong {
-            code: 4,
-            position: p,
-        },
-        Around::Inside { at, opener } => {
-            let own = is_closer_of(bracket, opener);
-            let whole = is_whole(bracket, opener, separators, p);
-            let closed = unless(is_well_written(d), 5, p, Met::Leaves);
-            unless(own, 4, p, unless(whole, 4, at, closed))
-        }
-    }
-}
-
-// What the directive d at p does, inside a block that has so many ~; so far, of which the last is a ~:; if fallback is true.
-fn meet(
+fn meet_separator(
     p: usize,
-    d: Directive,
-    room: usize,
+    next: usize,
+    well: bool,
+    colon: bool,
     around: Around,
-    separators: usize,
     fallback: bool,
 ) -> Met
-    ensures { λ r. ⌜ r ≡ metOf p d (d .code) room around separators fallback ⌝ }
+    ensures { λ r. ⌜ r ≡ metSeparator p next well colon around fallback ⌝ }
+{
+    let may = may_separate(around, fallback, colon);
+    unless(may, 4, p, unless(well, 5, p, Met::Parts { colon, next }))
+}
+
+// A ~] is met in a block that is opened at opened.
+fn meet_end_conditional(
+    p: usize,
+    next: usize,
+    well: bool,
+    around: Around,
+    opened: usize,
+    separators: usize,
+) -> Met
+    ensures { λ r. ⌜ r ≡ metEndConditional p next well around opened separators ⌝ }
+{
+    let right = is_right_count(around, separators);
+    let own = has_clauses(around);
+    let closed = unless(well, 5, p, Met::Leaves { next });
+    unless(own, 4, p, unless(right, 4, opened, closed))
+}
+
+// A ~} is met in a block that is opened at opened and has its body from start on.
+fn meet_end_iteration(
+    p: usize,
+    next: usize,
+    well: bool,
+    around: Around,
+    opened: usize,
+    start: usize,
+) -> Met
+    ensures { λ r. ⌜ r ≡ metEndIteration p next well around opened start ⌝ }
+{
+    let full = not(start == p);
+    let own = is_repeated(around);
+    let closed = unless(well, 5, p, Met::Leaves { next });
+    unless(own, 4, p, unless(full, 4, opened, closed))
+}
+
+// What the directive d at p does.
+fn meet_directive(p: usize, d: Directive, s: Place) -> Met
+    ensures { λ r. ⌜ r ≡ metBy p (d .next) (wellWritten d) (d .colon) (d .at) (d .code) s ⌝ }
 {
     let code = d.code;
+    let around = s.around;
+    let next = d.next;
+    let well = is_well_written(d);
     match code {
-        Code::Writes(_) => unless(is_well_written(d), 5, p, Met::Stays),
-        Code::Jump => unless(is_well_written(d), 5, p, Met::Stays),
-        Code::Escape => unless(is_well_written(d), 5, p, Met::Stays),
-        Code::Opens(_) => meet_opener(p, d, room),
-        Code::Separator => meet_separator(p, d, around, fallback),
-        Code::Closes(bracket) => meet_closer(p, d, bracket, around, separators),
+        Code::Writes(_) => unless(well, 5, p, Met::Stays { next }),
+        Code::Jump => unless(well, 5, p, Met::Stays { next }),
+        Code::Escape => unless(well, 5, p, Met::Stays { next }),
+        Code::Opens(bracket) => {
+            let block = block_by(bracket, d.colon, d.at);
+            meet_opener(p, next, well, block, s.room)
+        }
+        Code::Separator => meet_separator(p, next, well, d.colon, around, s.fallback),
+        Code::Closes(bracket) => match bracket {
+            Bracket::Conditional => {
+                meet_end_conditional(p, next, well, around, s.opened, s.separators)
+            }
+            Bracket::Iteration => meet_end_iteration(p, next, well, around, s.opened, s.start),
+        },
         Code::Unknown => Met::Wrong {
             code: 3,
             position: p,
@@ -193,68 +252,102 @@ fn meet(
 }
 
 // The text ends inside the block.
-fn end_inside(around: Around) -> Verdict
-    ensures { λ r. ⌜ r ≡ atEnd (blocks around 0 false []) ⌝ }
+fn meet_end(around: Around, opened: usize) -> Met
+    ensures { λ r. ⌜ r ≡ metEnd around opened ⌝ }
 {
-    match around {
-        Around::Top => Verdict::Accepted,
-        Around::Inside { at, opener: _ } => Verdict::Refused {
-            code: 4,
-            position: at,
+    let open = either(has_clauses(around), is_repeated(around));
+    unless(not(open), 4, opened, Met::Ends)
+}
+
+// What the item at p does.
+fn meet_item(text: &[u8], p: usize, s: Place) -> Met
+    ensures { λ r. ⌜ r ≡ metItem p (itemAt (now (text .entry)) p) s ⌝ }
+{
+    let i = item_at(text, p);
+    match i {
+        Item::End => {
+            let around = s.around;
+            meet_end(around, s.opened)
+        }
+        Item::Literal(_) => Met::Stays { next: p + 1 },
+        Item::BadNumber => Met::Wrong {
+            code: 5,
+            position: p,
         },
+        Item::Unfinished => Met::Wrong {
+            code: 3,
+            position: p,
+        },
+        Item::Written(d) => meet_directive(p, d, s),
     }
 }
 
-// The inside of a block, or the whole text, read from start on, where room more blocks may be open.
-fn check_from(text: &[u8], start: usize, room: usize, around: Around) -> Checked
-    ensures { λ r. ⌜ Checks (now (text .entry)) start room around r ⌝ }
+// What a mark at p does, after which the text goes on at next. A mark is well written.
+fn meet_mark(mark: u8, p: usize, next: usize, s: Place) -> Met
+    requires { ⌜ (mark ≡ 0 → ⊥) ⌝ }
+    ensures { λ r. ⌜ r ≡ metMark p next mark s ⌝ }
+{
+    let around = s.around;
+    if mark == SEPARATOR {
+        return meet_separator(p, next, true, false, around, s.fallback);
+    }
+    if mark == END_CONDITIONAL {
+        return meet_end_conditional(p, next, true, around, s.opened, s.separators);
+    }
+    if mark == END_ITERATION {
+        return meet_end_iteration(p, next, true, around, s.opened, s.start);
+    }
+    let block = block_of_mark(mark);
+    meet_opener(p, next, true, block, s.room)
+}
+
+// What stands at p does. Nearly all that opens, parts or closes a block is a mark.
+fn meet(text: &[u8], p: usize, s: Place) -> Met
+    ensures { λ r. ⌜ r ≡ metItem p (itemAt (now (text .entry)) p) s ⌝ }
+{
+    let mark = mark_at(text, p);
+    if mark != NO_MARK {
+        return meet_mark(mark, p, after_mark(mark, p), s);
+    }
+    meet_item(text, p, s)
+}
+
+// The inside of the block that is opened at opened, or the whole text, read from start on, where room more blocks may
+// be open.
+fn check_from(text: &[u8], start: usize, room: usize, around: Around, opened: usize) -> Checked
+    ensures { λ r. ⌜ Checks (now (text .entry)) start room around opened r ⌝ }
 {
     let mut p = start;
     let mut separators: usize = 0;
     let mut fallback = false;
     loop {
         p = skip_short(text, p);
-        let i = item_at(text, p);
-        match i {
-            Item::End => return Checked::Ended(end_inside(around)),
-            Item::Literal(_) => p += 1,
-            Item::BadNumber => {
-                return Checked::Ended(Verdict::Refused {
-                    code: 5,
-                    position: p,
-                });
+        let s = Place {
+            around,
+            opened,
+            start,
+            separators,
+            fallback,
+            room,
+        };
+        let m = meet(text, p, s);
+        match m {
+            Met::Wrong { code, position } => {
+                return Checked::Ended(Verdict::Refused { code, position });
             }
-            Item::Unfinished => {
-                return Checked::Ended(Verdict::Refused {
-                    code: 3,
-                    position: p,
-                });
+            Met::Ends => return Checked::Ended(Verdict::Accepted),
+            Met::Stays { next } => p = next,
+            Met::Parts { colon, next } => {
+                separators += 1;
+                fallback = colon;
+                p = next;
             }
-            Item::Written(d) => {
-                let m = meet(p, d, room, around, separators, fallback);
-                match m {
-                    Met::Wrong { code, position } => {
-                        return Checked::Ended(Verdict::Refused { code, position });
-                    }
-                    Met::Stays => p = d.next,
-                    Met::Parts => {
-                        separators += 1;
-                        fallback = d.colon;
-                        p = d.next;
-                    }
-                    Met::Leaves => return Checked::Closed(d.next),
-                    Met::Enters => {
-                        let r = check_from(
-                            text,
-                            d.next,
-                            room - 1,
-                            Around::Inside { at: p, opener: d },
-                        );
-                        match r {
-                            Checked::Ended(v) => return Checked::Ended(v),
-                            Checked::Closed(q) => p = q,
-                        }
-                    }
+            Met::Leaves { next } => return Checked::Closed(next),
+            Met::Enters { block, next } => {
+                let r = check_from(text, next, room - 1, block, p);
+                match r {
+                    Checked::Ended(v) => return Checked::Ended(v),
+                    Checked::Closed(q) => p = q,
                 }
             }
         }
@@ -271,7 +364,7 @@ pub fn check_text(text: &[u8]) -> Verdict
             position: 4096,
         };
     }
-    match check_from(text, 0, 8, Around::Top) {
+    match check_from(text, 0, 8, Around::Top, 0) {
         Checked::Ended(v) => v,
         Checked::Closed(_) => Verdict::Accepted,
     }

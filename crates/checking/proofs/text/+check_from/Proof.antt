@@ -1,23 +1,18 @@
 -- `check_from` meets its contract. The room for blocks falls at each call of itself. The invariant: what is found from
--- here on is what is found from the start, whatever other blocks are open; each arm is a law of `CheckLaws`. The measure
--- of the loop is what is left of the text. Assumes nothing.
+-- here on is what is found from the start, whatever opens the block and whatever other blocks are open; each arm is a law
+-- of `CheckLaws`. The measure of the loop is what is left of the text. Assumes nothing.
 use Prim.Native.Nat.{ℕ, _<_, _-_}
-use mathlib.Core.Path.{sym, _∙_}
 use native.Mathlib.Omega.{arith}
 use lib.ListN.{length}
 use borrow.Author.Needs.{needs}
 use borrow.Fn.Kinds.{In}
 use borrow.Fn.PlainCycle.{Measures, is, falls, and}
-use Rattle.rules.proofs.TextLaws.{stands, next-inside}
-use Rattle.rules.specs.declared.Item.the-variants.{Literal}
-use Rattle.checking.proofs.CheckLaws.{Checking, check-start, check-skips, check-end, check-literal, check-bad, check-unfinished, check-wrong, check-stays, check-parts, check-closes, check-room, check-ended, check-place, check-closed}
+use Rattle.checking.proofs.CheckLaws.{Checking, check-start, check-skips, check-wrong, check-ends, stays-inside, check-stays, parts-inside, check-parts, check-leaves, check-room, check-ended, closed-inside, check-closed}
 use Rattle.checking.proofs.text.check_from.Reads as check-from
 use Rattle.checking.proofs.text.check_from.Kinds as check-from-kinds
 use Rattle.checking.proofs.text.+check_from.Lts-check_from as check-from-lts
-use Rattle.reader.proofs.directive.item_at.Reads as item-at-reads
-use Rattle.reader.proofs.short.skip_short.Reads as skip-short-reads
-use Rattle.checking.proofs.text.end_inside.Reads as end-inside-reads
 use Rattle.checking.proofs.text.meet.Reads as meet-reads
+use Rattle.reader.proofs.short.skip_short.Reads as skip-short-reads
 use Rattle.checking.proofs.text.+check_from.{statement}
 use Rattle.checking.proofs.text.+check_from.Tie.{close}
 
@@ -34,86 +29,23 @@ check-from-below t =
 
 abbrev check-from-claims : ℕ → check-from-lts.Claims
 check-from-claims t =
-    (skip-short-reads.Asked, skip-short-reads.Learnt, item-at-reads.Asked, item-at-reads.Learnt, end-inside-reads.Asked, end-inside-reads.Learnt, meet-reads.Asked, meet-reads.Learnt, check-from-below t, check-from.Post)
+    (skip-short-reads.Asked, skip-short-reads.Learnt, meet-reads.Asked, meet-reads.Learnt, check-from-below t, check-from.Post)
 
 abbrev check-from-Inv-loop : check-from-lts.InvT-loop
-check-from-Inv-loop text start room around p₀ separators₀ fallback₀ p separators fallback =
-    Checking text start room around p separators fallback
+check-from-Inv-loop text start room around opened p₀ separators₀ fallback₀ p separators fallback =
+    Checking text start room around opened p separators fallback
 
 abbrev check-from-μ-loop : check-from-lts.MeasureT-loop
-check-from-μ-loop text start room around p₀ separators₀ fallback₀ p separators fallback = length text - p
+check-from-μ-loop text start room around opened p₀ separators₀ fallback₀ p separators fallback = length text - p
 
 check-from-loop-holds : (t : ℕ)
     → check-from-lts.Need-loop-holds (check-from-claims t) (check-from-at t) check-from.Post check-from-Inv-loop check-from-μ-loop
 check-from-loop-holds t c =
-    check-start (c .before .args .text .now) (c .before .args .start) (c .before .args .room) (c .before .args .around)
+    check-start (c .before .args .text .now) (c .before .args .start) (c .before .args .room) (c .before .args .around) (c .before .args .opened)
 
 check-from-skip-short-requires : (t : ℕ)
     → check-from-lts.Need-skip-short-requires (check-from-claims t) (check-from-at t) check-from.Post check-from-Inv-loop check-from-μ-loop
 check-from-skip-short-requires t c κs = search needs
-
-check-from-item-at-requires : (t : ℕ)
-    → check-from-lts.Need-item-at-requires (check-from-claims t) (check-from-at t) check-from.Post check-from-Inv-loop check-from-μ-loop
-check-from-item-at-requires t c κs = search needs
-
-check-from-enum-told : (t : ℕ)
-    → check-from-lts.Need-enum-told (check-from-claims t) (check-from-at t) check-from.Post check-from-Inv-loop check-from-μ-loop
-check-from-enum-told t c = search needs
-
-check-from-end-inside-requires : (t : ℕ)
-    → check-from-lts.Need-end-inside-requires (check-from-claims t) (check-from-at t) check-from.Post check-from-Inv-loop check-from-μ-loop
-check-from-end-inside-requires t c κs = search needs
-
-check-from-returns : (t : ℕ)
-    → check-from-lts.Need-returns (check-from-claims t) (check-from-at t) check-from.Post check-from-Inv-loop check-from-μ-loop
-check-from-returns t c =
-    check-end (check-skips (c .before .before .before .before .before .loop .inv) (c .before .before .before .before .skip-short .ensures .over))
-    (sym (c .before .before .before .item-at .ensures) ∙ (c .before .enum-told .given .1)) (c .end-inside .ensures)
-
-check-from-enum-told-2 : (t : ℕ)
-    → check-from-lts.Need-enum-told-2 (check-from-claims t) (check-from-at t) check-from.Post check-from-Inv-loop check-from-μ-loop
-check-from-enum-told-2 t c = search needs
-
-check-from-add-p : (t : ℕ)
-    → check-from-lts.Need-add-p (check-from-claims t) (check-from-at t) check-from.Post check-from-Inv-loop check-from-μ-loop
-check-from-add-p t c =
-    omega
-    (arith, stands (c .before .before .before .before .before .before .args .text .now) (c .before .before .before .skip-short .result) (Literal _) (sym (c .before .before .item-at .ensures) ∙ (c .enum-told2 .given .1)))
-
-check-from-loop-less : (t : ℕ)
-    → check-from-lts.Need-loop-less (check-from-claims t) (check-from-at t) check-from.Post check-from-Inv-loop check-from-μ-loop
-check-from-loop-less t c =
-    omega
-    (arith, (c .before .before .before .skip-short .ensures .over .least), stands (c .before .before .before .before .before .before .args .text .now) (c .before .before .before .skip-short .result) (Literal _) (sym (c .before .before .item-at .ensures) ∙ (c .enum-told2 .given .1)))
-
-check-from-loop-again : (t : ℕ)
-    → check-from-lts.Need-loop-again (check-from-claims t) (check-from-at t) check-from.Post check-from-Inv-loop check-from-μ-loop
-check-from-loop-again t c =
-    check-literal (check-skips (c .before .before .before .before .loop .inv) (c .before .before .before .skip-short .ensures .over))
-    (sym (c .before .before .item-at .ensures) ∙ (c .enum-told2 .given .1))
-
-check-from-enum-told-3 : (t : ℕ)
-    → check-from-lts.Need-enum-told-3 (check-from-claims t) (check-from-at t) check-from.Post check-from-Inv-loop check-from-μ-loop
-check-from-enum-told-3 t c = search needs
-
-check-from-returns-2 : (t : ℕ)
-    → check-from-lts.Need-returns-2 (check-from-claims t) (check-from-at t) check-from.Post check-from-Inv-loop check-from-μ-loop
-check-from-returns-2 t c =
-    check-bad (check-skips (c .before .before .before .before .loop .inv) (c .before .before .before .skip-short .ensures .over)) (sym (c .before .before .item-at .ensures) ∙ (c .enum-told3 .given .1))
-
-check-from-enum-told-4 : (t : ℕ)
-    → check-from-lts.Need-enum-told-4 (check-from-claims t) (check-from-at t) check-from.Post check-from-Inv-loop check-from-μ-loop
-check-from-enum-told-4 t c = search needs
-
-check-from-returns-3 : (t : ℕ)
-    → check-from-lts.Need-returns-3 (check-from-claims t) (check-from-at t) check-from.Post check-from-Inv-loop check-from-μ-loop
-check-from-returns-3 t c =
-    check-unfinished (check-skips (c .before .before .before .before .loop .inv) (c .before .before .before .skip-short .ensures .over))
-    (sym (c .before .before .item-at .ensures) ∙ (c .enum-told4 .given .1))
-
-check-from-enum-known-i : (t : ℕ)
-    → check-from-lts.Need-enum-known-i (check-from-claims t) (check-from-at t) check-from.Post check-from-Inv-loop check-from-μ-loop
-check-from-enum-known-i t c = search needs
 
 check-from-meet-requires : (t : ℕ)
     → check-from-lts.Need-meet-requires (check-from-claims t) (check-from-at t) check-from.Post check-from-Inv-loop check-from-μ-loop
@@ -123,108 +55,98 @@ check-from-enum-known-m : (t : ℕ)
     → check-from-lts.Need-enum-known-m (check-from-claims t) (check-from-at t) check-from.Post check-from-Inv-loop check-from-μ-loop
 check-from-enum-known-m t c = search needs
 
-check-from-returns-4 : (t : ℕ)
-    → check-from-lts.Need-returns-4 (check-from-claims t) (check-from-at t) check-from.Post check-from-Inv-loop check-from-μ-loop
-check-from-returns-4 t c =
-    check-wrong (check-skips (c .before .before .before .before .before .before .before .before .before .loop .inv) (c .before .before .before .before .before .before .before .before .skip-short .ensures .over))
-    (sym (c .before .before .before .before .before .before .before .item-at .ensures) ∙ (c .before .before .before .before .before .i .given .1))
-    (sym (c .before .before .before .meet .ensures) ∙ (c .before .m .given .1))
+check-from-returns : (t : ℕ)
+    → check-from-lts.Need-returns (check-from-claims t) (check-from-at t) check-from.Post check-from-Inv-loop check-from-μ-loop
+check-from-returns t c =
+    check-wrong (check-skips (c .before .before .before .before .before .loop .inv) (c .before .before .before .before .skip-short .ensures .over)) (c .before .before .before .meet .ensures) (c .before .m .given .1)
 
-check-from-enum-told-5 : (t : ℕ)
-    → check-from-lts.Need-enum-told-5 (check-from-claims t) (check-from-at t) check-from.Post check-from-Inv-loop check-from-μ-loop
-check-from-enum-told-5 t c = search needs
+check-from-enum-told : (t : ℕ)
+    → check-from-lts.Need-enum-told (check-from-claims t) (check-from-at t) check-from.Post check-from-Inv-loop check-from-μ-loop
+check-from-enum-told t c = search needs
 
-check-from-loop-less-2 : (t : ℕ)
-    → check-from-lts.Need-loop-less-2 (check-from-claims t) (check-from-at t) check-from.Post check-from-Inv-loop check-from-μ-loop
-check-from-loop-less-2 t c =
-    omega
-    (arith, (c .before .before .before .before .before .before .before .skip-short .ensures .over .least), next-inside (c .before .before .before .before .before .before .before .before .before .before .args .text .now) (c .before .before .before .before .before .before .before .skip-short .result) _ (sym (c .before .before .before .before .before .before .item-at .ensures) ∙ (c .before .before .before .before .i .given .1)))
+check-from-returns-2 : (t : ℕ)
+    → check-from-lts.Need-returns-2 (check-from-claims t) (check-from-at t) check-from.Post check-from-Inv-loop check-from-μ-loop
+check-from-returns-2 t c =
+    check-ends (check-skips (c .before .before .before .before .loop .inv) (c .before .before .before .skip-short .ensures .over)) (c .before .before .meet .ensures) (c .enum-told .given .1)
 
-check-from-loop-again-2 : (t : ℕ)
-    → check-from-lts.Need-loop-again-2 (check-from-claims t) (check-from-at t) check-from.Post check-from-Inv-loop check-from-μ-loop
-check-from-loop-again-2 t c =
-    check-stays (check-skips (c .before .before .before .before .before .before .before .before .loop .inv) (c .before .before .before .before .before .before .before .skip-short .ensures .over))
-    (sym (c .before .before .before .before .before .before .item-at .ensures) ∙ (c .before .before .before .before .i .given .1))
-    (sym (c .before .before .meet .ensures) ∙ (c .enum-told5 .given .1))
+check-from-enum-known-m-2 : (t : ℕ)
+    → check-from-lts.Need-enum-known-m-2 (check-from-claims t) (check-from-at t) check-from.Post check-from-Inv-loop check-from-μ-loop
+check-from-enum-known-m-2 t c = search needs
 
-check-from-enum-told-6 : (t : ℕ)
-    → check-from-lts.Need-enum-told-6 (check-from-claims t) (check-from-at t) check-from.Post check-from-Inv-loop check-from-μ-loop
-check-from-enum-told-6 t c = search needs
+check-from-loop-less : (t : ℕ)
+    → check-from-lts.Need-loop-less (check-from-claims t) (check-from-at t) check-from.Post check-from-Inv-loop check-from-μ-loop
+check-from-loop-less t c =
+    omega (arith, c .before .before .before .before .skip-short .ensures .over .least, stays-inside (check-skips (c .before .before .before .before .before .loop .inv) (c .before .before .before .before .skip-short .ensures .over)) (c .before .before .before .meet .ensures) (c .before .m2 .given .1))
+
+check-from-loop-again : (t : ℕ)
+    → check-from-lts.Need-loop-again (check-from-claims t) (check-from-at t) check-from.Post check-from-Inv-loop check-from-μ-loop
+check-from-loop-again t c =
+    check-stays (check-skips (c .before .before .before .before .before .loop .inv) (c .before .before .before .before .skip-short .ensures .over)) (c .before .before .before .meet .ensures) (c .before .m2 .given .1)
+
+check-from-enum-known-m-3 : (t : ℕ)
+    → check-from-lts.Need-enum-known-m-3 (check-from-claims t) (check-from-at t) check-from.Post check-from-Inv-loop check-from-μ-loop
+check-from-enum-known-m-3 t c = search needs
 
 check-from-add-separators : (t : ℕ)
     → check-from-lts.Need-add-separators (check-from-claims t) (check-from-at t) check-from.Post check-from-Inv-loop check-from-μ-loop
 check-from-add-separators t c =
-    omega
-    (arith, next-inside (c .before .before .before .before .before .before .before .before .before .before .args .text .now) (c .before .before .before .before .before .before .before .skip-short .result) _ (sym (c .before .before .before .before .before .before .item-at .ensures) ∙ (c .before .before .before .before .i .given .1)), (c .before .before .before .before .before .before .before .before .loop .inv .few), (c .before .before .before .before .before .before .before .skip-short .ensures .over .least), (c .before .before .before .before .before .before .before .before .before .before .good))
+    omega (arith, parts-inside (check-skips (c .before .before .before .before .before .loop .inv) (c .before .before .before .before .skip-short .ensures .over)) (c .before .before .before .meet .ensures) (c .before .m3 .given .1), c .before .before .before .before .before .loop .inv .few, c .before .before .before .before .skip-short .ensures .over .least, c .before .before .before .before .before .before .before .good)
 
-check-from-loop-less-3 : (t : ℕ)
-    → check-from-lts.Need-loop-less-3 (check-from-claims t) (check-from-at t) check-from.Post check-from-Inv-loop check-from-μ-loop
-check-from-loop-less-3 t c =
-    omega
-    (arith, (c .before .before .before .before .before .before .before .skip-short .ensures .over .least), next-inside (c .before .before .before .before .before .before .before .before .before .before .args .text .now) (c .before .before .before .before .before .before .before .skip-short .result) _ (sym (c .before .before .before .before .before .before .item-at .ensures) ∙ (c .before .before .before .before .i .given .1)))
+check-from-loop-less-2 : (t : ℕ)
+    → check-from-lts.Need-loop-less-2 (check-from-claims t) (check-from-at t) check-from.Post check-from-Inv-loop check-from-μ-loop
+check-from-loop-less-2 t c =
+    omega (arith, c .before .before .before .before .skip-short .ensures .over .least, parts-inside (check-skips (c .before .before .before .before .before .loop .inv) (c .before .before .before .before .skip-short .ensures .over)) (c .before .before .before .meet .ensures) (c .before .m3 .given .1))
 
-check-from-loop-again-3 : (t : ℕ)
-    → check-from-lts.Need-loop-again-3 (check-from-claims t) (check-from-at t) check-from.Post check-from-Inv-loop check-from-μ-loop
-check-from-loop-again-3 t c =
-    check-parts (check-skips (c .before .before .before .before .before .before .before .before .loop .inv) (c .before .before .before .before .before .before .before .skip-short .ensures .over))
-    (sym (c .before .before .before .before .before .before .item-at .ensures) ∙ (c .before .before .before .before .i .given .1))
-    (sym (c .before .before .meet .ensures) ∙ (c .enum-told6 .given .1))
+check-from-loop-again-2 : (t : ℕ)
+    → check-from-lts.Need-loop-again-2 (check-from-claims t) (check-from-at t) check-from.Post check-from-Inv-loop check-from-μ-loop
+check-from-loop-again-2 t c =
+    check-parts (check-skips (c .before .before .before .before .before .loop .inv) (c .before .before .before .before .skip-short .ensures .over)) (c .before .before .before .meet .ensures) (c .before .m3 .given .1)
 
-check-from-enum-told-7 : (t : ℕ)
-    → check-from-lts.Need-enum-told-7 (check-from-claims t) (check-from-at t) check-from.Post check-from-Inv-loop check-from-μ-loop
-check-from-enum-told-7 t c = search needs
+check-from-enum-known-m-4 : (t : ℕ)
+    → check-from-lts.Need-enum-known-m-4 (check-from-claims t) (check-from-at t) check-from.Post check-from-Inv-loop check-from-μ-loop
+check-from-enum-known-m-4 t c = search needs
 
-check-from-returns-5 : (t : ℕ)
-    → check-from-lts.Need-returns-5 (check-from-claims t) (check-from-at t) check-from.Post check-from-Inv-loop check-from-μ-loop
-check-from-returns-5 t c =
-    check-closes (check-skips (c .before .before .before .before .before .before .before .before .loop .inv) (c .before .before .before .before .before .before .before .skip-short .ensures .over))
-    (sym (c .before .before .before .before .before .before .item-at .ensures) ∙ (c .before .before .before .before .i .given .1))
-    (sym (c .before .before .meet .ensures) ∙ (c .enum-told7 .given .1))
+check-from-returns-3 : (t : ℕ)
+    → check-from-lts.Need-returns-3 (check-from-claims t) (check-from-at t) check-from.Post check-from-Inv-loop check-from-μ-loop
+check-from-returns-3 t c =
+    check-leaves (check-skips (c .before .before .before .before .before .loop .inv) (c .before .before .before .before .skip-short .ensures .over)) (c .before .before .before .meet .ensures) (c .before .m4 .given .1)
 
-check-from-enum-told-8 : (t : ℕ)
-    → check-from-lts.Need-enum-told-8 (check-from-claims t) (check-from-at t) check-from.Post check-from-Inv-loop check-from-μ-loop
-check-from-enum-told-8 t c = search needs
+check-from-enum-known-m-5 : (t : ℕ)
+    → check-from-lts.Need-enum-known-m-5 (check-from-claims t) (check-from-at t) check-from.Post check-from-Inv-loop check-from-μ-loop
+check-from-enum-known-m-5 t c = search needs
 
 check-from-sub-check-from : (t : ℕ)
     → check-from-lts.Need-sub-check-from (check-from-claims t) (check-from-at t) check-from.Post check-from-Inv-loop check-from-μ-loop
 check-from-sub-check-from t c =
-    omega
-    (arith, check-room (check-skips (c .before .before .before .before .before .before .before .before .loop .inv) (c .before .before .before .before .before .before .before .skip-short .ensures .over)) (sym (c .before .before .before .before .before .before .item-at .ensures) ∙ (c .before .before .before .before .i .given .1)) (sym (c .before .before .meet .ensures) ∙ (c .enum-told8 .given .1)))
+    omega (arith, check-room (check-skips (c .before .before .before .before .before .loop .inv) (c .before .before .before .before .skip-short .ensures .over)) (c .before .before .before .meet .ensures) (c .before .m5 .given .1))
 
 check-from-check-from-requires : (t : ℕ)
     → check-from-lts.Need-check-from-requires (check-from-claims t) (check-from-at t) check-from.Post check-from-Inv-loop check-from-μ-loop
 check-from-check-from-requires t c κs =
-    (omega (arith, check-room (check-skips (c .before .before .before .before .before .before .before .before .loop .inv) (c .before .before .before .before .before .before .before .skip-short .ensures .over)) (sym (c .before .before .before .before .before .before .item-at .ensures) ∙ (c .before .before .before .before .i .given .1)) (sym (c .before .before .meet .ensures) ∙ (c .enum-told8 .given .1)), (c .before .before .before .before .before .before .before .before .before .before .pre .0)), tt)
+    (omega (arith, check-room (check-skips (c .before .before .before .before .before .loop .inv) (c .before .before .before .before .skip-short .ensures .over)) (c .before .before .before .meet .ensures) (c .before .m5 .given .1), c .before .before .before .before .before .before .before .pre .0), tt)
 
 check-from-enum-known-r : (t : ℕ)
     → check-from-lts.Need-enum-known-r (check-from-claims t) (check-from-at t) check-from.Post check-from-Inv-loop check-from-μ-loop
 check-from-enum-known-r t c = search needs
 
-check-from-returns-6 : (t : ℕ)
-    → check-from-lts.Need-returns-6 (check-from-claims t) (check-from-at t) check-from.Post check-from-Inv-loop check-from-μ-loop
-check-from-returns-6 t c =
-    check-ended (check-skips (c .before .before .before .before .before .before .before .before .before .before .before .before .loop .inv) (c .before .before .before .before .before .before .before .before .before .before .before .skip-short .ensures .over))
-    (sym (c .before .before .before .before .before .before .before .before .before .before .item-at .ensures) ∙ (c .before .before .before .before .before .before .before .before .i .given .1))
-    (sym (c .before .before .before .before .before .before .meet .ensures) ∙ (c .before .before .before .before .enum-told8 .given .1))
-    (c .before .before .before .check-from .ensures) (c .before .r .given .1)
+check-from-returns-4 : (t : ℕ)
+    → check-from-lts.Need-returns-4 (check-from-claims t) (check-from-at t) check-from.Post check-from-Inv-loop check-from-μ-loop
+check-from-returns-4 t c =
+    check-ended (check-skips (c .before .before .before .before .before .before .before .before .before .loop .inv) (c .before .before .before .before .before .before .before .before .skip-short .ensures .over)) (c .before .before .before .before .before .before .before .meet .ensures) (c .before .before .before .before .before .m5 .given .1) (c .before .before .before .check-from .ensures) (c .before .r .given .1)
 
 check-from-enum-known-r-2 : (t : ℕ)
     → check-from-lts.Need-enum-known-r-2 (check-from-claims t) (check-from-at t) check-from.Post check-from-Inv-loop check-from-μ-loop
 check-from-enum-known-r-2 t c = search needs
 
-check-from-loop-less-4 : (t : ℕ)
-    → check-from-lts.Need-loop-less-4 (check-from-claims t) (check-from-at t) check-from.Post check-from-Inv-loop check-from-μ-loop
-check-from-loop-less-4 t c =
-    omega
-    (arith, (c .before .before .before .before .before .before .before .before .before .before .before .skip-short .ensures .over .least), next-inside (c .before .before .before .before .before .before .before .before .before .before .before .before .before .before .args .text .now) (c .before .before .before .before .before .before .before .before .before .before .before .skip-short .result) _ (sym (c .before .before .before .before .before .before .before .before .before .before .item-at .ensures) ∙ (c .before .before .before .before .before .before .before .before .i .given .1)), check-place (check-skips (c .before .before .before .before .before .before .before .before .before .before .before .before .loop .inv) (c .before .before .before .before .before .before .before .before .before .before .before .skip-short .ensures .over)) (sym (c .before .before .before .before .before .before .before .before .before .before .item-at .ensures) ∙ (c .before .before .before .before .before .before .before .before .i .given .1)) (sym (c .before .before .before .before .before .before .meet .ensures) ∙ (c .before .before .before .before .enum-told8 .given .1)) (c .before .before .before .check-from .ensures) (c .before .r2 .given .1))
+check-from-loop-less-3 : (t : ℕ)
+    → check-from-lts.Need-loop-less-3 (check-from-claims t) (check-from-at t) check-from.Post check-from-Inv-loop check-from-μ-loop
+check-from-loop-less-3 t c =
+    omega (arith, c .before .before .before .before .before .before .before .before .skip-short .ensures .over .least, closed-inside (check-skips (c .before .before .before .before .before .before .before .before .before .loop .inv) (c .before .before .before .before .before .before .before .before .skip-short .ensures .over)) (c .before .before .before .before .before .before .before .meet .ensures) (c .before .before .before .before .before .m5 .given .1) (c .before .before .before .check-from .ensures) (c .before .r2 .given .1))
 
-check-from-loop-again-4 : (t : ℕ)
-    → check-from-lts.Need-loop-again-4 (check-from-claims t) (check-from-at t) check-from.Post check-from-Inv-loop check-from-μ-loop
-check-from-loop-again-4 t c =
-    check-closed (check-skips (c .before .before .before .before .before .before .before .before .before .before .before .before .loop .inv) (c .before .before .before .before .before .before .before .before .before .before .before .skip-short .ensures .over))
-    (sym (c .before .before .before .before .before .before .before .before .before .before .item-at .ensures) ∙ (c .before .before .before .before .before .before .before .before .i .given .1))
-    (sym (c .before .before .before .before .before .before .meet .ensures) ∙ (c .before .before .before .before .enum-told8 .given .1))
-    (c .before .before .before .check-from .ensures) (c .before .r2 .given .1)
+check-from-loop-again-3 : (t : ℕ)
+    → check-from-lts.Need-loop-again-3 (check-from-claims t) (check-from-at t) check-from.Post check-from-Inv-loop check-from-μ-loop
+check-from-loop-again-3 t c =
+    check-closed (check-skips (c .before .before .before .before .before .before .before .before .before .loop .inv) (c .before .before .before .before .before .before .before .before .skip-short .ensures .over)) (c .before .before .before .before .before .before .before .meet .ensures) (c .before .before .before .before .before .m5 .given .1) (c .before .before .before .check-from .ensures) (c .before .r2 .given .1)
 
 pub +check-from-spec : {M : Type 1} → statement M
 +check-from-spec = close μ-check-from λ t. check-from-lts.spec (check-from-claims t)
@@ -234,36 +156,25 @@ pub +check-from-spec : {M : Type 1} → statement M
     check-from-μ-loop
     (check-from-loop-holds t)
     (check-from-skip-short-requires t)
-    (check-from-item-at-requires t)
-    (check-from-enum-told t)
-    (check-from-end-inside-requires t)
-    (check-from-returns t)
-    (check-from-enum-told-2 t)
-    (check-from-add-p t)
-    (check-from-loop-less t)
-    (check-from-loop-again t)
-    (check-from-enum-told-3 t)
-    (check-from-returns-2 t)
-    (check-from-enum-told-4 t)
-    (check-from-returns-3 t)
-    (check-from-enum-known-i t)
     (check-from-meet-requires t)
     (check-from-enum-known-m t)
-    (check-from-returns-4 t)
-    (check-from-enum-told-5 t)
+    (check-from-returns t)
+    (check-from-enum-told t)
+    (check-from-returns-2 t)
+    (check-from-enum-known-m-2 t)
+    (check-from-loop-less t)
+    (check-from-loop-again t)
+    (check-from-enum-known-m-3 t)
+    (check-from-add-separators t)
     (check-from-loop-less-2 t)
     (check-from-loop-again-2 t)
-    (check-from-enum-told-6 t)
-    (check-from-add-separators t)
-    (check-from-loop-less-3 t)
-    (check-from-loop-again-3 t)
-    (check-from-enum-told-7 t)
-    (check-from-returns-5 t)
-    (check-from-enum-told-8 t)
+    (check-from-enum-known-m-4 t)
+    (check-from-returns-3 t)
+    (check-from-enum-known-m-5 t)
     (check-from-sub-check-from t)
     (check-from-check-from-requires t)
     (check-from-enum-known-r t)
-    (check-from-returns-6 t)
+    (check-from-returns-4 t)
     (check-from-enum-known-r-2 t)
-    (check-from-loop-less-4 t)
-    (check-from-loop-again-4 t)
+    (check-from-loop-less-3 t)
+    (check-from-loop-again-3 t)

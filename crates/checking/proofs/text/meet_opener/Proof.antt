@@ -3,9 +3,6 @@ use borrow.Author.Needs.{needs}
 use Rattle.checking.proofs.text.meet_opener.Statement.{statement}
 use Rattle.checking.proofs.text.meet_opener.Tie as tie
 
-is-well-written-requires : tie.Need-is-well-written-requires
-is-well-written-requires c κs = search needs
-
 unless-requires : tie.Need-unless-requires
 unless-requires c κs = search needs
 
@@ -13,8 +10,7 @@ unless-requires-2 : tie.Need-unless-requires-2
 unless-requires-2 c κs = search needs
 
 returns : tie.Need-returns
-returns c = rw (c .unless2 .ensures, c .before .unless .ensures, c .before .before .is-well-written .ensures)
+returns c = rw (c .unless2 .ensures, c .before .unless .ensures)
 
 pub meet-opener-spec : {M : Type 1} → statement M
-meet-opener-spec =
-    tie.close (tie.spec is-well-written-requires unless-requires unless-requires-2 returns)
+meet-opener-spec = tie.close (tie.spec unless-requires unless-requires-2 returns)
