@@ -1,4 +1,4 @@
--- What the parts of a vet's code promise. Assumes nothing: these are definitions.
+-- What the parts of the code of a turn promise. Assumes nothing: these are definitions.
 use Prim.Native.Nat.{ℕ, _+_, _-_, _/_, _≤_}
 use mathlib.Core.Path.{_≡_}
 use mathlib.Core.Bool.{Bool, true, cond}
