@@ -1,7 +1,7 @@
 // The greatest count of a format, item by item.
 use crate::plainness::place_after;
-use crate::turns::take_turn;
 use reader::directive::item_at;
+use turns::turns::take_turn;
 use vet::Turn;
 use vet::Vetted;
 ghost use mathlib.Core.Path.{_≡_};

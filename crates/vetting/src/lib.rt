@@ -1,10 +1,7 @@
 // What a plain format needs at the most, vetted over the kinds of its arguments.
 pub mod asking;
 pub mod counting;
-pub mod lengths;
 pub mod plainness;
-pub mod settings;
-pub mod turns;
 
 use asking::may_ask;
 use checking::text::check_text;

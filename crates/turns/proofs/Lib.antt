@@ -1,0 +1,4 @@
+pub mod Names
+pub mod Worked
+pub mod WorstBy
+pub mod TurnBy

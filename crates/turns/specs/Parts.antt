@@ -1,0 +1,47 @@
+-- What the parts of the code of a turn promise. Assumes nothing: these are definitions.
+use Prim.Native.Nat.{ℕ, _+_, _-_, _/_, _≤_}
+use mathlib.Core.Path.{_≡_}
+use mathlib.Core.Bool.{Bool, true, cond}
+use Rattle.rules.specs.Directive.{FormRight, formPlaces, inOrder, eachSuits}
+use Rattle.rules.specs.declared.Code.the-variants.{Writes}
+use Rattle.rules.specs.declared.Directive.{Directive}
+use Rattle.rules.specs.declared.Form.{Form}
+use Rattle.rules.specs.declared.Parameter.{Parameter}
+use Rattle.rules.specs.declared.Parameter.the-variants.{Default, Number, Character, Next, Remaining}
+use Rattle.rules.specs.declared.Setting.{Setting}
+use Rattle.rules.specs.declared.Setting.the-variants.{Absent, Is}
+use Rattle.rules.specs.declared.Settings.{Settings}
+use Rattle.vet.specs.Plain.{noneNext}
+use Rattle.vet.specs.Worst.{larger}
+use Rattle.vet.proofs.WorstLaws.{leastDigits}
+
+-- a parameter that is no `v`, where so many arguments remain: `#` is their number
+abbrev pub settingBy : ℕ → Parameter → Setting
+settingBy remaining Default = Absent
+settingBy remaining (Number n) = Is n
+settingBy remaining (Character b) = Is b
+settingBy remaining Next = Absent
+settingBy remaining Remaining = Is remaining
+
+-- a directive of a form, as it stands in an accepted plain text: its parameters suit its places, and none is a `v`
+pub record Writing (f : Form) (d : Directive) : Type 0 where
+  pub code : d .code ≡ Writes f
+  pub suits : eachSuits (formPlaces f) (inOrder (d .parameters)) ≡ true
+  pub fixed : noneNext (inOrder (d .parameters)) ≡ true
+  pub based : FormRight f
+
+-- the ranges of minwidth, padinc and minpad
+pub record Sizing (minwidth padinc minpad : ℕ) : Type 0 where
+  pub width : minwidth ≤ 4096
+  pub least : 1 ≤ padinc
+  pub most : padinc ≤ 4096
+  pub pad : minpad ≤ 4096
+
+-- the three of them as settings
+abbrev pub padding : ℕ → ℕ → ℕ → Settings
+padding minwidth padinc minpad = record { first = Is minwidth; second = Is padinc; third = Is minpad; fourth = Absent }
+
+-- the sign and the digits of the least integer, in groups of a width with true, or at least minwidth bytes
+abbrev pub numeralMost : ℕ → Bool → ℕ → ℕ → ℕ
+numeralMost base colon width group =
+    larger width (cond colon (leastDigits base + (leastDigits base - 1) / group) (leastDigits base) + 1)

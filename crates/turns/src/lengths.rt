@@ -1,0 +1,158 @@
+// The greatest length of one piece, without a loop over lengths.
+use numbers::digit_count;
+ghost use mathlib.Core.Path.{_≡_};
+ghost use mathlib.Core.Bool.{false, cond};
+ghost use Prim.Native.Nat.{_-_, _≤_, _<_};
+ghost use lib.ListN.{length};
+ghost use Rattle.rules.specs.Piece.{nameOf, glyphOf};
+ghost use Rattle.rules.specs.declared.Form.the-variants.{Object};
+ghost use Rattle.vet.specs.Worst.{larger as largerOf, roundUp, topOf, greatest as greatestOf, worst};
+ghost use Rattle.turns.specs.Parts.{Sizing, padding, numeralMost};
+
+// The magnitude of the least integer.
+const LEAST_MAGNITUDE: u64 = 9223372036854775808;
+
+// a - b, or 0.
+fn less(a: usize, b: usize) -> usize
+    ensures { λ r. ⌜ r ≡ a - b ⌝ }
+{
+    if b < a { a - b } else { 0 }
+}
+
+fn larger(a: usize, b: usize) -> usize
+    ensures { λ r. ⌜ r ≡ largerOf a b ⌝ }
+{
+    if a <= b { b } else { a }
+}
+
+// The least multiple of padinc that is x or more.
+fn round_up(padinc: usize, x: usize) -> usize
+    requires { ⌜ (1 ≤ padinc) × (padinc ≤ 4096) ⌝ }
+    requires { ⌜ x ≤ 4096 ⌝ }
+    ensures is { λ r. ⌜ r ≡ roundUp padinc x ⌝ }
+    ensures within { λ r. ⌜ r ≤ 8192 ⌝ }
+{
+    (x + (padinc - 1)) / padinc * padinc
+}
+
+// The most that padding brings a text to, where one of least to most bytes comes to it.
+fn padded_top(minwidth: usize, padinc: usize, minpad: usize, least: usize, most: usize) -> usize
+    requires { ⌜ Sizing minwidth padinc minpad ⌝ }
+    requires { ⌜ (least ≤ 8194) × (most ≤ 8194) ⌝ }
+    ensures { λ r. ⌜ r ≡ topOf minwidth padinc minpad least most ⌝ }
+{
+    let short = less(less(minwidth, 1), most + minpad);
+    if round_up(padinc, short) < less(minwidth, least + minpad) {
+        return minwidth + padinc - 1;
+    }
+    0
+}
+
+// The greatest padded length of the texts of least to most bytes.
+fn greatest(minwidth: usize, padinc: usize, minpad: usize, least: usize, most: usize) -> usize
+    requires { ⌜ Sizing minwidth padinc minpad ⌝ }
+    requires { ⌜ (least ≤ 8194) × (most ≤ 8194) ⌝ }
+    ensures { λ r. ⌜ r ≡ greatestOf minwidth padinc minpad least most ⌝ }
+{
+    let longest = most + (minpad + round_up(padinc, less(minwidth, most + minpad)));
+    larger(longest, padded_top(minwidth, padinc, minpad, least, most))
+}
+
+// ~a, and ~s with true, of a value of a kind.
+pub fn worst_object(
+    quoted: bool,
+    minwidth: usize,
+    padinc: usize,
+    minpad: usize,
+    kind: u8,
+    longest: usize,
+) -> usize
+    requires { ⌜ Sizing minwidth padinc minpad ⌝ }
+    requires { ⌜ (kind < 4) × (longest ≤ 4096) ⌝ }
+    ensures { λ r. ⌜ r ≡ worst longest (Object quoted) false false (padding minwidth padinc minpad) kind ⌝ }
+{
+    match kind {
+        0 => greatest(minwidth, padinc, minpad, 2, 2),
+        1 => greatest(minwidth, padinc, minpad, 1, 20),
+        2 => {
+            if quoted {
+                let short = greatest(minwidth, padinc, minpad, 3, 9);
+                return larger(short, greatest(minwidth, padinc, minpad, 11, 11));
+            }
+            greatest(minwidth, padinc, minpad, 1, 1)
+        }
+        _ => {
+            if quoted {
+                return greatest(minwidth, padinc, minpad, 2, 2 * longest + 2);
+            }
+            greatest(minwidth, padinc, minpad, 0, longest)
+        }
+    }
+}
+
+// ~d ~x ~o ~b: the least integer, in groups with `:`.
+pub fn worst_numeral(base: u64, colon: bool, width: usize, group: usize) -> usize
+    requires { ⌜ (2 ≤ base) × (base ≤ 36) ⌝ }
+    requires { ⌜ 1 ≤ group ⌝ }
+    ensures { λ r. ⌜ r ≡ numeralMost base colon width group ⌝ }
+{
+    let digits = digit_count(base, LEAST_MAGNITUDE);
+    if colon {
+        return larger(width, digits + (digits - 1) / group + 1);
+    }
+    larger(width, digits + 1)
+}
+
+// ~c of any character.
+pub fn worst_glyph(colon: bool, at: bool) -> usize
+    ensures { λ r. ⌜ r ≡ cond at 11 (cond colon 2 1) ⌝ }
+{
+    if at {
+        return 11;
+    }
+    if colon { 2 } else { 1 }
+}
+
+// ~p of any value.
+pub fn worst_plural(at: bool) -> usize
+    ensures { λ r. ⌜ r ≡ cond at 3 1 ⌝ }
+{
+    if at { 3 } else { 1 }
+}
+
+// A character's name.
+fn name_size(code: usize) -> usize
+    ensures is { λ r. ⌜ r ≡ length (nameOf code) ⌝ }
+    ensures within { λ r. ⌜ r ≤ 9 ⌝ }
+{
+    match code {
+        0 => 4,
+        7 => 5,
+        8 => 9,
+        9 => 3,
+        10 => 7,
+        13 => 6,
+        27 => 6,
+        32 => 5,
+        127 => 6,
+        _ => {
+            if code < 16 {
+                return 2;
+            }
+            if code < 32 { 3 } else { 1 }
+        }
+    }
+}
+
+// ~c of a character that is given.
+pub fn glyph_size(colon: bool, at: bool, code: usize) -> usize
+    ensures { λ r. ⌜ r ≡ length (glyphOf colon at code) ⌝ }
+{
+    if at {
+        return name_size(code) + 2;
+    }
+    if !colon {
+        return 1;
+    }
+    if code < 32 { 2 } else { 1 }
+}
