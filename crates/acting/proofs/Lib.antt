@@ -2,4 +2,5 @@ pub mod ActLaws
 pub mod Buffer
 pub mod DirectLaws
 pub mod Joining
+pub mod Plans
 pub mod Sources

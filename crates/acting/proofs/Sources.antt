@@ -22,11 +22,12 @@ use Rattle.rules.proofs.AnswerLaws.{text-fits, text-short}
 use Rattle.pieces.specs.Given.{Allowed, EachAllowed, Worked, StringIn, Reachable}
 use Rattle.working.specs.Settling.{InPlace, InRange, handAt}
 use Rattle.working.specs.declared.Hand.{Hand}
-use Rattle.acting.specs.declared.acting.Source.{Source}
-use Rattle.acting.specs.declared.acting.Source.the-variants.{Own, Back, Given}
-use Rattle.acting.specs.declared.acting.Taken.{Taken}
-use Rattle.acting.specs.declared.acting.Taken.the-variants.{None, Is as TakenIs}
-use Rattle.acting.specs.Acting.{Coded, Numbered, sourceAs, SourceReachable, onTaken, TakenReaches, Takes}
+use Rattle.acting.specs.declared.planning.Source.{Source}
+use Rattle.acting.specs.declared.planning.Source.the-variants.{Own, Back, Given}
+use Rattle.acting.specs.declared.planning.Taken.{Taken}
+use Rattle.acting.specs.declared.planning.Taken.the-variants.{None, Is as TakenIs}
+use Rattle.acting.specs.Acting.{Numbered}
+use Rattle.acting.specs.Planning.{Coded, sourceAs, SourceReachable, onTaken, TakenReaches, Takes}
 use Rattle.acting.proofs.ActLaws.{from-own, from-own-none, from-back, from-back-none}
 
 -- an argument that was read lies in its table

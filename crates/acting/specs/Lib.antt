@@ -1,2 +1,3 @@
 pub mod Acting
+pub mod Planning
 pub mod Ran

@@ -1,4 +1,6 @@
-// What a directive does that writes a text or jumps: its parameters, its argument, its piece.
+// What a directive does that writes a text or jumps: what is planned is put, or the next argument is another.
+use crate::planning::Planned;
+use crate::planning::plan_settled;
 use crate::state::Ran;
 use crate::state::Spot;
 use crate::state::go_on;
@@ -9,16 +11,13 @@ use making::padding::number_or;
 use pieces::Piece;
 use pieces::writing::piece_length;
 use pieces::writing::write_whole;
-use rules::Argument;
 use rules::ArgumentPosition;
 use rules::Code;
 use rules::Directive;
 use rules::Form;
-use rules::Setting;
 use rules::Settings;
 use working::Hand;
 use working::SettledOut;
-use working::argument_at;
 use working::settle_directive;
 ghost use mathlib.Core.Path.{_≡_};
 ghost use mathlib.Core.Bool.{true};
@@ -26,25 +25,16 @@ ghost use mathlib.Core.List.{List};
 ghost use Prim.Native.Nat.{ℕ, _≤_, _<_};
 ghost use lib.ListN.{length};
 ghost use Rattle.rules.specs.Directive.{FormRight};
-ghost use Rattle.rules.specs.Table.{View, meant, viewOf};
-ghost use Rattle.rules.specs.Piece.{kindOf, accepts};
-ghost use Rattle.rules.specs.Working.{glyphSource};
+ghost use Rattle.rules.specs.Table.{View, viewOf};
 ghost use Rattle.rules.specs.Working.{sourceOf as sourceIn};
-ghost use Rattle.rules.specs.Run.{put, write, writeFrom, jumpTo, itemActs};
+ghost use Rattle.rules.specs.Run.{put, writeFrom, jumpTo, itemActs};
 ghost use Rattle.rules.specs.Run.{jump as jumping};
 ghost use Rattle.rules.specs.declared.Item.the-variants.{Written};
 ghost use Rattle.pieces.specs.Bytes.{Good, bytesOf};
-ghost use Rattle.pieces.specs.Given.{Worked, Reachable};
+ghost use Rattle.pieces.specs.Given.{Worked};
 ghost use Rattle.working.specs.Settling.{InHand, handAt};
 ghost use Rattle.acting.specs.Ran.{hand};
-ghost use Rattle.acting.specs.Acting.{sourceAs, SourceReachable, Takes, Coded, JumpSet, Performed};
-
-// Where the argument of a directive comes from: the next one, the one before it, or none is taken and this stands in.
-enum Source {
-    Own,
-    Back,
-    Given(Argument),
-}
+ghost use Rattle.acting.specs.Acting.{JumpSet, Performed};
 
 // A piece put whole at the end of what is written, or refused for want of room.
 fn put_piece(
@@ -71,131 +61,6 @@ fn put_piece(
     refuse(spot, 10, before)
 }
 
-fn kind_of(argument: Argument) -> usize
-    ensures { λ r. ⌜ ((t : List ℕ) → r ≡ kindOf (meant t argument)) ⌝ }
-{
-    match argument {
-        Argument::Boolean(_) => 0,
-        Argument::Integer(_) => 1,
-        Argument::Character(_) => 2,
-        Argument::Text { start: _, end: _ } => 3,
-        Argument::Entries { first: _, count: _ } => 4,
-    }
-}
-
-fn takes_kind(form: Form, kind: usize) -> bool
-    ensures { λ r. ⌜ r ≡ accepts form kind ⌝ }
-{
-    match form {
-        Form::Object(_) => kind != 4,
-        Form::Numeral(_) => kind == 1,
-        Form::Glyph => kind == 2,
-        Form::Plural => true,
-        Form::Repeat(_) => true,
-        Form::Fold => true,
-    }
-}
-
-// The piece of a value, if it is of a kind that the form takes.
-fn write_value(
-    spot: Spot,
-    form: Form,
-    colon: bool,
-    at: bool,
-    settings: Settings,
-    argument: Argument,
-    table: &[u8],
-    count: usize,
-    before: ArgumentPosition,
-    next: ArgumentPosition,
-    out: &mut [u8],
-) -> Ran
-    requires { ⌜ Worked form settings ⌝ }
-    requires { ⌜ Reachable (now table) argument ⌝ }
-    requires { ⌜ spot .at ≤ length (now out) ⌝ }
-    requires { ⌜ (before .0 ≤ count) × (next .0 ≤ count) ⌝ }
-    ensures { λ r. ⌜ ((d : Directive) → d .colon ≡ colon → d .at ≡ at → Performed (λ on. write (viewOf (now (table .entry))) (spot .position) (spot .left) form d settings (meant (now (table .entry)) argument) (next .0) on) count spot (now (out .entry)) (now (out .exit)) r) ⌝ }
-{
-    if takes_kind(form, kind_of(argument)) {
-        let piece = make_piece(form, colon, at, settings, argument, table);
-        return put_piece(spot, piece, table, count, before, next, out);
-    }
-    refuse(spot, 7, before)
-}
-
-fn glyph_source(setting: Setting) -> Source
-    requires { ⌜ Coded setting ⌝ }
-    ensures { λ r. ⌜ ((t : List ℕ) → sourceAs t r ≡ glyphSource setting) ⌝ }
-    ensures { λ r. ⌜ ((t : List ℕ) → SourceReachable t r) ⌝ }
-{
-    match setting {
-        Setting::Absent => Source::Own,
-        Setting::Is(n) => Source::Given(Argument::Character(n as u8)),
-    }
-}
-
-fn source_of(form: Form, colon: bool, settings: Settings) -> Source
-    requires { ⌜ Worked form settings ⌝ }
-    ensures { λ r. ⌜ ((t : List ℕ) → sourceAs t r ≡ sourceIn form colon settings) ⌝ }
-    ensures { λ r. ⌜ ((t : List ℕ) → SourceReachable t r) ⌝ }
-{
-    match form {
-        Form::Object(_) => Source::Own,
-        Form::Numeral(_) => Source::Own,
-        Form::Glyph => {
-            let first = settings.first;
-            glyph_source(first)
-        }
-        Form::Plural => {
-            if colon {
-                return Source::Back;
-            }
-            Source::Own
-        }
-        Form::Repeat(_) => Source::Given(Argument::Boolean(false)),
-        Form::Fold => Source::Given(Argument::Boolean(false)),
-    }
-}
-
-// The argument that a directive takes, with the next one after it; none where 01 gives code 6.
-pub enum Taken {
-    None,
-    Is {
-        argument: Argument,
-        next: ArgumentPosition,
-    },
-}
-
-fn take_argument(source: Source, table: &[u8], hand: Hand, i: ArgumentPosition) -> Taken
-    requires { ⌜ InHand (now table) hand ⌝ }
-    requires { ⌜ SourceReachable (now table) source ⌝ }
-    requires { ⌜ i .0 ≤ hand .count ⌝ }
-    ensures { λ r. ⌜ Takes (now (table .entry)) hand source (i .0) r ⌝ }
-{
-    let k = i.0;
-    match source {
-        Source::Own => {
-            if hand.count <= k {
-                return Taken::None;
-            }
-            Taken::Is {
-                argument: argument_at(table, hand, i),
-                next: ArgumentPosition(k + 1),
-            }
-        }
-        Source::Back => {
-            if k == 0 {
-                return Taken::None;
-            }
-            Taken::Is {
-                argument: argument_at(table, hand, ArgumentPosition(k - 1)),
-                next: i,
-            }
-        }
-        Source::Given(argument) => Taken::Is { argument, next: i },
-    }
-}
-
 // The piece of a directive whose parameters are worked out.
 pub fn write_form(
     spot: Spot,
@@ -214,23 +79,17 @@ pub fn write_form(
     requires { ⌜ i .0 ≤ hand .count ⌝ }
     ensures { λ r. ⌜ ((d : Directive) → d .colon ≡ colon → d .at ≡ at → Performed (λ on. writeFrom (viewOf (now (table .entry))) (spot .position) (spot .left) form d (handAt hand 0) settings (i .0) on (sourceIn form colon settings)) (hand .count) spot (now (out .entry)) (now (out .exit)) r) ⌝ }
 {
-    let source = source_of(form, colon, settings);
-    let taken = take_argument(source, table, hand, i);
-    match taken {
-        Taken::None => refuse(spot, 6, i),
-        Taken::Is { argument, next } => write_value(
-            spot,
-            form,
-            colon,
-            at,
-            settings,
+    let planned = plan_settled(form, colon, settings, table, hand, i);
+    match planned {
+        Planned::Shows {
+            settings: shown,
             argument,
-            table,
-            hand.count,
-            i,
             next,
-            out,
-        ),
+        } => {
+            let piece = make_piece(form, colon, at, shown, argument, table);
+            put_piece(spot, piece, table, hand.count, i, next, out)
+        }
+        Planned::Wrong(code) => refuse(spot, code, i),
     }
 }
 
@@ -266,7 +125,8 @@ fn jump(spot: Spot, d: Directive, settings: Settings, count: usize, i: ArgumentP
     jump_to(spot, k + n, count, i)
 }
 
-// What a directive of a form does once it is begun.
+// What a directive of a form does once it is begun. A plan from plan_form comes back through memory, and a line of
+// such directives takes a sixth longer: so the settings go straight to write_form.
 pub fn act_form(
     spot: Spot,
     form: Form,

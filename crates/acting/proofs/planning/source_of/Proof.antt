@@ -4,8 +4,8 @@ use Rattle.rules.specs.Working.{sourceOf}
 use Rattle.rules.specs.declared.Form.{Form}
 use mathlib.Core.Path.{sym, ap, _∙_}
 use borrow.Author.Needs.{needs}
-use Rattle.acting.proofs.acting.source_of.Statement.{statement}
-use Rattle.acting.proofs.acting.source_of.Tie as tie
+use Rattle.acting.proofs.planning.source_of.Statement.{statement}
+use Rattle.acting.proofs.planning.source_of.Tie as tie
 
 enum-told : tie.Need-enum-told
 enum-told c = search needs

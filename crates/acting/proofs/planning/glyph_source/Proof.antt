@@ -4,8 +4,8 @@ use native.Mathlib.Omega.{arith}
 use Rattle.rules.specs.Working.{glyphSource}
 use mathlib.Core.Path.{sym, ap}
 use borrow.Author.Needs.{needs}
-use Rattle.acting.proofs.acting.glyph_source.Statement.{statement}
-use Rattle.acting.proofs.acting.glyph_source.Tie as tie
+use Rattle.acting.proofs.planning.glyph_source.Statement.{statement}
+use Rattle.acting.proofs.planning.glyph_source.Tie as tie
 
 enum-told : tie.Need-enum-told
 enum-told c = search needs

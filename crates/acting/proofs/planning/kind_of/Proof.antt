@@ -6,8 +6,8 @@ use Prim.Native.Nat.{ℕ}
 use mathlib.Core.List.{List}
 use mathlib.Core.Path.{sym, ap}
 use borrow.Author.Needs.{needs}
-use Rattle.acting.proofs.acting.kind_of.Statement.{statement}
-use Rattle.acting.proofs.acting.kind_of.Tie as tie
+use Rattle.acting.proofs.planning.kind_of.Statement.{statement}
+use Rattle.acting.proofs.planning.kind_of.Tie as tie
 
 enum-told : tie.Need-enum-told
 enum-told c = search needs

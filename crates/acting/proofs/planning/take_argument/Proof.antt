@@ -1,8 +1,8 @@
 -- The argument comes from its source. Assumes nothing.
 use Rattle.acting.proofs.Sources.{takes-own, takes-own-none, takes-back, takes-back-none, takes-given}
 use borrow.Author.Needs.{needs}
-use Rattle.acting.proofs.acting.take_argument.Statement.{statement}
-use Rattle.acting.proofs.acting.take_argument.Tie as tie
+use Rattle.acting.proofs.planning.take_argument.Statement.{statement}
+use Rattle.acting.proofs.planning.take_argument.Tie as tie
 
 enum-told : tie.Need-enum-told
 enum-told c = search needs

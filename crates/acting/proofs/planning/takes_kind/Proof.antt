@@ -1,7 +1,7 @@
 -- Whether a form takes the kind. Assumes nothing.
 use borrow.Author.Needs.{needs}
-use Rattle.acting.proofs.acting.takes_kind.Statement.{statement}
-use Rattle.acting.proofs.acting.takes_kind.Tie as tie
+use Rattle.acting.proofs.planning.takes_kind.Statement.{statement}
+use Rattle.acting.proofs.planning.takes_kind.Tie as tie
 
 enum-told : tie.Need-enum-told
 enum-told c = search needs

@@ -1,0 +1,57 @@
+-- What is shown is the argument that is taken, if its kind is right. Assumes nothing.
+use mathlib.Core.Path.{_∙_, ap, sym}
+use borrow.Author.Needs.{needs}
+use Rattle.rules.specs.Piece.{accepts}
+use Rattle.acting.proofs.Plans.{plans-none, plans-shown, plans-other}
+use Rattle.acting.proofs.planning.plan_settled.Statement.{statement}
+use Rattle.acting.proofs.planning.plan_settled.Tie as tie
+
+source-of-requires : tie.Need-source-of-requires
+source-of-requires c κs = search needs
+
+take-argument-requires : tie.Need-take-argument-requires
+take-argument-requires c κs =
+    (c .before .before .pre .1 .0, ((c .source-of .ensures .1) (c .before .before .args .table .now), c .before .before .pre .1 .1))
+
+enum-told : tie.Need-enum-told
+enum-told c = search needs
+
+enum-known-taken : tie.Need-enum-known-taken
+enum-known-taken c = search needs
+
+kind-of-requires : tie.Need-kind-of-requires
+kind-of-requires c κs = search needs
+
+takes-kind-requires : tie.Need-takes-kind-requires
+takes-kind-requires c κs = search needs
+
+returns : tie.Need-returns
+returns c =
+    let a = c .before .before .before .before .before .before .before .before .before .args in
+    plans-shown (a .form) (a .colon) (a .settings) ((c .before .before .before .before .before .before .before .source-of .ensures .0) (a .table .now)) (c .before .before .before .before .before .before .take-argument .ensures) (c .before .before .before .before .taken .given .1) (c .before .before .before .before .before .before .before .before .before .pre .0)
+    (sym (ap (accepts (a .form)) ((c .before .before .kind-of .ensures) (a .table .now))) ∙ sym (c .before .takes-kind .ensures) ∙ (c .if1 .taken))
+
+returns-2 : tie.Need-returns-2
+returns-2 c =
+    let a = c .before .before .before .before .before .args in
+    plans-none (a .form) (a .colon) (a .settings) ((c .before .before .before .source-of .ensures .0) (a .table .now)) (c .before .before .take-argument .ensures) (c .enum-told .given .1)
+
+returns-3 : tie.Need-returns-3
+returns-3 c =
+    let a = c .before .before .before .before .before .before .before .before .before .args in
+    plans-other (a .form) (a .colon) (a .settings) ((c .before .before .before .before .before .before .before .source-of .ensures .0) (a .table .now)) (c .before .before .before .before .before .before .take-argument .ensures) (c .before .before .before .before .taken .given .1)
+    (sym (ap (accepts (a .form)) ((c .before .before .kind-of .ensures) (a .table .now))) ∙ sym (c .before .takes-kind .ensures) ∙ (c .if1 .left))
+
+pub plan-settled-spec : {M : Type 1} → statement M
+plan-settled-spec =
+    tie.close
+    (tie.spec
+    source-of-requires
+    take-argument-requires
+    enum-told
+    enum-known-taken
+    kind-of-requires
+    takes-kind-requires
+    returns
+    returns-2
+    returns-3)
