@@ -284,7 +284,6 @@ fn meet_item(text: &[u8], p: usize, s: Place) -> Met
 
 // What a mark at p does, after which the text goes on at next. A mark is well written.
 fn meet_mark(mark: u8, p: usize, next: usize, s: Place) -> Met
-    requires { ⌜ (mark ≡ 0 → ⊥) ⌝ }
     ensures { λ r. ⌜ r ≡ metMark p next mark s ⌝ }
 {
     let around = s.around;
@@ -301,7 +300,8 @@ fn meet_mark(mark: u8, p: usize, next: usize, s: Place) -> Met
     meet_opener(p, next, true, block, s.room)
 }
 
-// What stands at p does. Nearly all that opens, parts or closes a block is a mark.
+// What the item at p does. A mark is asked for first: nearly all that opens, parts or closes a block is one, and no
+// Directive is built for it.
 fn meet(text: &[u8], p: usize, s: Place) -> Met
     ensures { λ r. ⌜ r ≡ metItem p (itemAt (now (text .entry)) p) s ⌝ }
 {
