@@ -1,1 +1,2 @@
 pub mod ClauseLaws
+pub mod PassLaws

@@ -1,15 +1,25 @@
 -- What the parts that end sequences, open blocks and count passes answer. Assumes nothing: these are definitions.
-use Prim.Native.Nat.{ℕ, _+_, _≤_}
+use Prim.Native.Nat.{ℕ, _+_, _≤_, _<_}
 use mathlib.Core.Path.{_≡_}
 use mathlib.Core.Bool.{Bool, true, false}
 use mathlib.Core.List.{List}
-use Rattle.rules.specs.Table.{Value, boolean, integer, character, string, list, meant, entryCount, Holds}
+use Rattle.rules.specs.Table.{Value, boolean, integer, character, string, list, meant, entryCount, Holds, viewOf}
+use Rattle.rules.specs.Text.{Sequence}
+use Rattle.rules.specs.Working.{Context}
+use Rattle.rules.specs.Run.{Flow, refused, Frame, iteration, Outside, sameArguments, other, enter}
 use Rattle.rules.specs.declared.Argument.{Argument}
 use Rattle.rules.specs.declared.Bracket.the-variants.{Conditional, Iteration}
 use Rattle.rules.specs.declared.Code.{Code}
 use Rattle.rules.specs.declared.Code.the-variants.{Writes, Jump, Escape, Opens, Separator, Closes, Unknown}
+use Rattle.rules.specs.declared.Directive.{Directive}
 use Rattle.rules.specs.declared.Item.{Item}
 use Rattle.rules.specs.declared.Item.the-variants.{End, Literal, Written, BadNumber, Unfinished}
+use Rattle.rules.specs.declared.Setting.{Setting}
+use Rattle.rules.specs.declared.Settings.{Settings}
+use Rattle.working.specs.Settling.{InHand, handAt}
+use Rattle.working.specs.declared.Hand.{Hand}
+use Rattle.blocks.specs.declared.passes.Over.{Over}
+use Rattle.blocks.specs.declared.passes.Over.the-variants.{Is as OverIs, Wrong as OverWrong}
 use Rattle.blocks.specs.declared.passes.Listed.{Listed}
 use Rattle.blocks.specs.declared.passes.Listed.the-variants.{Is, Not}
 
@@ -61,3 +71,26 @@ isListValue (list first count) = true
 abbrev pub ListsTo : List ℕ → ℕ → Argument → Listed → Type 0
 ListsTo t i x (Is h) = (meant t x ≡ list (h .first .0) (h .count)) × (Holds t i x → h .first .0 + h .count ≤ entryCount t)
 ListsTo t i x Not = isListValue (meant t x) ≡ false
+
+-- the arguments in hand outside an iteration, with `@` or not
+abbrev pub outsideOf : Bool → Hand → ℕ → Outside
+outsideOf true hand i = sameArguments
+outsideOf false hand i = other (handAt hand (i + 1))
+
+-- how an iteration is entered over r
+abbrev pub onOver : ℕ → ℕ → Setting → Sequence → Sequence → Outside → Over → (Frame → Context → Flow) → Flow
+onOver p m limit body rest out (OverIs inner first) on = on (iteration p limit body rest out) (handAt inner (first .0))
+onOver p m limit body rest out (OverWrong code) on = refused code p m
+
+-- the entries in hand, or those of a list that lies in the table
+abbrev pub OverIn : List ℕ → Hand → Bool → ℕ → Over → Type 0
+OverIn t hand true i (OverIs inner first) = (inner ≡ hand) × (first .0 ≡ i)
+OverIn t hand true i (OverWrong code) = Unit {0}
+OverIn t hand false i (OverIs inner first) = InHand t inner × ((first .0 ≡ 0) × (i < hand .count))
+OverIn t hand false i (OverWrong code) = Unit {0}
+
+-- r is what an iteration goes over, where i is the next argument
+pub record GoesOver (t : List ℕ) (hand : Hand) (at : Bool) (i : ℕ) (r : Over) : Type 0 where
+  pub is : (p m j : ℕ) (d : Directive) → d .at ≡ at → (st : Settings) (body rest : Sequence) (on : Frame → Context → Flow)
+      → enter (viewOf t) p m d body rest (handAt hand j) st i on ≡ onOver p m (st .first) body rest (outsideOf at hand i) r on
+  pub inside : OverIn t hand at i r

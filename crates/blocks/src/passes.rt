@@ -3,14 +3,16 @@ use rules::Argument;
 use rules::ArgumentPosition;
 use rules::Setting;
 use working::Hand;
+use working::argument_at;
 ghost use mathlib.Core.Path.{_≡_};
+ghost use mathlib.Core.Bool.{cond};
 ghost use mathlib.Core.List.{List};
-ghost use Prim.Native.Nat.{ℕ};
+ghost use Prim.Native.Nat.{ℕ, _+_, _≤_, _<_};
 ghost use Rattle.rules.specs.Directive.{either};
 ghost use Rattle.rules.specs.Working.{noneRemain};
 ghost use Rattle.rules.specs.Run.{usedUp, oneLess};
-ghost use Rattle.working.specs.Settling.{handAt};
-ghost use Rattle.blocks.specs.Parts.{ListsTo};
+ghost use Rattle.working.specs.Settling.{InHand, handAt};
+ghost use Rattle.blocks.specs.Parts.{ListsTo, GoesOver};
 
 fn used_up(passes: Setting) -> bool
     ensures { λ r. ⌜ r ≡ usedUp passes ⌝ }
@@ -46,12 +48,12 @@ pub fn is_over(passes: Setting, next: ArgumentPosition, hand: Hand) -> bool
 }
 
 // The entries of a list as the arguments in hand.
-pub enum Listed {
+enum Listed {
     Is(Hand),
     Not,
 }
 
-pub fn list_of(argument: Argument) -> Listed
+fn list_of(argument: Argument) -> Listed
     ensures { λ r. ⌜ ((t : List ℕ) (i : ℕ) → ListsTo t i argument r) ⌝ }
 {
     match argument {
@@ -61,4 +63,44 @@ pub fn list_of(argument: Argument) -> Listed
         Argument::Text { start: _, end: _ } => Listed::Not,
         Argument::Entries { first, count } => Listed::Is(Hand { first, count }),
     }
+}
+
+// What an iteration goes over: entries in hand, from the first of these on; or the code that refuses it.
+pub enum Over {
+    Is { hand: Hand, first: ArgumentPosition },
+    Wrong(u32),
+}
+
+// With @ the arguments that remain, and else the entries of the list that the next argument is.
+pub fn go_over(table: &[u8], hand: Hand, at: bool, i: ArgumentPosition) -> Over
+    requires { ⌜ InHand (now table) hand ⌝ }
+    requires { ⌜ i .0 ≤ hand .count ⌝ }
+    ensures { λ r. ⌜ GoesOver (now (table .entry)) hand at (i .0) r ⌝ }
+{
+    if at {
+        return Over::Is { hand, first: i };
+    }
+    if hand.count <= i.0 {
+        return Over::Wrong(6);
+    }
+    let argument = argument_at(table, hand, i);
+    let listed = list_of(argument);
+    match listed {
+        Listed::Not => Over::Wrong(7),
+        Listed::Is(inner) => Over::Is {
+            hand: inner,
+            first: ArgumentPosition(0),
+        },
+    }
+}
+
+// The next argument after an iteration: with @ the one that its last pass left, and else the one after the list.
+pub fn next_after(at: bool, last: ArgumentPosition, i: ArgumentPosition) -> ArgumentPosition
+    requires { ⌜ i .0 < 18446744073709551615 ⌝ }
+    ensures { λ r. ⌜ r .0 ≡ cond at (last .0) (i .0 + 1) ⌝ }
+{
+    if at {
+        return last;
+    }
+    ArgumentPosition(i.0 + 1)
 }

@@ -1,41 +1,43 @@
 -- What the runners make of the answers that their parts give. Assumes nothing.
 use Prim.Native.Nat.{ℕ, _+_, _-_, _<_, _≤_}
 use mathlib.Core.Path.{_≡_, refl, sym, ap, subst, _∙_}
-use mathlib.Core.Bool.{Bool, true, false}
+use mathlib.Core.Bool.{Bool, true, false, cond}
 use mathlib.Core.List.{List, [], _∷_}
 use native.Mathlib.Omega.{arith}
 use denote.Enum.Declared.{tagOf}
 use types.Run.{OneOf, miss}
 use lib.ListN.{length}
-use borrow.Author.Tests.{lt-ltb, le-ltb}
 use Rattle.rules.specs.Directive.{CodeRight, itemAt, either}
-use Rattle.rules.specs.Table.{View, Value, boolean, integer, character, string, list}
+use Rattle.rules.specs.Table.{View}
 use Rattle.rules.specs.Text.{Level, innermost, outer, end, levelsAt}
-use Rattle.rules.specs.Working.{Context, noneRemain, argumentIn}
-use Rattle.rules.specs.Run.{Flow, refused, Frame, iteration, conditional, other, usedUp, oneLess, overList, run}
+use Rattle.rules.specs.Working.{noneRemain}
+use Rattle.rules.specs.Run.{Flow, refused, Frame, iteration, sameArguments, other, usedUp, oneLess, run}
 use Rattle.rules.specs.declared.Bracket.the-variants.{Conditional, Iteration}
 use Rattle.rules.specs.declared.Code.{Code}
 use Rattle.rules.specs.declared.Code.the-variants.{Writes, Jump, Escape, Opens, Separator, Closes, Unknown}
+use Rattle.rules.specs.declared.ArgumentPosition.{ArgumentPosition}
 use Rattle.rules.specs.declared.Directive.{Directive}
 use Rattle.rules.specs.declared.Form.{Form}
 use Rattle.rules.specs.declared.Item.{Item}
 use Rattle.rules.specs.declared.Item.the-variants.{End, Literal, Written, BadNumber, Unfinished}
 use Rattle.rules.specs.declared.Setting.{Setting}
 use Rattle.rules.proofs.Item as item-declared
-use Rattle.rules.proofs.RunLaws.{choose-yes, choose-no}
 use Rattle.rules.proofs.TextLaws.{next-inside, stands}
 use Rattle.checking.specs.Ends.{AfterBlock}
+use Rattle.working.specs.Settling.{InHand, handAt}
+use Rattle.working.specs.declared.Hand.{Hand}
 use Rattle.acting.specs.declared.state.Ran.{Ran}
 use Rattle.acting.specs.declared.state.Stop.{Stop}
 use Rattle.acting.specs.declared.state.Stop.the-variants.{Ended, Left, Refused}
 use Rattle.acting.specs.Ran.{refusedRan, endedRan, hand}
 use Rattle.reader.specs.Marks.{closesAt}
 use Rattle.reader.proofs.MarkLaws.{closes-end}
-use Rattle.running.specs.Runs.{EndsAt, After, restAt, Runs, Steps, Strides, Blocks, Passes, opening, overListed}
-use Rattle.blocks.specs.Parts.{endsSequence, endsAt, opensBlock, iterates, isListValue}
+use Rattle.running.specs.Runs.{EndsAt, After, restAt, Runs, Steps, Strides, Blocks, Passes, opening}
+use Rattle.blocks.specs.Parts.{endsSequence, endsAt, opensBlock, iterates, outsideOf, OverIn}
+use Rattle.blocks.specs.declared.passes.Over.the-variants.{Is as OverIs}
 use Rattle.engine.specs.Running.{isEnded, ActsAlone}
 use Rattle.running.proofs.Arms.{runs-end, steps-deep, steps-block-none, steps-block}
-use Rattle.running.proofs.BlockArms.{chooses-run, iterates-run, blocks-refused, passes-none, passes-on}
+use Rattle.running.proofs.BlockArms.{chooses-run, iterates-run, blocks-refused, blocks-same, blocks-list, passes-none, passes-on}
 use Rattle.running.proofs.Strides.{strides-runs-left, strides-runs-refused}
 use Rattle.running.proofs.Places.{end-at, bad-at, unfinished-at, separator-at, closer-at, unknown-at, iteration-at, conditional-at}
 
@@ -180,31 +182,30 @@ blocks-told s n v first count level q f left at b r code x i place e h l k =
 pub closes-after : (t : List ℕ) (q known place : ℕ) → outer (levelsAt t known) ≡ outer (levelsAt t q) → q ≤ known → AfterBlock t known place → After (levelsAt t) (length t) q place
 closes-after t q known place o l a = record { is = a .is ∙ o; least = omega (arith, a .least); most = a .most }
 
--- a value that is no list, and one that is
-pub over-other : (v : View) (p m : ℕ) (on : Context → Flow) (x : Value) → isListValue x ≡ false → overList v p m on x ≡ refused 7 p m
-over-other v p m on (boolean b) h = refl
-over-other v p m on (integer z) h = refl
-over-other v p m on (character c) h = refl
-over-other v p m on (string s) h = refl
-over-other v p m on (list f n) h = absurd (not-both refl h)
+-- an iteration over the entries inner, after which the arguments in hand outside come back
+pub over-blocks : (s : ℕ → List Level) (n : ℕ) (v : View) (t : List ℕ) (level p q : ℕ) (f : List Frame → Flow) (left at : ℕ) (b : List ℕ) (hand inner : Hand) (with-at : Bool) (i : ℕ) (first : ArgumentPosition) (passes : Setting)
+    {e : List ℕ} {r : Ran} (o : ArgumentPosition) → OverIn t hand with-at i (OverIs inner first) → o .0 ≡ cond with-at (r .next .0) (i + 1)
+    → ((ks : List Frame) → f ks ≡ run v left end (iteration p passes (restAt s q) (innermost (outer (s q)) .rest) (outsideOf with-at hand i) ∷ ks) (handAt inner (first .0)))
+    → Passes s n v (handAt inner) level p q (first .0) passes left at b e r
+    → Blocks s n v (handAt hand) level q f left at b e (record { stop = r .stop; next = o; left = r .left; at = r .at; place = r .place })
+over-blocks s n v t level p q f left at b hand inner true i first passes {e} {r} o w k h u =
+    let u₂ : Passes s n v (handAt hand) level p q (first .0) passes left at b e r = subst (λ (x : Hand). Passes s n v (handAt x) level p q (first .0) passes left at b e r) (w .0) u in
+    let h₂ : (ks : List Frame) → f ks ≡ run v left end (iteration p passes (restAt s q) (innermost (outer (s q)) .rest) sameArguments ∷ ks) (handAt hand (first .0)) =
+    λ ks. h ks ∙ ap (λ (x : Hand). run v left end (iteration p passes (restAt s q) (innermost (outer (s q)) .rest) sameArguments ∷ ks) (handAt x (first .0))) (w .0) in
+    subst (λ (x : ℕ). Blocks s n v (handAt hand) level q f left at b e (record { stop = r .stop; next = record { 0 = x }; left = r .left; at = r .at; place = r .place })) (sym k)
+    (blocks-same s n v (hand .first .0) (hand .count) level q f left at b p (first .0) passes h₂ u₂)
+over-blocks s n v t level p q f left at b hand inner false i first passes {e} {r} o w k h u =
+    let u₂ : Passes s n v (handAt inner) level p q 0 passes left at b e r = subst (λ (x : ℕ). Passes s n v (handAt inner) level p q x passes left at b e r) (w .1 .0) u in
+    let h₂ : (ks : List Frame) → f ks ≡ run v left end (iteration p passes (restAt s q) (innermost (outer (s q)) .rest) (other (handAt hand (i + 1))) ∷ ks) (handAt inner 0) =
+    λ ks. h ks ∙ ap (λ (x : ℕ). run v left end (iteration p passes (restAt s q) (innermost (outer (s q)) .rest) (other (handAt hand (i + 1))) ∷ ks) (handAt inner x)) (w .1 .0) in
+    subst (λ (x : ℕ). Blocks s n v (handAt hand) level q f left at b e (record { stop = r .stop; next = record { 0 = x }; left = r .left; at = r .at; place = r .place })) (sym k)
+    (blocks-list s n v (hand .first .0) (hand .count) level q f left at b p (i + 1) (inner .first .0) (inner .count) passes h₂ u₂ (omega (arith, w .1 .1)))
 
-module _ (s : ℕ → List Level) (v : View) (first count p q : ℕ) (limit : Setting) (i left : ℕ) (ks : List Frame) where
-  pub over-none : count ≤ i → overListed s v (hand first count) p q limit i left ks ≡ refused 6 p left
-  over-none h = choose-no _ _ (le-ltb i count h)
-
-  over-there : i < count → (x : Value) → argumentIn v (hand first count 0) i ≡ x
-      → overListed s v (hand first count) p q limit i left ks
-      ≡ overList v p left (λ inner. run v left end (iteration p limit (restAt s q) (innermost (outer (s q)) .rest) (other (hand first count (i + 1))) ∷ ks) inner) x
-  over-there h x e =
-      choose-yes _ _ (lt-ltb i count h)
-      ∙ ap (λ (y : Value). overList v p left (λ inner. run v left end (iteration p limit (restAt s q) (innermost (outer (s q)) .rest) (other (hand first count (i + 1))) ∷ ks) inner) y) e
-
-  pub over-not : i < count → (x : Value) → argumentIn v (hand first count 0) i ≡ x → isListValue x ≡ false → overListed s v (hand first count) p q limit i left ks ≡ refused 7 p left
-  over-not h x e n = over-there h x e ∙ over-other v p left _ x n
-
-  pub over-list : i < count → (f k : ℕ) → argumentIn v (hand first count 0) i ≡ list f k
-      → overListed s v (hand first count) p q limit i left ks ≡ run v left end (iteration p limit (restAt s q) (innermost (outer (s q)) .rest) (other (hand first count (i + 1))) ∷ ks) (hand f k 0)
-  over-list h f k e = over-there h (list f k) e
+-- what is asked of the entries that are gone over
+pub over-hand : (t : List ℕ) (hand inner : Hand) (with-at : Bool) (i : ℕ) (first : ArgumentPosition) → OverIn t hand with-at i (OverIs inner first) → InHand t hand → i ≤ hand .count
+    → InHand t inner × (first .0 ≤ inner .count)
+over-hand t hand inner true i first w h l = (subst (InHand t) (sym (w .0)) h, subst (λ (x : Hand). first .0 ≤ x .count) (sym (w .0)) (omega (arith, w .1, l)))
+over-hand t hand inner false i first w h l = (w .0, omega (arith, w .1 .0))
 
 -- no step is left for the next pass, as it is told
 pub passes-none-told : (s : ℕ → List Level) (n : ℕ) (v : View) (first count level p q i : ℕ) (passes : Setting) (left at : ℕ) (b : List ℕ) (r : Ran) (place : ℕ)

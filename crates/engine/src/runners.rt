@@ -13,9 +13,10 @@ use blocks::clauses::choose_clause;
 use blocks::ends::ends_here;
 use blocks::ends::is_iteration;
 use blocks::ends::opens_block;
-use blocks::passes::Listed;
+use blocks::passes::Over;
+use blocks::passes::go_over;
 use blocks::passes::is_over;
-use blocks::passes::list_of;
+use blocks::passes::next_after;
 use blocks::passes::one_less;
 use checking::text::after_block;
 use fitting::places::is_well_written;
@@ -28,7 +29,6 @@ use rules::Setting;
 use rules::Settings;
 use working::Hand;
 use working::SettledOut;
-use working::argument_at;
 use working::settle_directive;
 ghost use mathlib.Core.Path.{_≡_};
 ghost use mathlib.Core.Bool.{true, false};
@@ -39,7 +39,7 @@ ghost use Rattle.rules.specs.Table.{viewOf};
 ghost use Rattle.rules.specs.Text.{levelsAt};
 ghost use Rattle.rules.specs.declared.Item.the-variants.{Written};
 ghost use Rattle.working.specs.Settling.{InHand, handAt};
-ghost use Rattle.running.specs.Runs.{Runs, Steps, Blocks, Passes, RunsClause, EndsBlock, picking, entering, opening, overListed};
+ghost use Rattle.running.specs.Runs.{Runs, Steps, Blocks, Passes, RunsClause, EndsBlock, picking, entering, opening};
 ghost use Rattle.blocks.specs.Parts.{endsAt, opensBlock, iterates};
 
 // The sequence that is read at start, with level levels left for blocks.
@@ -326,54 +326,17 @@ fn run_iteration(
     ensures { λ r. ⌜ ((j : ℕ) → Blocks (levelsAt (now (text .entry))) (length (now (text .entry))) (viewOf (now (table .entry))) (handAt hand) level (d .next) (entering (levelsAt (now (text .entry))) (viewOf (now (table .entry))) (handAt hand) (spot .position) d (d .next) j (spot .left) settings (i .0)) (spot .left) (spot .at) (now (out .entry)) (now (out .exit)) r) ⌝ }
 {
     let limit = settings.first;
-    if d.at {
-        return run_passes(text, table, level, spot, d.next, limit, hand, i, out);
-    }
-    run_over_list(text, table, level, spot, d.next, limit, hand, i, out)
-}
-
-// The passes over the list that the next argument is.
-fn run_over_list(
-    text: &[u8],
-    table: &[u8],
-    level: usize,
-    spot: Spot,
-    q: usize,
-    limit: Setting,
-    hand: Hand,
-    i: ArgumentPosition,
-    out: &mut [u8],
-) -> Ran
-    requires { ⌜ InHand (now table) hand ⌝ }
-    requires { ⌜ i .0 ≤ hand .count ⌝ }
-    requires { ⌜ q ≤ length (now text) ⌝ }
-    requires { ⌜ spot .at ≤ length (now out) ⌝ }
-    ensures { λ r. ⌜ Blocks (levelsAt (now (text .entry))) (length (now (text .entry))) (viewOf (now (table .entry))) (handAt hand) level q (overListed (levelsAt (now (text .entry))) (viewOf (now (table .entry))) (handAt hand) (spot .position) q limit (i .0) (spot .left)) (spot .left) (spot .at) (now (out .entry)) (now (out .exit)) r ⌝ }
-{
-    let k = i.0;
-    if hand.count <= k {
-        return refuse(spot, 6, i);
-    }
-    let argument = argument_at(table, hand, i);
-    let listed = list_of(argument);
-    match listed {
-        Listed::Not => refuse(spot, 7, i),
-        Listed::Is(inner) => {
-            let r = run_passes(
-                text,
-                table,
-                level,
-                spot,
-                q,
-                limit,
-                inner,
-                ArgumentPosition(0),
-                out,
-            );
+    let over = go_over(table, hand, d.at, i);
+    match over {
+        Over::Wrong(code) => refuse(spot, code, i),
+        Over::Is { hand: inner, first } => {
+            // the passes are called at one place: a second one would take as much stack again
+            let r = run_passes(text, table, level, spot, d.next, limit, inner, first, out);
             let stop = r.stop;
+            let last = r.next;
             Ran {
                 stop,
-                next: ArgumentPosition(k + 1),
+                next: next_after(d.at, last, i),
                 left: r.left,
                 at: r.at,
                 place: r.place,

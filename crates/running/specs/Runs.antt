@@ -107,12 +107,6 @@ pub record Passes (s : ℕ → List Level) (n : ℕ) (v : View) (c : ℕ → Con
       → Same (run v left end (iteration p passes (restAt s q) (innermost (outer (s q)) .rest) out ∷ ks) (c i)) (λ l j. run v l (restAt s (r .place)) ks (afterwards out (c j))) away at b e r) (c 0 .count) left at b e r
   pub after : r .stop ≡ Ended → After s n q (r .place)
 
--- the passes over the list that argument i is, of an iteration at p whose inside is at q
-abbrev pub overListed : (ℕ → List Level) → View → (ℕ → Context) → ℕ → ℕ → Setting → ℕ → ℕ → List Frame → Flow
-overListed s v c p q limit i left ks =
-    withArgument v p left (c i) i
-    (λ x. overList v p left (λ inner. run v left end (iteration p limit (restAt s q) (innermost (outer (s q)) .rest) (other (c (i + 1))) ∷ ks) inner) x)
-
 -- the clause at z, whatever the block is that it belongs to
 pub record RunsClause (s : ℕ → List Level) (n : ℕ) (v : View) (c : ℕ → Context) (level z i left at : ℕ) (b e : List ℕ) (r : Ran) : Type 0 where
   pub is : (q : ℕ) (f : List Frame → Flow) → ((ks : List Frame) → f ks ≡ run v left (restAt s z) (conditional (innermost (outer (s q)) .rest) ∷ ks) (c i))

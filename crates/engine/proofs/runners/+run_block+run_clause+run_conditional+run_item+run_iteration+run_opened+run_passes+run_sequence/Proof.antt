@@ -9,24 +9,25 @@ use borrow.Author.Tests.{not-true, not-false}
 use lib.ListN.{length}
 use Rattle.rules.specs.Directive.{itemAt}
 use Rattle.rules.specs.Table.{Value, viewOf}
-use Rattle.rules.specs.Text.{innermost, outer, levelsAt}
+use Rattle.rules.specs.Text.{end, innermost, outer, levelsAt}
 use Rattle.rules.specs.Run.{Flow, Frame, run, conditional, overList}
 use Rattle.rules.specs.declared.Code.{Code}
 use Rattle.rules.specs.declared.Item.{Item}
 use Rattle.rules.specs.declared.Setting.{Setting}
 use Rattle.working.specs.Settling.{InHand, handAt}
+use Rattle.working.proofs.WorkLaws.{hand-small}
 use Rattle.working.proofs.Answers.{next-reaches, run-settled, run-refused}
 use Rattle.blocks.specs.Clauses.{onChosen, ChosenIn}
 use Rattle.blocks.specs.declared.clauses.Chosen.{Chosen}
-use Rattle.blocks.specs.Parts.{endsAt, endsSequence, ListsTo, iterates}
-use Rattle.blocks.specs.declared.passes.Listed.{Listed}
+use Rattle.blocks.specs.Parts.{endsAt, endsSequence, iterates, onOver, outsideOf, OverIn}
+use Rattle.blocks.specs.declared.passes.Over.{Over}
 use Rattle.acting.specs.declared.state.Ran.{Ran}
-use Rattle.running.specs.Runs.{Runs, Steps, Blocks, Passes, restAt, picking, entering, inside, opening, overListed}
+use Rattle.running.specs.Runs.{Runs, Steps, Blocks, Passes, restAt, picking, entering, inside, opening}
 use Rattle.acting.proofs.ActLaws.{settings-ill, argument-there, argument-none}
 use Rattle.running.proofs.Strides.{strides-runs-on, runs-on, runs-left, runs-refused}
 use Rattle.rules.proofs.Bases.{code-right}
 use Rattle.running.proofs.BlockArms.{passes-over, passes-none, passes-on, passes-left, passes-refused, blocks-nothing, blocks-clause, blocks-clause-left, blocks-clause-refused, blocks-same, blocks-list, blocks-as}
-use Rattle.engine.proofs.RunnerLaws.{Onto, is-ended, ended-as, runs-stopped, sequence-ends, sequence-closes, literal-inside, no-other, acts-alone, block-deep, block-none, block-opens, blocks-told, closes-after, over-other, over-none, over-not, over-list, passes-none-told, passes-on-told}
+use Rattle.engine.proofs.RunnerLaws.{Onto, is-ended, ended-as, runs-stopped, sequence-ends, sequence-closes, literal-inside, no-other, acts-alone, block-deep, block-none, block-opens, blocks-told, closes-after, over-blocks, over-hand, passes-none-told, passes-on-told}
 use Rattle.rules.proofs.RunLaws.{choose-yes, choose-no}
 use Rattle.rules.proofs.TextLaws.{next-inside}
 use Prim.Native.Nat.{ℕ, _+_, _-_, _*_, _<_, _≤_}
@@ -34,38 +35,36 @@ use borrow.Fn.Kinds.{In}
 use borrow.Fn.PlainCycle.{Measures, is, falls, and}
 use Rattle.engine.proofs.runners.run_block.Reads as run-block
 use Rattle.engine.proofs.runners.run_block.Kinds as run-block-kinds
-use Rattle.engine.proofs.runners.+run_block+run_clause+run_conditional+run_item+run_iteration+run_opened+run_over_list+run_passes+run_sequence.Lts-run_block as run-block-lts
+use Rattle.engine.proofs.runners.+run_block+run_clause+run_conditional+run_item+run_iteration+run_opened+run_passes+run_sequence.Lts-run_block as run-block-lts
 use Rattle.engine.proofs.runners.run_clause.Reads as run-clause
 use Rattle.engine.proofs.runners.run_clause.Kinds as run-clause-kinds
-use Rattle.engine.proofs.runners.+run_block+run_clause+run_conditional+run_item+run_iteration+run_opened+run_over_list+run_passes+run_sequence.Lts-run_clause as run-clause-lts
+use Rattle.engine.proofs.runners.+run_block+run_clause+run_conditional+run_item+run_iteration+run_opened+run_passes+run_sequence.Lts-run_clause as run-clause-lts
 use Rattle.engine.proofs.runners.run_conditional.Reads as run-conditional
 use Rattle.engine.proofs.runners.run_conditional.Kinds as run-conditional-kinds
-use Rattle.engine.proofs.runners.+run_block+run_clause+run_conditional+run_item+run_iteration+run_opened+run_over_list+run_passes+run_sequence.Lts-run_conditional as run-conditional-lts
+use Rattle.engine.proofs.runners.+run_block+run_clause+run_conditional+run_item+run_iteration+run_opened+run_passes+run_sequence.Lts-run_conditional as run-conditional-lts
 use Rattle.engine.proofs.runners.run_item.Reads as run-item
 use Rattle.engine.proofs.runners.run_item.Kinds as run-item-kinds
-use Rattle.engine.proofs.runners.+run_block+run_clause+run_conditional+run_item+run_iteration+run_opened+run_over_list+run_passes+run_sequence.Lts-run_item as run-item-lts
+use Rattle.engine.proofs.runners.+run_block+run_clause+run_conditional+run_item+run_iteration+run_opened+run_passes+run_sequence.Lts-run_item as run-item-lts
 use Rattle.engine.proofs.runners.run_iteration.Reads as run-iteration
 use Rattle.engine.proofs.runners.run_iteration.Kinds as run-iteration-kinds
-use Rattle.engine.proofs.runners.+run_block+run_clause+run_conditional+run_item+run_iteration+run_opened+run_over_list+run_passes+run_sequence.Lts-run_iteration as run-iteration-lts
+use Rattle.engine.proofs.runners.+run_block+run_clause+run_conditional+run_item+run_iteration+run_opened+run_passes+run_sequence.Lts-run_iteration as run-iteration-lts
 use Rattle.engine.proofs.runners.run_opened.Reads as run-opened
 use Rattle.engine.proofs.runners.run_opened.Kinds as run-opened-kinds
-use Rattle.engine.proofs.runners.+run_block+run_clause+run_conditional+run_item+run_iteration+run_opened+run_over_list+run_passes+run_sequence.Lts-run_opened as run-opened-lts
-use Rattle.engine.proofs.runners.run_over_list.Reads as run-over-list
-use Rattle.engine.proofs.runners.run_over_list.Kinds as run-over-list-kinds
-use Rattle.engine.proofs.runners.+run_block+run_clause+run_conditional+run_item+run_iteration+run_opened+run_over_list+run_passes+run_sequence.Lts-run_over_list as run-over-list-lts
+use Rattle.engine.proofs.runners.+run_block+run_clause+run_conditional+run_item+run_iteration+run_opened+run_passes+run_sequence.Lts-run_opened as run-opened-lts
 use Rattle.engine.proofs.runners.run_passes.Reads as run-passes
 use Rattle.engine.proofs.runners.run_passes.Kinds as run-passes-kinds
-use Rattle.engine.proofs.runners.+run_block+run_clause+run_conditional+run_item+run_iteration+run_opened+run_over_list+run_passes+run_sequence.Lts-run_passes as run-passes-lts
+use Rattle.engine.proofs.runners.+run_block+run_clause+run_conditional+run_item+run_iteration+run_opened+run_passes+run_sequence.Lts-run_passes as run-passes-lts
 use Rattle.engine.proofs.runners.run_sequence.Reads as run-sequence
 use Rattle.engine.proofs.runners.run_sequence.Kinds as run-sequence-kinds
-use Rattle.engine.proofs.runners.+run_block+run_clause+run_conditional+run_item+run_iteration+run_opened+run_over_list+run_passes+run_sequence.Lts-run_sequence as run-sequence-lts
+use Rattle.engine.proofs.runners.+run_block+run_clause+run_conditional+run_item+run_iteration+run_opened+run_passes+run_sequence.Lts-run_sequence as run-sequence-lts
 use Rattle.blocks.proofs.clauses.choose_clause.Reads as choose-clause-reads
 use Rattle.engine.proofs.items.act.Reads as act-reads
 use Rattle.checking.proofs.text.after_block.Reads as after-block-reads
 use Rattle.blocks.proofs.ends.ends_here.Reads as ends-here-reads
 use Rattle.blocks.proofs.ends.is_iteration.Reads as is-iteration-reads
 use Rattle.blocks.proofs.passes.is_over.Reads as is-over-reads
-use Rattle.blocks.proofs.passes.list_of.Reads as list-of-reads
+use Rattle.blocks.proofs.passes.go_over.Reads as go-over-reads
+use Rattle.blocks.proofs.passes.next_after.Reads as next-after-reads
 use Rattle.blocks.proofs.passes.one_less.Reads as one-less-reads
 use Rattle.blocks.proofs.ends.opens_block.Reads as opens-block-reads
 use Rattle.engine.proofs.items.put_literal.Reads as put-literal-reads
@@ -76,12 +75,11 @@ use Rattle.acting.proofs.state.refuse.Reads as refuse-reads
 use Rattle.reader.proofs.directive.item_at.Reads as item-at-reads
 use Rattle.reader.proofs.marks.closes_at.Reads as closes-at-reads
 use Rattle.fitting.proofs.places.is_well_written.Reads as is-well-written-reads
-use Rattle.working.proofs.argument_at.Reads as argument-at-reads
 use Rattle.working.proofs.settle_directive.Reads as settle-directive-reads
-use Rattle.engine.proofs.runners.+run_block+run_clause+run_conditional+run_item+run_iteration+run_opened+run_over_list+run_passes+run_sequence.{
+use Rattle.engine.proofs.runners.+run_block+run_clause+run_conditional+run_item+run_iteration+run_opened+run_passes+run_sequence.{
   statement,
 }
-use Rattle.engine.proofs.runners.+run_block+run_clause+run_conditional+run_item+run_iteration+run_opened+run_over_list+run_passes+run_sequence.Tie.{
+use Rattle.engine.proofs.runners.+run_block+run_clause+run_conditional+run_item+run_iteration+run_opened+run_passes+run_sequence.Tie.{
   close,
 }
 
@@ -102,9 +100,6 @@ abbrev μ-run-iteration : Measures 3 run-iteration-kinds.ps ℕ
 
 abbrev μ-run-opened : Measures 3 run-opened-kinds.ps ℕ
 μ-run-opened κs a = 8 * a .1 .1 .0 + 11
-
-abbrev μ-run-over-list : Measures 3 run-over-list-kinds.ps ℕ
-μ-run-over-list κs a = 8 * a .1 .1 .0 + 9
 
 abbrev μ-run-passes : Measures 3 run-passes-kinds.ps ℕ
 μ-run-passes κs a = 8 * a .1 .1 .0 + 8
@@ -167,18 +162,6 @@ run-opened-at t = and 3 run-opened-kinds.ps (is 3 run-opened-kinds.ps μ-run-ope
 
 abbrev run-opened-below : ℕ → In 3 run-opened-kinds.ps
 run-opened-below t = and 3 run-opened-kinds.ps (falls 3 run-opened-kinds.ps _<_ μ-run-opened t) run-opened.Pre
-
-abbrev run-over-list-at : ℕ → In 3 run-over-list-kinds.ps
-run-over-list-at t =
-    and 3 run-over-list-kinds.ps (is 3 run-over-list-kinds.ps μ-run-over-list t) run-over-list.Pre
-
-abbrev run-over-list-below : ℕ → In 3 run-over-list-kinds.ps
-run-over-list-below t =
-    and
-    3
-    run-over-list-kinds.ps
-    (falls 3 run-over-list-kinds.ps _<_ μ-run-over-list t)
-    run-over-list.Pre
 
 abbrev run-passes-at : ℕ → In 3 run-passes-kinds.ps
 run-passes-at t =
@@ -393,29 +376,45 @@ run-item-returns-4 t c = absurd (no-other _ ((c .before .before .before .before 
 
 -- what the callees of run_iteration ask and ensure, below the measure t
 abbrev run-iteration-claims : ℕ → run-iteration-lts.Claims
-run-iteration-claims t = (run-passes-below t, run-passes.Post, run-over-list-below t, run-over-list.Post)
+run-iteration-claims t = (go-over-reads.Asked, go-over-reads.Learnt, refuse-reads.Asked, refuse-reads.Learnt, run-passes-below t, run-passes.Post, next-after-reads.Asked, next-after-reads.Learnt)
+
+run-iteration-go-over-requires : (t : ℕ) → run-iteration-lts.Need-go-over-requires (run-iteration-claims t) (run-iteration-at t) run-iteration.Post
+run-iteration-go-over-requires t c κs = search needs
+
+run-iteration-enum-known-over : (t : ℕ) → run-iteration-lts.Need-enum-known-over (run-iteration-claims t) (run-iteration-at t) run-iteration.Post
+run-iteration-enum-known-over t c = search needs
+
+run-iteration-refuse-requires : (t : ℕ) → run-iteration-lts.Need-refuse-requires (run-iteration-claims t) (run-iteration-at t) run-iteration.Post
+run-iteration-refuse-requires t c κs = search needs
+
+run-iteration-enum-known-over-2 : (t : ℕ) → run-iteration-lts.Need-enum-known-over-2 (run-iteration-claims t) (run-iteration-at t) run-iteration.Post
+run-iteration-enum-known-over-2 t c = search needs
 
 run-iteration-run-passes-requires : (t : ℕ) → run-iteration-lts.Need-run-passes-requires (run-iteration-claims t) (run-iteration-at t) run-iteration.Post
-run-iteration-run-passes-requires t c κs = (omega (arith, c .before .before .before .before .before .pre .0), (c .before .before .before .before .before .pre .1 .0, (c .before .before .before .before .before .pre .1 .1 .0, (c .before .before .before .before .before .pre .1 .1 .1 .0, c .before .before .before .before .before .pre .1 .1 .1 .1))))
+run-iteration-run-passes-requires t c κs =
+    let a = c .before .before .before .before .before .before .before .before .args in
+    let w = subst (OverIn (a .table .now) (a .hand) (a .d .at) (a .i .0)) (c .before .before .over2 .given .1) (c .before .before .before .before .go-over .ensures .inside) in
+    let o = over-hand (a .table .now) (a .hand) _ (a .d .at) (a .i .0) _ w (c .before .before .before .before .before .before .before .before .pre .1 .0) (c .before .before .before .before .before .before .before .before .pre .1 .1 .0) in
+    (omega (arith, c .before .before .before .before .before .before .before .before .pre .0), (o .0, (o .1, (c .before .before .before .before .before .before .before .before .pre .1 .1 .1 .0, c .before .before .before .before .before .before .before .before .pre .1 .1 .1 .1))))
 
-run-iteration-same-length : (t : ℕ) → run-iteration-lts.Need-same-length (run-iteration-claims t) (run-iteration-at t) run-iteration.Post
-run-iteration-same-length t c = c .before .before .run-passes .ensures .does .size
+run-iteration-next-after-requires : (t : ℕ) → run-iteration-lts.Need-next-after-requires (run-iteration-claims t) (run-iteration-at t) run-iteration.Post
+run-iteration-next-after-requires t c κs = omega (arith, c .before .before .before .before .before .before .before .before .before .before .before .before .pre .1 .1 .0, hand-small (c .before .before .before .before .before .before .before .before .before .before .before .before .pre .1 .0))
 
 run-iteration-returns : (t : ℕ) → run-iteration-lts.Need-returns (run-iteration-claims t) (run-iteration-at t) run-iteration.Post
 run-iteration-returns t c =
     let a = c .before .before .before .before .before .before .before .before .args in
-    λ j. blocks-same (levelsAt (a .text .now)) (length (a .text .now)) (viewOf (a .table .now)) (a .hand .first .0) (a .hand .count) (a .level) (a .d .next) (entering (levelsAt (a .text .now)) (viewOf (a .table .now)) (handAt (a .hand)) (a .spot .position) (a .d) (a .d .next) j (a .spot .left) (a .settings) (a .i .0)) (a .spot .left) (a .spot .at) (a .out .now) (a .spot .position) _ _ (λ ks. choose-yes _ _ (c .before .before .before .before .if1 .taken)) (c .before .before .run-passes .ensures)
+    λ j. blocks-told (levelsAt (a .text .now)) (length (a .text .now)) (viewOf (a .table .now)) (a .hand .first .0) (a .hand .count) (a .level) (a .d .next) (entering (levelsAt (a .text .now)) (viewOf (a .table .now)) (handAt (a .hand)) (a .spot .position) (a .d) (a .d .next) j (a .spot .left) (a .settings) (a .i .0)) (a .spot .left) (a .spot .at) (a .out .now) _ _ (a .spot .position) (a .i .0) _ (c .refuse .ensures)
+    (λ ks. (c .before .before .before .before .go-over .ensures .is) (a .spot .position) (a .spot .left) j (a .d) refl (a .settings) _ _ _ ∙ ap (λ (x : Over). onOver (a .spot .position) (a .spot .left) (a .settings .first) (restAt (levelsAt (a .text .now)) (a .d .next)) (innermost (outer (levelsAt (a .text .now) (a .d .next))) .rest) (outsideOf (a .d .at) (a .hand) (a .i .0)) x (λ k c₂. run (viewOf (a .table .now)) (a .spot .left) end (k ∷ ks) c₂)) (c .before .before .over .given .1)) (c .before .before .before .before .before .before .before .before .pre .1 .1 .1 .1) (c .before .before .before .before .before .before .before .before .pre .1 .1 .0)
 
-run-iteration-run-over-list-requires : (t : ℕ) → run-iteration-lts.Need-run-over-list-requires (run-iteration-claims t) (run-iteration-at t) run-iteration.Post
-run-iteration-run-over-list-requires t c κs = (omega (arith, c .before .before .before .before .before .pre .0), (c .before .before .before .before .before .pre .1 .0, (c .before .before .before .before .before .pre .1 .1 .0, (c .before .before .before .before .before .pre .1 .1 .1 .0, c .before .before .before .before .before .pre .1 .1 .1 .1))))
-
-run-iteration-same-length-2 : (t : ℕ) → run-iteration-lts.Need-same-length-2 (run-iteration-claims t) (run-iteration-at t) run-iteration.Post
-run-iteration-same-length-2 t c = c .before .before .run-over-list .ensures .does .size
+run-iteration-same-length : (t : ℕ) → run-iteration-lts.Need-same-length (run-iteration-claims t) (run-iteration-at t) run-iteration.Post
+run-iteration-same-length t c = c .before .before .before .before .run-passes .ensures .does .size
 
 run-iteration-returns-2 : (t : ℕ) → run-iteration-lts.Need-returns-2 (run-iteration-claims t) (run-iteration-at t) run-iteration.Post
 run-iteration-returns-2 t c =
-    let a = c .before .before .before .before .before .before .before .before .args in
-    λ j. blocks-as (entering (levelsAt (a .text .now)) (viewOf (a .table .now)) (handAt (a .hand)) (a .spot .position) (a .d) (a .d .next) j (a .spot .left) (a .settings) (a .i .0)) _ (λ ks. choose-no _ _ (c .before .before .before .before .if1 .left)) (c .before .before .run-over-list .ensures)
+    let a = c .before .before .before .before .before .before .before .before .before .before .before .before .before .args in
+    let w = subst (OverIn (a .table .now) (a .hand) (a .d .at) (a .i .0)) (c .before .before .before .before .before .before .before .over2 .given .1) (c .before .before .before .before .before .before .before .before .before .go-over .ensures .inside) in
+    λ j. over-blocks (levelsAt (a .text .now)) (length (a .text .now)) (viewOf (a .table .now)) (a .table .now) (a .level) (a .spot .position) (a .d .next) (entering (levelsAt (a .text .now)) (viewOf (a .table .now)) (handAt (a .hand)) (a .spot .position) (a .d) (a .d .next) j (a .spot .left) (a .settings) (a .i .0)) (a .spot .left) (a .spot .at) (a .out .now) (a .hand) _ (a .d .at) (a .i .0) _ (a .settings .first) (c .next-after .result) w (c .next-after .ensures)
+    (λ ks. (c .before .before .before .before .before .before .before .before .before .go-over .ensures .is) (a .spot .position) (a .spot .left) j (a .d) refl (a .settings) _ _ _ ∙ ap (λ (x : Over). onOver (a .spot .position) (a .spot .left) (a .settings .first) (restAt (levelsAt (a .text .now)) (a .d .next)) (innermost (outer (levelsAt (a .text .now) (a .d .next))) .rest) (outsideOf (a .d .at) (a .hand) (a .i .0)) x (λ k c₂. run (viewOf (a .table .now)) (a .spot .left) end (k ∷ ks) c₂)) (c .before .before .before .before .before .before .before .over2 .given .1)) (c .before .before .before .before .run-passes .ensures)
 
 -- what the callees of run_opened ask and ensure, below the measure t
 abbrev run-opened-claims : ℕ → run-opened-lts.Claims
@@ -473,58 +472,6 @@ run-opened-returns-4 : (t : ℕ) → run-opened-lts.Need-returns-4 (run-opened-c
 run-opened-returns-4 t c =
     let a = c .before .before .before .before .before .before .before .before .before .before .before .before .before .before .before .args in
     blocks-as (opening (iterates (a .d .code)) (levelsAt (a .text .now)) (viewOf (a .table .now)) (handAt (a .hand)) (a .spot .position) (a .d) (a .d .next) (a .next .0) (a .spot .left)) _ (λ ks. run-settled (c .before .before .before .before .before .before .before .before .before .settle-directive .ensures) (sym (c .before .before .before .before .before .before .before .before .before .before .before .is-well-written .ensures) ∙ not-false _ (c .before .before .before .before .before .before .before .before .before .before .if1 .left)) (a .spot .position) (a .spot .left) _ (c .before .before .before .before .before .before .before .settled2 .given .1) ∙ ap (λ (y : Bool). inside y (levelsAt (a .text .now)) (viewOf (a .table .now)) (handAt (a .hand)) (a .spot .position) (a .d) (a .d .next) (a .next .0) (a .spot .left) (c .before .before .before .before .before .before .before .settled2 .given .0 .0) (c .before .before .before .before .before .before .before .settled2 .given .0 .1 .0 .0) ks) (sym (c .before .before .before .before .before .is-iteration .ensures) ∙ c .before .before .before .before .if2 .left)) ((c .before .before .run-conditional .ensures) (a .next .0))
-
--- what the callees of run_over_list ask and ensure, below the measure t
-abbrev run-over-list-claims : ℕ → run-over-list-lts.Claims
-run-over-list-claims t = (refuse-reads.Asked, refuse-reads.Learnt, argument-at-reads.Asked, argument-at-reads.Learnt, list-of-reads.Asked, list-of-reads.Learnt, run-passes-below t, run-passes.Post)
-
-run-over-list-refuse-requires : (t : ℕ) → run-over-list-lts.Need-refuse-requires (run-over-list-claims t) (run-over-list-at t) run-over-list.Post
-run-over-list-refuse-requires t c κs = search needs
-
-run-over-list-returns : (t : ℕ) → run-over-list-lts.Need-returns (run-over-list-claims t) (run-over-list-at t) run-over-list.Post
-run-over-list-returns t c =
-    let a = (c .before .before .before .before .before .before .args) in
-    blocks-told (levelsAt (a .text .now)) (length (a .text .now)) (viewOf (a .table .now)) (a .hand .first .0) (a .hand .count) (a .level) (a .q) (overListed (levelsAt (a .text .now)) (viewOf (a .table .now)) (handAt (a .hand)) (a .spot .position) (a .q) (a .limit) (a .i .0) (a .spot .left)) (a .spot .left) (a .spot .at) (a .out .now) _ 6 (a .spot .position) (a .i .0) _ (c .refuse .ensures) (λ ks. over-none (levelsAt (a .text .now)) (viewOf (a .table .now)) (a .hand .first .0) (a .hand .count) (a .spot .position) (a .q) (a .limit) (a .i .0) (a .spot .left) ks (c .before .if1 .taken)) (c .before .before .before .before .before .before .pre .1 .1 .1 .1) (c .before .before .before .before .before .before .pre .1 .1 .0)
-
-run-over-list-argument-at-requires : (t : ℕ) → run-over-list-lts.Need-argument-at-requires (run-over-list-claims t) (run-over-list-at t) run-over-list.Post
-run-over-list-argument-at-requires t c κs = search needs
-
-run-over-list-list-of-requires : (t : ℕ) → run-over-list-lts.Need-list-of-requires (run-over-list-claims t) (run-over-list-at t) run-over-list.Post
-run-over-list-list-of-requires t c κs = search needs
-
-run-over-list-enum-told : (t : ℕ) → run-over-list-lts.Need-enum-told (run-over-list-claims t) (run-over-list-at t) run-over-list.Post
-run-over-list-enum-told t c = search needs
-
-run-over-list-refuse-requires-2 : (t : ℕ) → run-over-list-lts.Need-refuse-requires-2 (run-over-list-claims t) (run-over-list-at t) run-over-list.Post
-run-over-list-refuse-requires-2 t c κs = search needs
-
-run-over-list-enum-known-listed : (t : ℕ) → run-over-list-lts.Need-enum-known-listed (run-over-list-claims t) (run-over-list-at t) run-over-list.Post
-run-over-list-enum-known-listed t c = search needs
-
-run-over-list-run-passes-requires : (t : ℕ) → run-over-list-lts.Need-run-passes-requires (run-over-list-claims t) (run-over-list-at t) run-over-list.Post
-run-over-list-run-passes-requires t c κs =
-    let a = (c .before .before .before .before .before .before .before .before .before .before .before .args) in
-    let w = subst (ListsTo (a .table .now) (a .hand .first .0 + a .i .0) (c .before .before .before .before .before .argument-at .result)) (c .before .before .listed .given .1) ((c .before .before .before .before .list-of .ensures) (a .table .now) (a .hand .first .0 + a .i .0)) in
-    (omega (arith, (c .before .before .before .before .before .before .before .before .before .before .before .pre .0)), (record { accepted = (c .before .before .before .before .before .before .before .before .before .before .before .pre .1 .0 .accepted); within = w .1 (c .before .before .before .before .before .argument-at .ensures .0) }, (omega arith, ((c .before .before .before .before .before .before .before .before .before .before .before .pre .1 .1 .1 .0), (c .before .before .before .before .before .before .before .before .before .before .before .pre .1 .1 .1 .1)))))
-
-run-over-list-add-t21 : (t : ℕ) → run-over-list-lts.Need-add-t21 (run-over-list-claims t) (run-over-list-at t) run-over-list.Post
-run-over-list-add-t21 t c = search needs
-
-run-over-list-returns-2 : (t : ℕ) → run-over-list-lts.Need-returns-2 (run-over-list-claims t) (run-over-list-at t) run-over-list.Post
-run-over-list-returns-2 t c =
-    let a = (c .before .before .before .before .before .before .before .before .before .before .args) in
-    let w = subst (ListsTo (a .table .now) (a .hand .first .0 + a .i .0) (c .before .before .before .before .argument-at .result)) (c .before .enum-told .given .1) ((c .before .before .before .list-of .ensures) (a .table .now) (a .hand .first .0 + a .i .0)) in
-    blocks-told (levelsAt (a .text .now)) (length (a .text .now)) (viewOf (a .table .now)) (a .hand .first .0) (a .hand .count) (a .level) (a .q) (overListed (levelsAt (a .text .now)) (viewOf (a .table .now)) (handAt (a .hand)) (a .spot .position) (a .q) (a .limit) (a .i .0) (a .spot .left)) (a .spot .left) (a .spot .at) (a .out .now) _ 7 (a .spot .position) (a .i .0) _ (c .refuse2 .ensures) (λ ks. over-not (levelsAt (a .text .now)) (viewOf (a .table .now)) (a .hand .first .0) (a .hand .count) (a .spot .position) (a .q) (a .limit) (a .i .0) (a .spot .left) ks (c .before .before .before .before .before .if1 .left) _ (sym ((c .before .before .before .before .argument-at .ensures .1))) w) (c .before .before .before .before .before .before .before .before .before .before .pre .1 .1 .1 .1) (c .before .before .before .before .before .before .before .before .before .before .pre .1 .1 .0)
-
-run-over-list-same-length : (t : ℕ) → run-over-list-lts.Need-same-length (run-over-list-claims t) (run-over-list-at t) run-over-list.Post
-run-over-list-same-length t c = (c .before .before .run-passes .ensures .does .size)
-
-run-over-list-returns-3 : (t : ℕ) → run-over-list-lts.Need-returns-3 (run-over-list-claims t) (run-over-list-at t) run-over-list.Post
-run-over-list-returns-3 t c =
-    let a = (c .before .before .before .before .before .before .before .before .before .before .before .before .before .before .args) in
-    let w = subst (ListsTo (a .table .now) (a .hand .first .0 + a .i .0) (c .before .before .before .before .before .before .before .before .argument-at .result)) (c .before .before .before .before .before .listed .given .1) ((c .before .before .before .before .before .before .before .list-of .ensures) (a .table .now) (a .hand .first .0 + a .i .0)) in
-    blocks-list (levelsAt (a .text .now)) (length (a .text .now)) (viewOf (a .table .now)) (a .hand .first .0) (a .hand .count) (a .level) (a .q) (overListed (levelsAt (a .text .now)) (viewOf (a .table .now)) (handAt (a .hand)) (a .spot .position) (a .q) (a .limit) (a .i .0) (a .spot .left)) (a .spot .left) (a .spot .at) (a .out .now) (a .spot .position) (a .i .0 + 1) _ _ (a .limit)
-    (λ ks. over-list (levelsAt (a .text .now)) (viewOf (a .table .now)) (a .hand .first .0) (a .hand .count) (a .spot .position) (a .q) (a .limit) (a .i .0) (a .spot .left) ks (c .before .before .before .before .before .before .before .before .before .if1 .left) _ _ (sym ((c .before .before .before .before .before .before .before .before .argument-at .ensures .1)) ∙ w .0)) (c .before .before .run-passes .ensures) (omega arith)
 
 abbrev run-passes-Inv-loop : run-passes-lts.InvT-loop
 run-passes-Inv-loop text table level spot q hand out₀ passes₀ next₀ left₀ at₀ known₀ out passes next left at known =
@@ -818,9 +765,9 @@ run-sequence-returns-5 t c =
     let u = (c .before .before .before .before .before .run-item .ensures) in
     l .inv .0 .ends _ _ (strides-runs-on s n v (a .hand .first .0) (a .hand .count) (a .level) (l .p) (l .next .0) (l .left) (l .at) (l .out) w halt (runs-refused s n v (a .hand .first .0) (a .hand .count) (a .level) (c .before .before .before .before .before .before .before .before .before .before .before .before .before .before .before .before .before .run-short .result .place) (c .before .before .before .before .before .before .before .before .before .before .before .before .before .before .before .before .before .run-short .result .next .0) (c .before .before .before .before .before .before .before .before .before .before .before .before .before .before .before .before .before .run-short .result .left) (c .before .before .before .before .before .before .before .before .before .before .before .before .before .before .before .before .before .run-short .result .at) _ u _ _ (c .enum-told3 .given .1)))
 
-pub +run-block+run-clause+run-conditional+run-item+run-iteration+run-opened+run-over-list+run-passes+run-sequence-spec :
+pub +run-block+run-clause+run-conditional+run-item+run-iteration+run-opened+run-passes+run-sequence-spec :
     {M : Type 1} → statement M
-+run-block+run-clause+run-conditional+run-item+run-iteration+run-opened+run-over-list+run-passes+run-sequence-spec =
++run-block+run-clause+run-conditional+run-item+run-iteration+run-opened+run-passes+run-sequence-spec =
     close
     μ-run-block
     μ-run-clause
@@ -828,7 +775,6 @@ pub +run-block+run-clause+run-conditional+run-item+run-iteration+run-opened+run-
     μ-run-item
     μ-run-iteration
     μ-run-opened
-    μ-run-over-list
     μ-run-passes
     μ-run-sequence
     (λ t. run-block-lts.spec (
@@ -919,18 +865,25 @@ pub +run-block+run-clause+run-conditional+run-item+run-iteration+run-opened+run-
     (run-item-returns-3 t)
     (run-item-returns-4 t))
     (λ t. run-iteration-lts.spec (
+      go-over-reads.Asked,
+      go-over-reads.Learnt,
+      refuse-reads.Asked,
+      refuse-reads.Learnt,
       run-passes-below t,
       run-passes.Post,
-      run-over-list-below t,
-      run-over-list.Post,
+      next-after-reads.Asked,
+      next-after-reads.Learnt,
     )
     (run-iteration-at t)
     run-iteration.Post
+    (run-iteration-go-over-requires t)
+    (run-iteration-enum-known-over t)
+    (run-iteration-refuse-requires t)
+    (run-iteration-enum-known-over-2 t)
     (run-iteration-run-passes-requires t)
-    (run-iteration-same-length t)
+    (run-iteration-next-after-requires t)
     (run-iteration-returns t)
-    (run-iteration-run-over-list-requires t)
-    (run-iteration-same-length-2 t)
+    (run-iteration-same-length t)
     (run-iteration-returns-2 t))
     (λ t. run-opened-lts.spec (
       is-well-written-reads.Asked,
@@ -963,30 +916,6 @@ pub +run-block+run-clause+run-conditional+run-item+run-iteration+run-opened+run-
     (run-opened-returns-3 t)
     (run-opened-same-length-2 t)
     (run-opened-returns-4 t))
-    (λ t. run-over-list-lts.spec (
-      refuse-reads.Asked,
-      refuse-reads.Learnt,
-      argument-at-reads.Asked,
-      argument-at-reads.Learnt,
-      list-of-reads.Asked,
-      list-of-reads.Learnt,
-      run-passes-below t,
-      run-passes.Post,
-    )
-    (run-over-list-at t)
-    run-over-list.Post
-    (run-over-list-refuse-requires t)
-    (run-over-list-returns t)
-    (run-over-list-argument-at-requires t)
-    (run-over-list-list-of-requires t)
-    (run-over-list-enum-told t)
-    (run-over-list-refuse-requires-2 t)
-    (run-over-list-enum-known-listed t)
-    (run-over-list-run-passes-requires t)
-    (run-over-list-add-t21 t)
-    (run-over-list-returns-2 t)
-    (run-over-list-same-length t)
-    (run-over-list-returns-3 t))
     (λ t. run-passes-lts.spec (
       is-over-reads.Asked,
       is-over-reads.Learnt,
