@@ -11,7 +11,7 @@ use lib.ListN.{length}
 use Rattle.rules.specs.Choice.{both}
 use Rattle.rules.specs.Number.{isNegative, magnitudeOf}
 use Rattle.rules.specs.Table.{View, Value, integer, meant, viewOf}
-use Rattle.rules.specs.Text.{Sequence, end, Clauses, none, clause, innermost, outer, asClauses, levelsAt}
+use Rattle.rules.specs.Text.{Sequence, end, Clauses, none, clause, innermost, asClauses, levelsAt}
 use Rattle.rules.specs.Working.{argumentIn}
 use Rattle.rules.specs.Run.{Flow, refused, fallbackOf, clauseAt, isFalse, pickInteger, withArgument, pickBy}
 use Rattle.rules.specs.declared.Argument.{Argument}
@@ -19,7 +19,7 @@ use Rattle.rules.specs.declared.Argument.the-variants.{Integer}
 use Rattle.rules.specs.declared.ArgumentPosition.{ArgumentPosition}
 use Rattle.rules.proofs.RunLaws.{choose-yes, choose-no}
 use Rattle.rules.proofs.Tests.{not-both-ways}
-use Rattle.checking.specs.Ends.{LastClause, AnotherClause}
+use Rattle.checking.specs.Ends.{AnotherClause}
 use Rattle.working.specs.Settling.{handAt}
 use Rattle.working.specs.declared.Hand.{Hand}
 use Rattle.blocks.specs.declared.wanting.Wanted.{Wanted}
@@ -28,7 +28,11 @@ use Rattle.blocks.specs.declared.clauses.Found.{Found}
 use Rattle.blocks.specs.declared.clauses.Found.the-variants.{At as foundAt, Nothing as foundNothing}
 use Rattle.blocks.specs.declared.clauses.Chosen.{Chosen}
 use Rattle.blocks.specs.declared.clauses.Chosen.the-variants.{At, Nothing, Wrong}
-use Rattle.blocks.specs.Clauses.{wantedOf, InsideAt, FoundAt, Finds, followedBy, pickTwo, pickOne, pickOwn, Wants, Picks}
+use Rattle.blocks.specs.Clauses.{wantedOf, InsideAt, FoundAt, Finds, Seeking, followedBy, pickTwo, pickOne, pickOwn, Wants, Picks}
+
+-- the next clause stands in the same block
+pub inside-on : {t : List ℕ} {start z q next : ℕ} {colon : Bool} → InsideAt t start z → AnotherClause t z q colon next → InsideAt t start next
+inside-on h a = record { outside = a .on ∙ h .outside; least = omega (arith, h .least, a .here .least, a .least); most = a .most }
 
 unfoldable pub clausesIn : Clauses → ℕ
 clausesIn none = 0
@@ -42,7 +46,7 @@ wanted-first true fb (suc n) colon x more e = let z : suc n ≡ 0 = eqb-true (su
 wanted-first false fb n colon x more e = absurd (not-both-ways e refl)
 
 -- it is not, and another follows it, or none
-wanted-next : (counted fb : Bool) (n : ℕ) (colon colon₂ : Bool) (x y : Sequence) (more : Clauses) → both counted (eqb n 0) ≡ false
+pub wanted-next : (counted fb : Bool) (n : ℕ) (colon colon₂ : Bool) (x y : Sequence) (more : Clauses) → both counted (eqb n 0) ≡ false
     → wantedOf counted fb (clause colon x (clause colon₂ y more)) n ≡ wantedOf counted fb (clause colon₂ y more) (n - 1)
 unfolding clauseAt fallbackOf
 wanted-next true fb zero colon colon₂ x y more e = absurd (not-both-ways refl e)
@@ -58,16 +62,9 @@ wanted-last true false (suc n) colon x e = refl
 wanted-last false true n colon x e = refl
 wanted-last false false n colon x e = refl
 
--- the search: at z stands the first of the clauses that are left, after a `~:;` or not, and so many are to be skipped
-pub record Seeking (t : List ℕ) (start : ℕ) (wanted : Sequence) (counted fb : Bool) (z : ℕ) (colon : Bool) (skip : ℕ) : Type 0 where
-  pub same : wanted ≡ wantedOf counted fb (asClauses colon (levelsAt t z)) skip
-  pub outside : outer (levelsAt t z) ≡ outer (levelsAt t start)
-  pub least : start ≤ z
-  pub most : z ≤ length t
-
 pub seek-start : (t : List ℕ) (start n : ℕ) (counted fb : Bool) → start ≤ length t
     → Seeking t start (wantedOf counted fb (asClauses false (levelsAt t start)) n) counted fb start false n
-seek-start t start n counted fb h = record { same = refl; outside = refl; least = omega arith; most = h }
+seek-start t start n counted fb h = record { same = refl; inside = record { outside = refl; least = omega arith; most = h } }
 
 pub seek-less : {t : List ℕ} {z q next : ℕ} {another : Bool} → AnotherClause t z q another next
     → clausesIn (innermost (levelsAt t next) .more) < clausesIn (innermost (levelsAt t z) .more)
@@ -77,32 +74,23 @@ seek-less {t} {z} {q} {next} a =
     omega (arith, e)
 
 module _ {t : List ℕ} {start : ℕ} {wanted : Sequence} {counted fb : Bool} {z : ℕ} {colon : Bool} {skip : ℕ} (h : Seeking t start wanted counted fb z colon skip) where
-  here : InsideAt t start z
-  here = record { outside = h .outside; least = h .least; most = h .most }
-
   pub seek-here : both counted (eqb skip 0) ≡ true → FoundAt t start wanted z
-  seek-here e =
-      record {
-        is = h .same ∙ wanted-first counted fb skip colon _ _ e;
-        inside = here;
-      }
+  seek-here e = record { is = h .same ∙ wanted-first counted fb skip colon _ _ e; inside = h .inside }
 
   module _ (e : both counted (eqb skip 0) ≡ false) where
-    last-is : {q next : ℕ} → LastClause t z q next → wanted ≡ cond (both fb colon) (innermost (levelsAt t z) .rest) end
-    last-is a =
-        h .same
-        ∙ ap (λ (more : Clauses). wantedOf counted fb (clause colon (innermost (levelsAt t z) .rest) more) skip) (a .more)
-        ∙ wanted-last counted fb skip colon _ e
+    -- the last clause is not wanted by its number
+    pub seek-last : {r : Found} → innermost (levelsAt t z) .more ≡ none → r ≡ cond (both fb colon) (foundAt z) (foundNothing z) → Finds t start wanted r
+    seek-last {r} l q = subst (Finds t start wanted) (sym q) (by (both fb colon) refl)
+      where
+        is : wanted ≡ cond (both fb colon) (innermost (levelsAt t z) .rest) end
+        is =
+            h .same
+            ∙ ap (λ (more : Clauses). wantedOf counted fb (clause colon (innermost (levelsAt t z) .rest) more) skip) l
+            ∙ wanted-last counted fb skip colon _ e
 
-    pub seek-fallback : {q next : ℕ} → LastClause t z q next → both fb colon ≡ true → FoundAt t start wanted z
-    seek-fallback a k =
-        record {
-          is = last-is a ∙ ap (λ (b : Bool). cond b (innermost (levelsAt t z) .rest) end) k;
-          inside = here;
-        }
-
-    pub seek-nothing : {q next : ℕ} → LastClause t z q next → both fb colon ≡ false → (wanted ≡ end) × InsideAt t start z
-    seek-nothing a k = (last-is a ∙ ap (λ (b : Bool). cond b (innermost (levelsAt t z) .rest) end) k, here)
+        by : (b : Bool) → both fb colon ≡ b → Finds t start wanted (cond b (foundAt z) (foundNothing z))
+        by true k = record { is = is ∙ ap (λ (b : Bool). cond b (innermost (levelsAt t z) .rest) end) k; inside = h .inside }
+        by false k = (is ∙ ap (λ (b : Bool). cond b (innermost (levelsAt t z) .rest) end) k, h .inside)
 
     pub seek-on : {q next less : ℕ} {another : Bool} → AnotherClause t z q another next → less ≡ skip - 1 → Seeking t start wanted counted fb next another less
     seek-on {q} {next} {less} {another} a k =
@@ -112,9 +100,7 @@ module _ {t : List ℕ} {start : ℕ} {wanted : Sequence} {counted fb : Bool} {z
               ∙ ap (λ (more : Clauses). wantedOf counted fb (clause colon (innermost (levelsAt t z) .rest) more) skip) (a .more)
               ∙ wanted-next counted fb skip colon another _ _ _ e
               ∙ ap (λ (n : ℕ). wantedOf counted fb (asClauses another (levelsAt t next)) n) (sym k);
-          outside = a .on ∙ h .outside;
-          least = omega (arith, h .least, a .here .least, a .least);
-          most = a .most;
+          inside = inside-on (h .inside) a;
         }
 
 -- what is wanted

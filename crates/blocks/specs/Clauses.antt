@@ -43,6 +43,12 @@ abbrev pub Finds : List ℕ → ℕ → Sequence → Found → Type 0
 Finds t start wanted (foundAt z) = FoundAt t start wanted z
 Finds t start wanted (foundNothing z) = (wanted ≡ end) × InsideAt t start z
 
+-- the search for what is wanted: at z stands the first of the clauses that are left, after a `~:;` or not, and so many are
+-- to be skipped
+pub record Seeking (t : List ℕ) (start : ℕ) (wanted : Sequence) (counted fb : Bool) (z : ℕ) (colon : Bool) (skip : ℕ) : Type 0 where
+  pub same : wanted ≡ wantedOf counted fb (asClauses colon (levelsAt t z)) skip
+  pub inside : InsideAt t start z
+
 abbrev pub followedBy : Found → ArgumentPosition → Chosen
 followedBy (foundAt z) next = At z next
 followedBy (foundNothing z) next = Nothing z next

@@ -2,5 +2,6 @@
 // passes of an iteration, and what ends a sequence.
 pub mod clauses;
 pub mod ends;
+pub mod landmarks;
 pub mod passes;
 pub mod wanting;

@@ -371,7 +371,7 @@ pub fn check_text(text: &[u8]) -> Verdict
 }
 
 // What an item is to the blocks, with the position after it. Nothing is read on behind a fault or the end.
-enum Shape {
+pub enum Shape {
     Stops,
     Passes(usize),
     Begins(usize),
@@ -407,7 +407,8 @@ fn shape_of_mark(mark: u8, next: usize) -> Shape
     Shape::Begins(next)
 }
 
-fn shape_at(text: &[u8], p: usize) -> Shape
+// The shape of the item at p.
+pub fn shape_at(text: &[u8], p: usize) -> Shape
     ensures { λ r. ⌜ r ≡ shapeOf p (itemAt (now (text .entry)) p) ⌝ }
 {
     let mark = mark_at(text, p);

@@ -141,7 +141,7 @@ fn number_argument(
     }
 }
 
-fn widened(n: u16) -> usize
+pub fn widened(n: u16) -> usize
     ensures { λ r. ⌜ r ≡ n ⌝ }
 {
     n as usize

@@ -1,74 +1,52 @@
--- `find_clause` meets its contract. The invariant: the clause wanted from the start is the one wanted from here. The
--- measure is the number of clauses that follow. Assumes nothing.
-use Rattle.blocks.proofs.ClauseLaws.{clausesIn, Seeking, seek-start, seek-less, seek-here, seek-fallback, seek-nothing, seek-on}
-use Rattle.blocks.specs.Clauses.{wantedOf}
-use Rattle.checking.specs.Ends.{EndsClause}
-use Rattle.rules.specs.Text.{innermost, asClauses, levelsAt}
+-- `find_clause` meets its contract: from a landmark that leads there, or from the start. Assumes nothing.
+use Rattle.blocks.proofs.LandmarkLaws.{led-sound, led-seeks}
+use mathlib.Core.Path.{sym, _∙_}
+use Rattle.blocks.proofs.ClauseLaws.{seek-start}
 use borrow.Author.Needs.{needs}
-use mathlib.Core.Bool.{false}
-use mathlib.Core.Path.{sym, subst, _∙_}
 use Rattle.blocks.proofs.clauses.find_clause.Statement.{statement}
 use Rattle.blocks.proofs.clauses.find_clause.Tie as tie
+use Rattle.blocks.proofs.clauses.find_clause.Reads as reads
+use Rattle.blocks.proofs.clauses.find_clause.Lts as lts
+use Rattle.blocks.proofs.clauses.less.Reads as less-reads
+use Rattle.blocks.proofs.clauses.number_or_last.Reads as number-or-last-reads
+use Rattle.blocks.proofs.clauses.seek_clause.Reads as seek-clause-reads
+use Rattle.blocks.proofs.clauses.seek_from.Reads as seek-from-reads
+use Rattle.blocks.proofs.landmarks.leads.Reads as leads-reads
+use Rattle.blocks.proofs.landmarks.nearest.Reads as nearest-reads
 
-abbrev Inv-loop : tie.InvT-loop
-Inv-loop text start n counted fallback z₀ colon₀ skip₀ z colon skip =
-    Seeking text start (wantedOf counted fallback (asClauses false (levelsAt text start)) n) counted fallback z colon skip
+number-or-last-requires : tie.Need-number-or-last-requires
+number-or-last-requires c κs = search needs
 
-abbrev μ-loop : tie.MeasureT-loop
-μ-loop text start n counted fallback z₀ colon₀ skip₀ z colon skip =
-    clausesIn (innermost (levelsAt text z) .more)
+nearest-requires : tie.Need-nearest-requires
+nearest-requires c κs = search needs
 
-loop-holds : tie.Need-loop-holds Inv-loop μ-loop
-loop-holds c = let a = (c .before .args) in seek-start (a .text .now) (a .start) (a .n) (a .counted) (a .fallback) (c .before .pre)
+leads-requires : tie.Need-leads-requires
+leads-requires c κs = search needs
 
-both-requires : tie.Need-both-requires Inv-loop μ-loop
-both-requires c κs = search needs
+less-requires : tie.Need-less-requires
+less-requires c κs = search needs
 
-returns : tie.Need-returns Inv-loop μ-loop
-returns c = seek-here (c .before .before .loop .inv) (sym (c .before .both .ensures) ∙ (c .if1 .taken))
+seek-from-requires : tie.Need-seek-from-requires
+seek-from-requires c κs = led-sound (c .before .before .before .nearest .result) (c .before .before .before .before .before .before .before .args .start) (c .before .before .before .before .before .before .before .args .n) (c .before .before .before .before .before .before .before .args .counted) (c .before .before .before .nearest .ensures _ (c .before .before .before .before .before .before .before .pre .0)) (sym (c .before .before .leads .ensures) ∙ c .before .if1 .taken) (c .before .before .before .before .before .before .before .pre .1)
 
-next-clause-requires : tie.Need-next-clause-requires Inv-loop μ-loop
-next-clause-requires c κs = (c .before .before .loop .inv .most)
+returns : tie.Need-returns
+returns c = c .seek-from .ensures _ _ (led-seeks (c .before .before .before .before .nearest .result) (c .before .before .before .before .before .before .before .before .args .start) (c .before .before .before .before .before .before .before .before .args .n) (c .before .before .before .before .before .before .before .before .args .counted) (c .before .before .before .before .nearest .ensures _ (c .before .before .before .before .before .before .before .before .pre .0)) (sym (c .before .before .before .leads .ensures) ∙ c .before .before .if1 .taken) (c .before .before .before .before .before .before .before .before .pre .1) (c .before .before .before .before .before .before .before .before .args .fallback) (c .before .less .ensures))
 
-enum-told : tie.Need-enum-told Inv-loop μ-loop
-enum-told c = search needs
+seek-clause-requires : tie.Need-seek-clause-requires
+seek-clause-requires c κs = search needs
 
-both-requires-2 : tie.Need-both-requires-2 Inv-loop μ-loop
-both-requires-2 c κs = search needs
-
-returns-2 : tie.Need-returns-2 Inv-loop μ-loop
-returns-2 c = seek-fallback (c .before .before .before .before .before .before .before .loop .inv) (sym (c .before .before .before .before .before .before .both .ensures) ∙ (c .before .before .before .before .before .if1 .left)) (subst (EndsClause (c .before .before .before .before .before .before .before .before .before .args .text .now) (c .before .before .before .before .before .before .before .loop .z)) (c .before .before .enum-told .given .1) (c .before .before .before .before .next-clause .ensures)) (sym (c .before .both2 .ensures) ∙ (c .if2 .taken))
-
-returns-3 : tie.Need-returns-3 Inv-loop μ-loop
-returns-3 c = seek-nothing (c .before .before .before .before .before .before .before .loop .inv) (sym (c .before .before .before .before .before .before .both .ensures) ∙ (c .before .before .before .before .before .if1 .left)) (subst (EndsClause (c .before .before .before .before .before .before .before .before .before .args .text .now) (c .before .before .before .before .before .before .before .loop .z)) (c .before .before .enum-told .given .1) (c .before .before .before .before .next-clause .ensures)) (sym (c .before .both2 .ensures) ∙ (c .if2 .left))
-
-enum-known-e : tie.Need-enum-known-e Inv-loop μ-loop
-enum-known-e c = search needs
-
-one-less-requires : tie.Need-one-less-requires Inv-loop μ-loop
-one-less-requires c κs = search needs
-
-loop-less : tie.Need-loop-less Inv-loop μ-loop
-loop-less c = seek-less (subst (EndsClause (c .before .before .before .before .before .before .before .before .before .args .text .now) (c .before .before .before .before .before .before .before .loop .z)) (c .before .before .e .given .1) (c .before .before .before .before .next-clause .ensures))
-
-loop-again : tie.Need-loop-again Inv-loop μ-loop
-loop-again c = seek-on (c .before .before .before .before .before .before .before .loop .inv) (sym (c .before .before .before .before .before .before .both .ensures) ∙ (c .before .before .before .before .before .if1 .left)) (subst (EndsClause (c .before .before .before .before .before .before .before .before .before .args .text .now) (c .before .before .before .before .before .before .before .loop .z)) (c .before .before .e .given .1) (c .before .before .before .before .next-clause .ensures)) (c .one-less .ensures)
+returns-2 : tie.Need-returns-2
+returns-2 c = c .seek-clause .ensures _ _ (seek-start (c .before .before .before .before .before .before .before .args .text .now) (c .before .before .before .before .before .before .before .args .start) (c .before .before .before .before .before .before .before .args .n) (c .before .before .before .before .before .before .before .args .counted) (c .before .before .before .before .before .before .before .args .fallback) (c .before .before .before .before .before .before .before .pre .1))
 
 pub find-clause-spec : {M : Type 1} → statement M
 find-clause-spec =
     tie.close
     (tie.spec
-    Inv-loop
-    μ-loop
-    loop-holds
-    both-requires
+    number-or-last-requires
+    nearest-requires
+    leads-requires
+    less-requires
+    seek-from-requires
     returns
-    next-clause-requires
-    enum-told
-    both-requires-2
-    returns-2
-    returns-3
-    enum-known-e
-    one-less-requires
-    loop-less
-    loop-again)
+    seek-clause-requires
+    returns-2)

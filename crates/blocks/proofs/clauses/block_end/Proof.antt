@@ -1,0 +1,43 @@
+-- `block_end` meets its contract: the end that a landmark knows, or the one found from the farthest place known. Assumes nothing.
+use Rattle.blocks.proofs.LandmarkLaws.{inside-end, end-known, farther-inside}
+use borrow.Author.Needs.{needs}
+use Rattle.blocks.proofs.clauses.block_end.Statement.{statement}
+use Rattle.blocks.proofs.clauses.block_end.Tie as tie
+use Rattle.blocks.proofs.clauses.block_end.Reads as reads
+use Rattle.blocks.proofs.clauses.block_end.Lts as lts
+use Rattle.blocks.proofs.clauses.farther.Reads as farther-reads
+use Rattle.blocks.proofs.landmarks.nearest.Reads as nearest-reads
+use Rattle.checking.proofs.text.after_block.Reads as after-block-reads
+
+nearest-requires : tie.Need-nearest-requires
+nearest-requires c κs = search needs
+
+after-block-requires : tie.Need-after-block-requires
+after-block-requires c κs = search needs
+
+returns : tie.Need-returns
+returns c = inside-end (c .before .before .before .before .before .before .pre .1) (c .after-block .ensures)
+
+returns-2 : tie.Need-returns-2
+returns-2 c = end-known (c .before .before .before .before .nearest .ensures _ (c .before .before .before .before .before .before .before .pre .0)) (c .before .before .before .before .before .before .before .pre .1) (c .before .before .if1 .left) (c .if2 .taken)
+
+farther-requires : tie.Need-farther-requires
+farther-requires c κs = search needs
+
+after-block-requires-2 : tie.Need-after-block-requires-2
+after-block-requires-2 c κs = farther-inside (c .before .before .before .before .before .nearest .ensures _ (c .before .before .before .before .before .before .before .before .pre .0)) (c .before .before .before .before .before .before .before .before .pre .1) (c .before .before .before .if1 .left) (c .farther .ensures) .most
+
+returns-3 : tie.Need-returns-3
+returns-3 c = inside-end (farther-inside (c .before .before .before .before .before .before .nearest .ensures _ (c .before .before .before .before .before .before .before .before .before .pre .0)) (c .before .before .before .before .before .before .before .before .before .pre .1) (c .before .before .before .before .if1 .left) (c .before .farther .ensures)) (c .after-block2 .ensures)
+
+pub block-end-spec : {M : Type 1} → statement M
+block-end-spec =
+    tie.close
+    (tie.spec
+    nearest-requires
+    after-block-requires
+    returns
+    returns-2
+    farther-requires
+    after-block-requires-2
+    returns-3)

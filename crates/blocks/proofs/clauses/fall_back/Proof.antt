@@ -1,0 +1,22 @@
+-- `fall_back` meets its contract. Assumes nothing.
+use mathlib.Core.Path.{sym, ap, _∙_}
+use mathlib.Core.Bool.{Bool, cond}
+use Rattle.blocks.specs.declared.clauses.Found.the-variants.{At, Nothing}
+use borrow.Author.Needs.{needs}
+use Rattle.blocks.proofs.clauses.fall_back.Statement.{statement}
+use Rattle.blocks.proofs.clauses.fall_back.Tie as tie
+use Rattle.blocks.proofs.clauses.fall_back.Reads as reads
+use Rattle.blocks.proofs.clauses.fall_back.Lts as lts
+use Rattle.fitting.proofs.places.both.Reads as both-reads
+
+both-requires : tie.Need-both-requires
+both-requires c κs = search needs
+
+returns : tie.Need-returns
+returns c = ap (λ (x : Bool). cond x (At ((c .before .before) .args .z)) (Nothing ((c .before .before) .args .z))) (sym (c .if1 .taken) ∙ (c .before) .both .ensures)
+
+returns-2 : tie.Need-returns-2
+returns-2 c = ap (λ (x : Bool). cond x (At ((c .before .before) .args .z)) (Nothing ((c .before .before) .args .z))) (sym (c .if1 .left) ∙ (c .before) .both .ensures)
+
+pub fall-back-spec : {M : Type 1} → statement M
+fall-back-spec = tie.close (tie.spec both-requires returns returns-2)

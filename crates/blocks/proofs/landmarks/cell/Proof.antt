@@ -1,0 +1,29 @@
+-- `cell` meets its contract. Assumes nothing.
+use Rattle.blocks.proofs.LandmarkLaws.{cell-is}
+use mathlib.Core.Path.{sym, _∙_}
+use lib.ListN.{List·getD-eq-default}
+use borrow.Author.Needs.{needs}
+use Rattle.blocks.proofs.landmarks.cell.Statement.{statement}
+use Rattle.blocks.proofs.landmarks.cell.Tie as tie
+use Rattle.blocks.proofs.landmarks.cell.Reads as reads
+use Rattle.blocks.proofs.landmarks.cell.Lts as lts
+use Rattle.working.proofs.widened.Reads as widened-reads
+
+mul-widened : tie.Need-mul-widened
+mul-widened c = search needs
+
+shared-slice-read-widened : tie.Need-shared-slice-read-widened
+shared-slice-read-widened c = search needs
+
+widened-requires : tie.Need-widened-requires
+widened-requires c κs = search needs
+
+returns : tie.Need-returns
+returns c = c .widened .ensures ∙ cell-is (c .before .before .before .before .args .marks .now) (c .before .before .before .before .args .i) (c .before .before .if1 .taken)
+
+returns-2 : tie.Need-returns-2
+returns-2 c = sym (List·getD-eq-default ((c .before .before) .args .marks .now) 65535 (c .if1 .left))
+
+pub cell-spec : {M : Type 1} → statement M
+cell-spec =
+    tie.close (tie.spec mul-widened shared-slice-read-widened widened-requires returns returns-2)
