@@ -9,7 +9,7 @@ use native.Mathlib.Nat.{add-zero}
 use borrow.Author.Tests.{eq-eqb, ne-eqb, eqb-true, eqb-false, leb-true, ltb-true, ltb-false}
 use lib.Dec.{eqb, leb, ltb}
 use mir.Val.{boolByte}
-use lib.ListN.{length, getD, set, length-set}
+use lib.ListN.{length, getD, set, replicate, length-set}
 use lib.Seq.{getD-set-same, getD-set-other}
 use Rattle.rules.specs.Choice.{both}
 use Rattle.rules.specs.Text.{Clauses, clause, innermost, asClauses, levelsAt}
@@ -118,6 +118,21 @@ module _ {t : List ℕ} {l : Landmark} {start known : ℕ} (s : l .inside ≤ le
       by : (b : Bool) → InsideAt t start (cond b known (l .place))
       by true = k
       by false = here .inside
+
+-- no landmark is laid yet
+nowhere : (t m : List ℕ) → length t ≤ 4096 → ((i : ℕ) → cellAt m i ≡ 65535) → Landmarks t m
+nowhere t m h e = record { each = λ k w. absurd (omega (arith, h, w, e (k * 5))) }
+
+pub none-laid : (t : List ℕ) → length t ≤ 4096 → Landmarks t []
+none-laid t h = nowhere t [] h (λ i. refl)
+
+cells-empty : (n i : ℕ) → cellAt (replicate n 65535) i ≡ 65535
+cells-empty zero i = refl
+cells-empty (suc n) zero = refl
+cells-empty (suc n) (suc i) = cells-empty n i
+
+pub none-laid-in : (t : List ℕ) (n : ℕ) → length t ≤ 4096 → Landmarks t (replicate n 65535)
+none-laid-in t n h = nowhere t (replicate n 65535) h (cells-empty n)
 
 -- 3. A landmark is laid.
 

@@ -33,6 +33,7 @@ use Rattle.acting.specs.Ran.{refusedRan, endedRan, hand}
 use Rattle.reader.specs.Marks.{closesAt}
 use Rattle.reader.proofs.MarkLaws.{closes-end}
 use Rattle.running.specs.Runs.{EndsAt, After, restAt, Runs, Steps, Strides, Blocks, Passes, opening}
+use Rattle.blocks.specs.Clauses.{InsideAt}
 use Rattle.blocks.specs.Parts.{endsSequence, endsAt, opensBlock, iterates, outsideOf, OverIn}
 use Rattle.blocks.specs.declared.passes.Over.the-variants.{Is as OverIs}
 use Rattle.engine.specs.Running.{isEnded, ActsAlone}
@@ -178,9 +179,16 @@ pub blocks-told : (s : ℕ → List Level) (n : ℕ) (v : View) (first count lev
 blocks-told s n v first count level q f left at b r code x i place e h l k =
     subst (Blocks s n v (hand first count) level q f left at b b) (sym e) (blocks-refused s n v first count level q f left at b code x i place h l k)
 
--- the place after a block, from a place where one of its sequences stands
-pub closes-after : (t : List ℕ) (q known place : ℕ) → outer (levelsAt t known) ≡ outer (levelsAt t q) → q ≤ known → AfterBlock t known place → After (levelsAt t) (length t) q place
-closes-after t q known place o l a = record { is = a .is ∙ o; least = omega (arith, a .least); most = a .most }
+-- the place after a block, as a run has it
+pub closes-after : {t : List ℕ} {q place : ℕ} → AfterBlock t q place → After (levelsAt t) (length t) q place
+closes-after a = record { is = a .is; least = a .least; most = a .most }
+
+-- places in the block whose inside is at q: that one, and where a sequence of the block ends
+pub inside-start : (t : List ℕ) (q : ℕ) → q ≤ length t → InsideAt t q q
+inside-start t q h = record { outside = refl; least = omega arith; most = h }
+
+pub ends-inside : {t : List ℕ} {q z p : ℕ} → InsideAt t q z → EndsAt (levelsAt t) (length t) z p → InsideAt t q p
+ends-inside h e = record { outside = e .around ∙ h .outside; least = omega (arith, h .least, e .least); most = e .most }
 
 -- an iteration over the entries inner, after which the arguments in hand outside come back
 pub over-blocks : (s : ℕ → List Level) (n : ℕ) (v : View) (t : List ℕ) (level p q : ℕ) (f : List Frame → Flow) (left at : ℕ) (b : List ℕ) (hand inner : Hand) (with-at : Bool) (i : ℕ) (first : ArgumentPosition) (passes : Setting)

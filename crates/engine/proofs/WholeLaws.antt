@@ -13,7 +13,9 @@ use Rattle.rules.specs.Answer.{Answer, limit, ended, refusedAt, fit, flowOf, un
 use Rattle.rules.specs.declared.Verdict.{Verdict}
 use Rattle.rules.specs.declared.Verdict.the-variants.{Accepted, Refused}
 use Rattle.rules.proofs.RunLaws.{run-done}
+use Rattle.rules.proofs.TableLaws.{accepted-sound}
 use Rattle.rules.proofs.ViewLaws.{view-arguments}
+use Rattle.working.specs.Settling.{InHand}
 use Rattle.acting.specs.declared.state.Ran.{Ran}
 use Rattle.acting.specs.declared.state.Stop.{Stop}
 use Rattle.acting.specs.declared.state.Stop.the-variants.{Ended, Left, Refused as RefusedAt}
@@ -82,3 +84,10 @@ pub whole-told : (f t b : List ℕ) (m : ℕ) {e : List ℕ} {r : Ran} (o : Outc
     → Runs (levelsAt f) (length f) (viewOf t) (hand 0 m) 8 0 0 limit 0 b e r → o ≡ outcomeOf r → Answers f t b e (o .code) (o .position) (o .steps) (o .written)
 whole-told f t b m {e} {r} o q a c u w =
     whole f t b e r o a c (subst (λ (k : ℕ). Runs (levelsAt f) (length f) (viewOf t) (hand 0 k) 8 0 0 limit 0 b e r) q u) w
+
+-- all the arguments of an accepted table are in hand
+pub all-in-hand : (t : List ℕ) (m : ℕ) → tableVerdict t ≡ Accepted → m ≡ argumentCount t → InHand t (record { first = record { 0 = 0 }; count = m })
+all-in-hand t m e q = record { accepted = e; within = omega (arith, accepted-sound t e .arguments, q) }
+
+pub has-header : (t : List ℕ) → tableVerdict t ≡ Accepted → 8 ≤ length t
+has-header t e = accepted-sound t e .header

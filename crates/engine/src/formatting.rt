@@ -2,6 +2,9 @@
 use crate::runners::run_sequence;
 use acting::state::Ran;
 use acting::state::Stop;
+use blocks::landmarks::CELLS;
+use blocks::landmarks::EMPTY;
+use blocks::landmarks::mark_text;
 use checking::text::check_text;
 use rules::ArgumentPosition;
 use rules::EntryIndex;
@@ -22,6 +25,9 @@ const MOST_STEPS: usize = 65536;
 
 // How deep blocks nest at most.
 const DEEPEST: usize = 8;
+
+// How long a text is at most that is run without landmarks: to lay them costs more than they save.
+const LONG: usize = 256;
 
 // The answer of a call beside the text: 01's code, the position, the steps done and the bytes written.
 pub struct Outcome {
@@ -60,18 +66,50 @@ fn outcome_of(r: Ran) -> Outcome
     }
 }
 
-// The run of a text over a table, both of which are accepted.
-fn run_text(format: &[u8], table: &[u8], out: &mut [u8]) -> Outcome
+// The run of a text over a table, both of which are accepted, by way of landmarks. The array for them is a part of this
+// call alone, so that short texts take no stack for it.
+fn run_long(format: &[u8], table: &[u8], out: &mut [u8]) -> Outcome
     requires { ⌜ tableVerdict (now table) ≡ Accepted ⌝ }
     requires { ⌜ textVerdict (now format) ≡ Accepted ⌝ }
     ensures { λ r. ⌜ Answers (now (format .entry)) (now (table .entry)) (now (out .entry)) (now (out .exit)) (r .code) (r .position) (r .steps) (r .written) ⌝ }
 {
+    let mut marks = [EMPTY; CELLS];
+    mark_text(format, &mut marks);
     let hand = Hand {
         first: EntryIndex(0),
         count: argument_count(table),
     };
     let r = run_sequence(
         format,
+        &marks,
+        table,
+        DEEPEST,
+        0,
+        hand,
+        ArgumentPosition(0),
+        MOST_STEPS,
+        out,
+        0,
+    );
+    outcome_of(r)
+}
+
+// The run of a text over a table, both of which are accepted.
+fn run_text(format: &[u8], table: &[u8], out: &mut [u8]) -> Outcome
+    requires { ⌜ tableVerdict (now table) ≡ Accepted ⌝ }
+    requires { ⌜ textVerdict (now format) ≡ Accepted ⌝ }
+    ensures { λ r. ⌜ Answers (now (format .entry)) (now (table .entry)) (now (out .entry)) (now (out .exit)) (r .code) (r .position) (r .steps) (r .written) ⌝ }
+{
+    if LONG < format.len() {
+        return run_long(format, table, out);
+    }
+    let hand = Hand {
+        first: EntryIndex(0),
+        count: argument_count(table),
+    };
+    let r = run_sequence(
+        format,
+        &[],
         table,
         DEEPEST,
         0,

@@ -1,5 +1,6 @@
 // The runners. The runner of a sequence calls the runners of blocks and is called by them: the levels left for blocks
-// fall at each block, and the text or the steps that are left fall in each turn of a loop.
+// fall at each block, and the text or the steps that are left fall in each turn of a loop. All of them have the landmarks
+// of the text, if it has any.
 use crate::items::act;
 use crate::items::is_ended;
 use crate::items::put_literal;
@@ -9,6 +10,7 @@ use acting::state::Spot;
 use acting::state::Stop;
 use acting::state::refuse;
 use blocks::clauses::Chosen;
+use blocks::clauses::block_end;
 use blocks::clauses::choose_clause;
 use blocks::ends::ends_here;
 use blocks::ends::is_iteration;
@@ -18,7 +20,6 @@ use blocks::passes::go_over;
 use blocks::passes::is_over;
 use blocks::passes::next_after;
 use blocks::passes::one_less;
-use checking::text::after_block;
 use fitting::places::is_well_written;
 use reader::directive::item_at;
 use reader::marks::closes_at;
@@ -40,11 +41,14 @@ ghost use Rattle.rules.specs.Text.{levelsAt};
 ghost use Rattle.rules.specs.declared.Item.the-variants.{Written};
 ghost use Rattle.working.specs.Settling.{InHand, handAt};
 ghost use Rattle.running.specs.Runs.{Runs, Steps, Blocks, Passes, RunsClause, EndsBlock, picking, entering, opening};
+ghost use Rattle.blocks.specs.Clauses.{InsideAt};
+ghost use Rattle.blocks.specs.Landmarks.{Landmarks};
 ghost use Rattle.blocks.specs.Parts.{endsAt, opensBlock, iterates};
 
 // The sequence that is read at start, with level levels left for blocks.
 pub fn run_sequence(
     text: &[u8],
+    marks: &[u16],
     table: &[u8],
     level: usize,
     start: usize,
@@ -54,6 +58,7 @@ pub fn run_sequence(
     out: &mut [u8],
     from: usize,
 ) -> Ran
+    requires { ⌜ Landmarks (now text) (now marks) ⌝ }
     requires { ⌜ InHand (now table) hand ⌝ }
     requires { ⌜ first .0 ≤ hand .count ⌝ }
     requires { ⌜ start ≤ length (now text) ⌝ }
@@ -81,6 +86,7 @@ pub fn run_sequence(
         let onto = s.next;
         let r = run_item(
             text,
+            marks,
             table,
             level,
             s.place,
@@ -116,6 +122,7 @@ pub fn run_sequence(
 // The item at p, which does not end its sequence.
 fn run_item(
     text: &[u8],
+    marks: &[u16],
     table: &[u8],
     level: usize,
     p: usize,
@@ -126,6 +133,7 @@ fn run_item(
     out: &mut [u8],
     at: usize,
 ) -> Ran
+    requires { ⌜ Landmarks (now text) (now marks) ⌝ }
     requires { ⌜ InHand (now table) hand ⌝ }
     requires { ⌜ next .0 ≤ hand .count ⌝ }
     requires { ⌜ itemAt (now text) p ≡ item ⌝ }
@@ -138,7 +146,7 @@ fn run_item(
         Item::Written(d) => {
             let code = d.code;
             if opens_block(code) {
-                return run_block(text, table, level, p, d, hand, next, left, out, at);
+                return run_block(text, marks, table, level, p, d, hand, next, left, out, at);
             }
             act(p, d, table, hand, next, left, out, at)
         }
@@ -158,6 +166,7 @@ fn run_item(
 // The block that d opens at p.
 fn run_block(
     text: &[u8],
+    marks: &[u16],
     table: &[u8],
     level: usize,
     p: usize,
@@ -168,6 +177,7 @@ fn run_block(
     out: &mut [u8],
     at: usize,
 ) -> Ran
+    requires { ⌜ Landmarks (now text) (now marks) ⌝ }
     requires { ⌜ InHand (now table) hand ⌝ }
     requires { ⌜ next .0 ≤ hand .count ⌝ }
     requires { ⌜ itemAt (now text) p ≡ Written d ⌝ }
@@ -194,12 +204,13 @@ fn run_block(
         left: left - 1,
         at,
     };
-    run_opened(text, table, level - 1, begun, d, hand, next, out)
+    run_opened(text, marks, table, level - 1, begun, d, hand, next, out)
 }
 
 // The block that d opens, once it is begun: its parameters are worked out, for either bracket.
 fn run_opened(
     text: &[u8],
+    marks: &[u16],
     table: &[u8],
     level: usize,
     spot: Spot,
@@ -208,6 +219,7 @@ fn run_opened(
     next: ArgumentPosition,
     out: &mut [u8],
 ) -> Ran
+    requires { ⌜ Landmarks (now text) (now marks) ⌝ }
     requires { ⌜ InHand (now table) hand ⌝ }
     requires { ⌜ next .0 ≤ hand .count ⌝ }
     requires { ⌜ d .next ≤ length (now text) ⌝ }
@@ -223,9 +235,9 @@ fn run_opened(
         SettledOut::Is { settings, next: i } => {
             let code = d.code;
             if is_iteration(code) {
-                return run_iteration(text, table, level, spot, d, settings, hand, i, out);
+                return run_iteration(text, marks, table, level, spot, d, settings, hand, i, out);
             }
-            run_conditional(text, table, level, spot, d, settings, hand, i, out)
+            run_conditional(text, marks, table, level, spot, d, settings, hand, i, out)
         }
     }
 }
@@ -233,6 +245,7 @@ fn run_opened(
 // The conditional d, whose parameters are worked out.
 fn run_conditional(
     text: &[u8],
+    marks: &[u16],
     table: &[u8],
     level: usize,
     spot: Spot,
@@ -242,26 +255,37 @@ fn run_conditional(
     i: ArgumentPosition,
     out: &mut [u8],
 ) -> Ran
+    requires { ⌜ Landmarks (now text) (now marks) ⌝ }
     requires { ⌜ InHand (now table) hand ⌝ }
     requires { ⌜ i .0 ≤ hand .count ⌝ }
     requires { ⌜ d .next ≤ length (now text) ⌝ }
     requires { ⌜ spot .at ≤ length (now out) ⌝ }
     ensures { λ r. ⌜ ((j : ℕ) → Blocks (levelsAt (now (text .entry))) (length (now (text .entry))) (viewOf (now (table .entry))) (handAt hand) level (d .next) (picking (levelsAt (now (text .entry))) (viewOf (now (table .entry))) (handAt hand) (spot .position) d (d .next) j (spot .left) settings (i .0)) (spot .left) (spot .at) (now (out .entry)) (now (out .exit)) r) ⌝ }
 {
-    let chosen = choose_clause(text, table, hand, d, settings, i);
+    let chosen = choose_clause(text, marks, table, hand, d, settings, i);
     match chosen {
-        Chosen::At { place, next: j } => run_clause(text, table, level, spot, place, hand, j, out),
-        Chosen::Nothing { inside, next: j } => end_block(text, spot, inside, j),
+        Chosen::At { place, next: j } => {
+            run_clause(text, marks, table, level, spot, d.next, place, hand, j, out)
+        }
+        Chosen::Nothing { inside, next: j } => end_block(text, marks, spot, d.next, inside, j),
         Chosen::Wrong(code) => refuse(spot, code, i),
     }
 }
 
-// On after the block in which q stands, with nothing written.
-fn end_block(text: &[u8], spot: Spot, q: usize, next: ArgumentPosition) -> Ran
-    requires { ⌜ q ≤ length (now text) ⌝ }
+// On after the block whose inside is at q, in which known stands, with nothing written.
+fn end_block(
+    text: &[u8],
+    marks: &[u16],
+    spot: Spot,
+    q: usize,
+    known: usize,
+    next: ArgumentPosition,
+) -> Ran
+    requires { ⌜ Landmarks (now text) (now marks) ⌝ }
+    requires { ⌜ InsideAt (now text) q known ⌝ }
     ensures { λ r. ⌜ EndsBlock (levelsAt (now (text .entry))) (length (now (text .entry))) spot q (next .0) r ⌝ }
 {
-    let place = after_block(text, q);
+    let place = block_end(text, marks, q, known);
     Ran {
         stop: Stop::Ended,
         next,
@@ -271,24 +295,38 @@ fn end_block(text: &[u8], spot: Spot, q: usize, next: ArgumentPosition) -> Ran
     }
 }
 
-// The clause at z, with next as the next argument.
+// The clause at z of the block whose inside is at q, with next as the next argument.
 fn run_clause(
     text: &[u8],
+    marks: &[u16],
     table: &[u8],
     level: usize,
     spot: Spot,
+    q: usize,
     z: usize,
     hand: Hand,
     next: ArgumentPosition,
     out: &mut [u8],
 ) -> Ran
+    requires { ⌜ Landmarks (now text) (now marks) ⌝ }
     requires { ⌜ InHand (now table) hand ⌝ }
     requires { ⌜ next .0 ≤ hand .count ⌝ }
-    requires { ⌜ z ≤ length (now text) ⌝ }
+    requires { ⌜ InsideAt (now text) q z ⌝ }
     requires { ⌜ spot .at ≤ length (now out) ⌝ }
-    ensures { λ r. ⌜ RunsClause (levelsAt (now (text .entry))) (length (now (text .entry))) (viewOf (now (table .entry))) (handAt hand) level z (next .0) (spot .left) (spot .at) (now (out .entry)) (now (out .exit)) r ⌝ }
+    ensures { λ r. ⌜ RunsClause (levelsAt (now (text .entry))) (length (now (text .entry))) (viewOf (now (table .entry))) (handAt hand) level q z (next .0) (spot .left) (spot .at) (now (out .entry)) (now (out .exit)) r ⌝ }
 {
-    let r = run_sequence(text, table, level, z, hand, next, spot.left, out, spot.at);
+    let r = run_sequence(
+        text,
+        marks,
+        table,
+        level,
+        z,
+        hand,
+        next,
+        spot.left,
+        out,
+        spot.at,
+    );
     let stop = r.stop;
     let after = r.next;
     match stop {
@@ -297,7 +335,7 @@ fn run_clause(
             next: after,
             left: r.left,
             at: r.at,
-            place: after_block(text, r.place),
+            place: block_end(text, marks, q, r.place),
         },
         Stop::Left => r,
         Stop::Refused {
@@ -310,6 +348,7 @@ fn run_clause(
 // The iteration d, whose parameters are worked out.
 fn run_iteration(
     text: &[u8],
+    marks: &[u16],
     table: &[u8],
     level: usize,
     spot: Spot,
@@ -319,6 +358,7 @@ fn run_iteration(
     i: ArgumentPosition,
     out: &mut [u8],
 ) -> Ran
+    requires { ⌜ Landmarks (now text) (now marks) ⌝ }
     requires { ⌜ InHand (now table) hand ⌝ }
     requires { ⌜ i .0 ≤ hand .count ⌝ }
     requires { ⌜ d .next ≤ length (now text) ⌝ }
@@ -331,7 +371,18 @@ fn run_iteration(
         Over::Wrong(code) => refuse(spot, code, i),
         Over::Is { hand: inner, first } => {
             // the passes are called at one place: a second one would take as much stack again
-            let r = run_passes(text, table, level, spot, d.next, limit, inner, first, out);
+            let r = run_passes(
+                text,
+                marks,
+                table,
+                level,
+                spot,
+                d.next,
+                limit,
+                inner,
+                first,
+                out,
+            );
             let stop = r.stop;
             let last = r.next;
             Ran {
@@ -348,6 +399,7 @@ fn run_iteration(
 // The passes of the iteration whose inside is at q.
 fn run_passes(
     text: &[u8],
+    marks: &[u16],
     table: &[u8],
     level: usize,
     spot: Spot,
@@ -357,6 +409,7 @@ fn run_passes(
     first: ArgumentPosition,
     out: &mut [u8],
 ) -> Ran
+    requires { ⌜ Landmarks (now text) (now marks) ⌝ }
     requires { ⌜ InHand (now table) hand ⌝ }
     requires { ⌜ first .0 ≤ hand .count ⌝ }
     requires { ⌜ q ≤ length (now text) ⌝ }
@@ -375,7 +428,7 @@ fn run_passes(
                 next,
                 left,
                 at,
-                place: after_block(text, known),
+                place: block_end(text, marks, q, known),
             };
         }
         if left == 0 {
@@ -390,7 +443,7 @@ fn run_passes(
                 next,
             );
         }
-        let r = run_sequence(text, table, level, q, hand, next, left - 1, out, at);
+        let r = run_sequence(text, marks, table, level, q, hand, next, left - 1, out, at);
         let stop = r.stop;
         let after = r.next;
         match stop {
@@ -407,7 +460,7 @@ fn run_passes(
                     next: after,
                     left: r.left,
                     at: r.at,
-                    place: after_block(text, known),
+                    place: block_end(text, marks, q, known),
                 };
             }
             Stop::Refused {

@@ -107,10 +107,10 @@ pub record Passes (s : ℕ → List Level) (n : ℕ) (v : View) (c : ℕ → Con
       → Same (run v left end (iteration p passes (restAt s q) (innermost (outer (s q)) .rest) out ∷ ks) (c i)) (λ l j. run v l (restAt s (r .place)) ks (afterwards out (c j))) away at b e r) (c 0 .count) left at b e r
   pub after : r .stop ≡ Ended → After s n q (r .place)
 
--- the clause at z, whatever the block is that it belongs to
-pub record RunsClause (s : ℕ → List Level) (n : ℕ) (v : View) (c : ℕ → Context) (level z i left at : ℕ) (b e : List ℕ) (r : Ran) : Type 0 where
-  pub is : (q : ℕ) (f : List Frame → Flow) → ((ks : List Frame) → f ks ≡ run v left (restAt s z) (conditional (innermost (outer (s q)) .rest) ∷ ks) (c i))
-      → outer (s z) ≡ outer (s q) → q ≤ z → Blocks s n v c level q f left at b e r
+-- the clause at z of the block whose inside is at q
+pub record RunsClause (s : ℕ → List Level) (n : ℕ) (v : View) (c : ℕ → Context) (level q z i left at : ℕ) (b e : List ℕ) (r : Ran) : Type 0 where
+  pub is : (f : List Frame → Flow) → ((ks : List Frame) → f ks ≡ run v left (restAt s z) (conditional (innermost (outer (s q)) .rest) ∷ ks) (c i))
+      → Blocks s n v c level q f left at b e r
 
 -- nothing is written, and the text goes on after the block whose inside is at q
 pub record EndsBlock (s : ℕ → List Level) (n : ℕ) (spot : Spot) (q i : ℕ) (r : Ran) : Type 0 where

@@ -1,44 +1,57 @@
 -- The run of a whole text is the answer of the call. Assumes nothing.
-use Rattle.engine.proofs.WholeLaws.{whole-told}
-use Rattle.engine.proofs.WholeLaws.{whole}
-use Rattle.acting.specs.Ran.{hand}
-use Rattle.running.specs.Runs.{Runs}
-use Rattle.rules.proofs.TableLaws.{accepted-sound}
-use Rattle.rules.specs.Text.{levelsAt}
-use Rattle.rules.specs.Table.{viewOf, argumentCount}
-use lib.ListN.{length}
-use Prim.Native.Nat.{ℕ, _≤_}
+use Rattle.engine.proofs.WholeLaws.{whole-told, all-in-hand, has-header}
 use native.Mathlib.Omega.{arith}
-use mathlib.Core.Path.{_≡_, refl, sym, ap, subst, _∙_}
+use Rattle.rules.proofs.TextLaws.{sound-start}
+use Rattle.blocks.proofs.LandmarkLaws.{none-laid}
 use borrow.Author.Needs.{needs}
 use Rattle.engine.proofs.formatting.run_text.Statement.{statement}
 use Rattle.engine.proofs.formatting.run_text.Tie as tie
+use Rattle.engine.proofs.formatting.run_text.Reads as reads
+use Rattle.engine.proofs.formatting.run_text.Lts as lts
+use Rattle.engine.proofs.formatting.outcome_of.Reads as outcome-of-reads
+use Rattle.engine.proofs.formatting.run_long.Reads as run-long-reads
+use Rattle.engine.proofs.runners.run_sequence.Reads as run-sequence-reads
+use Rattle.table.proofs.argument_count.Reads as argument-count-reads
 
-argument-count-requires : tie.Need-argument-count-requires
-argument-count-requires c κs = (accepted-sound ((c .before .before .before .args .table .now)) ((c .before .before .before .pre .0))) .header
-
-run-sequence-requires : tie.Need-run-sequence-requires
-run-sequence-requires c κs =
-    let s = accepted-sound ((c .before .before .before .before .before .args .table .now)) (c .before .before .before .before .before .pre .0) in
-    (record { accepted = (c .before .before .before .before .before .pre .0); within = omega (arith, s .arguments, (c .before .argument-count .ensures .0)) }, (omega arith, (omega arith, omega arith)))
-
-outcome-of-requires : tie.Need-outcome-of-requires
-outcome-of-requires c κs = (c .before .before .run-sequence .ensures .does .falls)
+run-long-requires : tie.Need-run-long-requires
+run-long-requires c κs = search needs
 
 same-length : tie.Need-same-length
-same-length c = (c .before .before .before .run-sequence .ensures .does .size)
+same-length c = search needs
 
 returns : tie.Need-returns
-returns c =
-    let a = (c .before .before .before .before .before .before .before .before .before .args) in
-    whole-told (a .format .now) (a .table .now) (a .out .now) _ _ ((c .before .before .before .before .before .argument-count .ensures .0)) (c .before .before .before .before .before .before .before .before .before .pre .0) (c .before .before .before .before .before .before .before .before .before .pre .1) (c .before .before .before .run-sequence .ensures) (c .outcome-of .ensures)
+returns c = search needs
+
+argument-count-requires : tie.Need-argument-count-requires
+argument-count-requires c κs = has-header (c .before .before .before .before .args .table .now) (c .before .before .before .before .pre .0)
+
+slice-aggregate-run-sequence : tie.Need-slice-aggregate-run-sequence
+slice-aggregate-run-sequence c = search needs
+
+run-sequence-requires : tie.Need-run-sequence-requires
+run-sequence-requires c κs = (none-laid (c .before .before .before .before .before .before .before .args .format .now) (sound-start (c .before .before .before .before .before .before .before .args .format .now) (c .before .before .before .before .before .before .before .pre .1) .0), (all-in-hand (c .before .before .before .before .before .before .before .args .table .now) _ (c .before .before .before .before .before .before .before .pre .0) (c .before .before .argument-count .ensures .0), (omega arith, (omega arith, omega arith))))
+
+outcome-of-requires : tie.Need-outcome-of-requires
+outcome-of-requires c κs = c .before .before .run-sequence .ensures .does .falls
+
+same-length-2 : tie.Need-same-length-2
+same-length-2 c = c .before .before .before .run-sequence .ensures .does .size
+
+returns-2 : tie.Need-returns-2
+returns-2 c =
+    let a = c .before .before .before .before .before .before .before .before .before .before .before .args in
+    whole-told (a .format .now) (a .table .now) (a .out .now) _ _ (c .before .before .before .before .before .before .argument-count .ensures .0) (c .before .before .before .before .before .before .before .before .before .before .before .pre .0) (c .before .before .before .before .before .before .before .before .before .before .before .pre .1) (c .before .before .before .run-sequence .ensures) (c .outcome-of .ensures)
 
 pub run-text-spec : {M : Type 1} → statement M
 run-text-spec =
     tie.close
     (tie.spec
+    run-long-requires
+    same-length
+    returns
     argument-count-requires
+    slice-aggregate-run-sequence
     run-sequence-requires
     outcome-of-requires
-    same-length
-    returns)
+    same-length-2
+    returns-2)

@@ -17,7 +17,7 @@ use Rattle.rules.specs.declared.Setting.{Setting}
 use Rattle.working.specs.Settling.{InHand, handAt}
 use Rattle.working.proofs.WorkLaws.{hand-small}
 use Rattle.working.proofs.Answers.{next-reaches, run-settled, run-refused}
-use Rattle.blocks.specs.Clauses.{onChosen, ChosenIn}
+use Rattle.blocks.specs.Clauses.{onChosen, ChosenIn, InsideAt}
 use Rattle.blocks.specs.declared.clauses.Chosen.{Chosen}
 use Rattle.blocks.specs.Parts.{endsAt, endsSequence, iterates, onOver, outsideOf, OverIn}
 use Rattle.blocks.specs.declared.passes.Over.{Over}
@@ -27,7 +27,7 @@ use Rattle.acting.proofs.ActLaws.{settings-ill, argument-there, argument-none}
 use Rattle.running.proofs.Strides.{strides-runs-on, runs-on, runs-left, runs-refused}
 use Rattle.rules.proofs.Bases.{code-right}
 use Rattle.running.proofs.BlockArms.{passes-over, passes-none, passes-on, passes-left, passes-refused, blocks-nothing, blocks-clause, blocks-clause-left, blocks-clause-refused, blocks-same, blocks-list, blocks-as}
-use Rattle.engine.proofs.RunnerLaws.{Onto, is-ended, ended-as, runs-stopped, sequence-ends, sequence-closes, literal-inside, no-other, acts-alone, block-deep, block-none, block-opens, blocks-told, closes-after, over-blocks, over-hand, passes-none-told, passes-on-told}
+use Rattle.engine.proofs.RunnerLaws.{Onto, is-ended, ended-as, runs-stopped, sequence-ends, sequence-closes, literal-inside, no-other, acts-alone, block-deep, block-none, block-opens, blocks-told, closes-after, ends-inside, inside-start, over-blocks, over-hand, passes-none-told, passes-on-told}
 use Rattle.rules.proofs.RunLaws.{choose-yes, choose-no}
 use Rattle.rules.proofs.TextLaws.{next-inside}
 use Prim.Native.Nat.{ℕ, _+_, _-_, _*_, _<_, _≤_}
@@ -59,7 +59,7 @@ use Rattle.engine.proofs.runners.run_sequence.Kinds as run-sequence-kin
 use Rattle.engine.proofs.runners.+run_block+run_clause+run_conditional+run_item+run_iteration+run_opened+run_passes+run_sequence.Lts-run_sequence as run-sequence-lts
 use Rattle.blocks.proofs.clauses.choose_clause.Reads as choose-clause-reads
 use Rattle.engine.proofs.items.act.Reads as act-reads
-use Rattle.checking.proofs.text.after_block.Reads as after-block-reads
+use Rattle.blocks.proofs.clauses.block_end.Reads as block-end-reads
 use Rattle.blocks.proofs.ends.ends_here.Reads as ends-here-reads
 use Rattle.blocks.proofs.ends.is_iteration.Reads as is-iteration-reads
 use Rattle.blocks.proofs.passes.is_over.Reads as is-over-reads
@@ -83,104 +83,104 @@ use Rattle.engine.proofs.runners.+run_block+run_clause+run_conditional+
   close,
 }
 
-abbrev μ-run-block : Measures 3 run-block-kinds.ps ℕ
-μ-run-block κs a = 8 * a .1 .1 .0 + 5
+abbrev μ-run-block : Measures 4 run-block-kinds.ps ℕ
+μ-run-block κs a = 8 * a .1 .1 .1 .0 + 5
 
-abbrev μ-run-clause : Measures 3 run-clause-kinds.ps ℕ
-μ-run-clause κs a = 8 * a .1 .1 .0 + 8
+abbrev μ-run-clause : Measures 4 run-clause-kinds.ps ℕ
+μ-run-clause κs a = 8 * a .1 .1 .1 .0 + 8
 
-abbrev μ-run-conditional : Measures 3 run-conditional-kinds.ps ℕ
-μ-run-conditional κs a = 8 * a .1 .1 .0 + 9
+abbrev μ-run-conditional : Measures 4 run-conditional-kinds.ps ℕ
+μ-run-conditional κs a = 8 * a .1 .1 .1 .0 + 9
 
-abbrev μ-run-item : Measures 3 run-item-kinds.ps ℕ
-μ-run-item κs a = 8 * a .1 .1 .0 + 6
+abbrev μ-run-item : Measures 4 run-item-kinds.ps ℕ
+μ-run-item κs a = 8 * a .1 .1 .1 .0 + 6
 
-abbrev μ-run-iteration : Measures 3 run-iteration-kinds.ps ℕ
-μ-run-iteration κs a = 8 * a .1 .1 .0 + 10
+abbrev μ-run-iteration : Measures 4 run-iteration-kinds.ps ℕ
+μ-run-iteration κs a = 8 * a .1 .1 .1 .0 + 10
 
-abbrev μ-run-opened : Measures 3 run-opened-kinds.ps ℕ
-μ-run-opened κs a = 8 * a .1 .1 .0 + 11
+abbrev μ-run-opened : Measures 4 run-opened-kinds.ps ℕ
+μ-run-opened κs a = 8 * a .1 .1 .1 .0 + 11
 
-abbrev μ-run-passes : Measures 3 run-passes-kinds.ps ℕ
-μ-run-passes κs a = 8 * a .1 .1 .0 + 8
+abbrev μ-run-passes : Measures 4 run-passes-kinds.ps ℕ
+μ-run-passes κs a = 8 * a .1 .1 .1 .0 + 8
 
-abbrev μ-run-sequence : Measures 3 run-sequence-kinds.ps ℕ
-μ-run-sequence κs a = 8 * a .1 .1 .0 + 7
+abbrev μ-run-sequence : Measures 4 run-sequence-kinds.ps ℕ
+μ-run-sequence κs a = 8 * a .1 .1 .1 .0 + 7
 
-abbrev run-block-at : ℕ → In 3 run-block-kinds.ps
-run-block-at t = and 3 run-block-kinds.ps (is 3 run-block-kinds.ps μ-run-block t) run-block.Pre
+abbrev run-block-at : ℕ → In 4 run-block-kinds.ps
+run-block-at t = and 4 run-block-kinds.ps (is 4 run-block-kinds.ps μ-run-block t) run-block.Pre
 
-abbrev run-block-below : ℕ → In 3 run-block-kinds.ps
+abbrev run-block-below : ℕ → In 4 run-block-kinds.ps
 run-block-below t =
-    and 3 run-block-kinds.ps (falls 3 run-block-kinds.ps _<_ μ-run-block t) run-block.Pre
+    and 4 run-block-kinds.ps (falls 4 run-block-kinds.ps _<_ μ-run-block t) run-block.Pre
 
-abbrev run-clause-at : ℕ → In 3 run-clause-kinds.ps
+abbrev run-clause-at : ℕ → In 4 run-clause-kinds.ps
 run-clause-at t =
-    and 3 run-clause-kinds.ps (is 3 run-clause-kinds.ps μ-run-clause t) run-clause.Pre
+    and 4 run-clause-kinds.ps (is 4 run-clause-kinds.ps μ-run-clause t) run-clause.Pre
 
-abbrev run-clause-below : ℕ → In 3 run-clause-kinds.ps
+abbrev run-clause-below : ℕ → In 4 run-clause-kinds.ps
 run-clause-below t =
-    and 3 run-clause-kinds.ps (falls 3 run-clause-kinds.ps _<_ μ-run-clause t) run-clause.Pre
+    and 4 run-clause-kinds.ps (falls 4 run-clause-kinds.ps _<_ μ-run-clause t) run-clause.Pre
 
-abbrev run-conditional-at : ℕ → In 3 run-conditional-kinds.ps
+abbrev run-conditional-at : ℕ → In 4 run-conditional-kinds.ps
 run-conditional-at t =
     and
-    3
+    4
     run-conditional-kinds.ps
-    (is 3 run-conditional-kinds.ps μ-run-conditional t)
+    (is 4 run-conditional-kinds.ps μ-run-conditional t)
     run-conditional.Pre
 
-abbrev run-conditional-below : ℕ → In 3 run-conditional-kinds.ps
+abbrev run-conditional-below : ℕ → In 4 run-conditional-kinds.ps
 run-conditional-below t =
     and
-    3
+    4
     run-conditional-kinds.ps
-    (falls 3 run-conditional-kinds.ps _<_ μ-run-conditional t)
+    (falls 4 run-conditional-kinds.ps _<_ μ-run-conditional t)
     run-conditional.Pre
 
-abbrev run-item-at : ℕ → In 3 run-item-kinds.ps
-run-item-at t = and 3 run-item-kinds.ps (is 3 run-item-kinds.ps μ-run-item t) run-item.Pre
+abbrev run-item-at : ℕ → In 4 run-item-kinds.ps
+run-item-at t = and 4 run-item-kinds.ps (is 4 run-item-kinds.ps μ-run-item t) run-item.Pre
 
-abbrev run-item-below : ℕ → In 3 run-item-kinds.ps
+abbrev run-item-below : ℕ → In 4 run-item-kinds.ps
 run-item-below t =
-    and 3 run-item-kinds.ps (falls 3 run-item-kinds.ps _<_ μ-run-item t) run-item.Pre
+    and 4 run-item-kinds.ps (falls 4 run-item-kinds.ps _<_ μ-run-item t) run-item.Pre
 
-abbrev run-iteration-at : ℕ → In 3 run-iteration-kinds.ps
+abbrev run-iteration-at : ℕ → In 4 run-iteration-kinds.ps
 run-iteration-at t =
-    and 3 run-iteration-kinds.ps (is 3 run-iteration-kinds.ps μ-run-iteration t) run-iteration.Pre
+    and 4 run-iteration-kinds.ps (is 4 run-iteration-kinds.ps μ-run-iteration t) run-iteration.Pre
 
-abbrev run-iteration-below : ℕ → In 3 run-iteration-kinds.ps
+abbrev run-iteration-below : ℕ → In 4 run-iteration-kinds.ps
 run-iteration-below t =
     and
-    3
+    4
     run-iteration-kinds.ps
-    (falls 3 run-iteration-kinds.ps _<_ μ-run-iteration t)
+    (falls 4 run-iteration-kinds.ps _<_ μ-run-iteration t)
     run-iteration.Pre
 
-abbrev run-opened-at : ℕ → In 3 run-opened-kinds.ps
-run-opened-at t = and 3 run-opened-kinds.ps (is 3 run-opened-kinds.ps μ-run-opened t) run-opened.Pre
+abbrev run-opened-at : ℕ → In 4 run-opened-kinds.ps
+run-opened-at t = and 4 run-opened-kinds.ps (is 4 run-opened-kinds.ps μ-run-opened t) run-opened.Pre
 
-abbrev run-opened-below : ℕ → In 3 run-opened-kinds.ps
-run-opened-below t = and 3 run-opened-kinds.ps (falls 3 run-opened-kinds.ps _<_ μ-run-opened t) run-opened.Pre
+abbrev run-opened-below : ℕ → In 4 run-opened-kinds.ps
+run-opened-below t = and 4 run-opened-kinds.ps (falls 4 run-opened-kinds.ps _<_ μ-run-opened t) run-opened.Pre
 
-abbrev run-passes-at : ℕ → In 3 run-passes-kinds.ps
+abbrev run-passes-at : ℕ → In 4 run-passes-kinds.ps
 run-passes-at t =
-    and 3 run-passes-kinds.ps (is 3 run-passes-kinds.ps μ-run-passes t) run-passes.Pre
+    and 4 run-passes-kinds.ps (is 4 run-passes-kinds.ps μ-run-passes t) run-passes.Pre
 
-abbrev run-passes-below : ℕ → In 3 run-passes-kinds.ps
+abbrev run-passes-below : ℕ → In 4 run-passes-kinds.ps
 run-passes-below t =
-    and 3 run-passes-kinds.ps (falls 3 run-passes-kinds.ps _<_ μ-run-passes t) run-passes.Pre
+    and 4 run-passes-kinds.ps (falls 4 run-passes-kinds.ps _<_ μ-run-passes t) run-passes.Pre
 
-abbrev run-sequence-at : ℕ → In 3 run-sequence-kinds.ps
+abbrev run-sequence-at : ℕ → In 4 run-sequence-kinds.ps
 run-sequence-at t =
-    and 3 run-sequence-kinds.ps (is 3 run-sequence-kinds.ps μ-run-sequence t) run-sequence.Pre
+    and 4 run-sequence-kinds.ps (is 4 run-sequence-kinds.ps μ-run-sequence t) run-sequence.Pre
 
-abbrev run-sequence-below : ℕ → In 3 run-sequence-kinds.ps
+abbrev run-sequence-below : ℕ → In 4 run-sequence-kinds.ps
 run-sequence-below t =
     and
-    3
+    4
     run-sequence-kinds.ps
-    (falls 3 run-sequence-kinds.ps _<_ μ-run-sequence t)
+    (falls 4 run-sequence-kinds.ps _<_ μ-run-sequence t)
     run-sequence.Pre
 
 -- what the callees of run_block ask and ensure, below the measure t
@@ -192,16 +192,16 @@ run-block-refuse-requires t c κs = search needs
 
 run-block-returns : (t : ℕ) → run-block-lts.Need-returns (run-block-claims t) (run-block-at t) run-block.Post
 run-block-returns t c =
-    let a = (c .before .before .before .before .before .args) in
-    block-deep (a .text .now) (viewOf (a .table .now)) (a .hand .first .0) (a .hand .count) (a .level) (a .p) (a .next .0) (a .left) (a .at) (a .out .now) (a .d) (c .before .before .before .before .before .pre .1 .1 .1 .0) _ (c .before .before .before .before .before .pre .1 .1 .1 .1 .0) (c .before .if1 .taken) (c .refuse .ensures) (c .before .before .before .before .before .pre .1 .1 .1 .1 .1) (c .before .before .before .before .before .pre .1 .1 .0)
+    let a = (c .before .before .before .before .before .before .args) in
+    block-deep (a .text .now) (viewOf (a .table .now)) (a .hand .first .0) (a .hand .count) (a .level) (a .p) (a .next .0) (a .left) (a .at) (a .out .now) (a .d) (c .before .before .before .before .before .before .pre .1 .1 .1 .1 .0) _ (c .before .before .before .before .before .before .pre .1 .1 .1 .1 .1 .0) (c .before .if1 .taken) (c .refuse .ensures) (c .before .before .before .before .before .before .pre .1 .1 .1 .1 .1 .1) (c .before .before .before .before .before .before .pre .1 .1 .1 .0)
 
 run-block-refuse-requires-2 : (t : ℕ) → run-block-lts.Need-refuse-requires-2 (run-block-claims t) (run-block-at t) run-block.Post
 run-block-refuse-requires-2 t c κs = search needs
 
 run-block-returns-2 : (t : ℕ) → run-block-lts.Need-returns-2 (run-block-claims t) (run-block-at t) run-block.Post
 run-block-returns-2 t c =
-    let a = (c .before .before .before .before .before .before .args) in
-    block-none (a .text .now) (viewOf (a .table .now)) (a .hand .first .0) (a .hand .count) (a .level) (a .p) (a .next .0) (a .left) (a .at) (a .out .now) (a .d) (c .before .before .before .before .before .before .pre .1 .1 .1 .0) _ (c .before .before .before .before .before .before .pre .1 .1 .1 .1 .0) (c .before .before .if1 .left) (c .before .if2 .taken) (c .refuse2 .ensures) (c .before .before .before .before .before .before .pre .1 .1 .1 .1 .1) (c .before .before .before .before .before .before .pre .1 .1 .0)
+    let a = (c .before .before .before .before .before .before .before .args) in
+    block-none (a .text .now) (viewOf (a .table .now)) (a .hand .first .0) (a .hand .count) (a .level) (a .p) (a .next .0) (a .left) (a .at) (a .out .now) (a .d) (c .before .before .before .before .before .before .before .pre .1 .1 .1 .1 .0) _ (c .before .before .before .before .before .before .before .pre .1 .1 .1 .1 .1 .0) (c .before .before .if1 .left) (c .before .if2 .taken) (c .refuse2 .ensures) (c .before .before .before .before .before .before .before .pre .1 .1 .1 .1 .1 .1) (c .before .before .before .before .before .before .before .pre .1 .1 .1 .0)
 
 run-block-sub-run-opened : (t : ℕ) → run-block-lts.Need-sub-run-opened (run-block-claims t) (run-block-at t) run-block.Post
 run-block-sub-run-opened t c = search needs
@@ -210,28 +210,28 @@ run-block-sub-run-opened-2 : (t : ℕ) → run-block-lts.Need-sub-run-opened-2 (
 run-block-sub-run-opened-2 t c = search needs
 
 run-block-run-opened-requires : (t : ℕ) → run-block-lts.Need-run-opened-requires (run-block-claims t) (run-block-at t) run-block.Post
-run-block-run-opened-requires t c κs = (omega (arith, c .before .before .before .before .before .before .pre .0, c .before .before .if1 .left), (c .before .before .before .before .before .before .pre .1 .0, (c .before .before .before .before .before .before .pre .1 .1 .0, ((next-inside (c .before .before .before .before .before .before .args .text .now) (c .before .before .before .before .before .before .args .p) (c .before .before .before .before .before .before .args .d) (c .before .before .before .before .before .before .pre .1 .1 .1 .0)) .most, c .before .before .before .before .before .before .pre .1 .1 .1 .1 .1))))
+run-block-run-opened-requires t c κs = (omega (arith, c .before .before .before .before .before .before .before .pre .0, c .before .before .if1 .left), (c .before .before .before .before .before .before .before .pre .1 .0, (c .before .before .before .before .before .before .before .pre .1 .1 .0, (c .before .before .before .before .before .before .before .pre .1 .1 .1 .0, ((next-inside (c .before .before .before .before .before .before .before .args .text .now) (c .before .before .before .before .before .before .before .args .p) (c .before .before .before .before .before .before .before .args .d) (c .before .before .before .before .before .before .before .pre .1 .1 .1 .1 .0)) .most, c .before .before .before .before .before .before .before .pre .1 .1 .1 .1 .1 .1)))))
 
 run-block-same-length : (t : ℕ) → run-block-lts.Need-same-length (run-block-claims t) (run-block-at t) run-block.Post
 run-block-same-length t c = c .before .before .run-opened .ensures .does .size
 
 run-block-returns-3 : (t : ℕ) → run-block-lts.Need-returns-3 (run-block-claims t) (run-block-at t) run-block.Post
 run-block-returns-3 t c =
-    let a = c .before .before .before .before .before .before .before .before .before .args in
-    block-opens (a .text .now) (viewOf (a .table .now)) (a .hand .first .0) (a .hand .count) (a .level) (a .p) (a .next .0) (a .left) (a .at) (a .out .now) (a .d) (c .before .before .before .before .before .before .before .before .before .pre .1 .1 .1 .0) (c .before .before .before .before .before .if1 .left) (c .before .before .before .before .if2 .left) (c .before .before .before .before .before .before .before .before .before .pre .1 .1 .1 .1 .0) (c .before .before .run-opened .ensures)
+    let a = c .before .before .before .before .before .before .before .before .before .before .args in
+    block-opens (a .text .now) (viewOf (a .table .now)) (a .hand .first .0) (a .hand .count) (a .level) (a .p) (a .next .0) (a .left) (a .at) (a .out .now) (a .d) (c .before .before .before .before .before .before .before .before .before .before .pre .1 .1 .1 .1 .0) (c .before .before .before .before .before .if1 .left) (c .before .before .before .before .if2 .left) (c .before .before .before .before .before .before .before .before .before .before .pre .1 .1 .1 .1 .1 .0) (c .before .before .run-opened .ensures)
 
 -- what the callees of run_clause ask and ensure, below the measure t
 abbrev run-clause-claims : ℕ → run-clause-lts.Claims
-run-clause-claims t = (run-sequence-below t, run-sequence.Post, after-block-reads.Asked, after-block-reads.Learnt)
+run-clause-claims t = (run-sequence-below t, run-sequence.Post, block-end-reads.Asked, block-end-reads.Learnt)
 
 run-clause-run-sequence-requires : (t : ℕ) → run-clause-lts.Need-run-sequence-requires (run-clause-claims t) (run-clause-at t) run-clause.Post
-run-clause-run-sequence-requires t c κs = (omega (arith, (c .before .before .before .before .pre .0)), ((c .before .before .before .before .pre .1 .0), ((c .before .before .before .before .pre .1 .1 .0), ((c .before .before .before .before .pre .1 .1 .1 .0), (c .before .before .before .before .pre .1 .1 .1 .1)))))
+run-clause-run-sequence-requires t c κs = (omega (arith, (c .before .before .before .before .before .pre .0)), (c .before .before .before .before .before .pre .1 .0, ((c .before .before .before .before .before .pre .1 .1 .0), ((c .before .before .before .before .before .pre .1 .1 .1 .0), ((c .before .before .before .before .before .pre .1 .1 .1 .1 .0 .most), (c .before .before .before .before .before .pre .1 .1 .1 .1 .1))))))
 
 run-clause-enum-told : (t : ℕ) → run-clause-lts.Need-enum-told (run-clause-claims t) (run-clause-at t) run-clause.Post
 run-clause-enum-told t c = search needs
 
-run-clause-after-block-requires : (t : ℕ) → run-clause-lts.Need-after-block-requires (run-clause-claims t) (run-clause-at t) run-clause.Post
-run-clause-after-block-requires t c κs = ((c .before .before .before .before .before .run-sequence .ensures .ends) ((c .enum-told .given .1))) .most
+run-clause-block-end-requires : (t : ℕ) → run-clause-lts.Need-block-end-requires (run-clause-claims t) (run-clause-at t) run-clause.Post
+run-clause-block-end-requires t c κs = (c .before .before .before .before .before .before .before .before .before .before .before .pre .1 .0, ends-inside (c .before .before .before .before .before .before .before .before .before .before .before .pre .1 .1 .1 .1 .0) ((c .before .before .before .before .before .run-sequence .ensures .ends) (c .enum-told .given .1)))
 
 run-clause-enum-told-2 : (t : ℕ) → run-clause-lts.Need-enum-told-2 (run-clause-claims t) (run-clause-at t) run-clause.Post
 run-clause-enum-told-2 t c = search needs
@@ -244,51 +244,51 @@ run-clause-same-length t c = (c .before .before .before .before .before .before 
 
 run-clause-returns : (t : ℕ) → run-clause-lts.Need-returns (run-clause-claims t) (run-clause-at t) run-clause.Post
 run-clause-returns t c =
-    let a = (c .before .before .before .before .before .before .before .before .before .before .before .args) in
+    let a = (c .before .before .before .before .before .before .before .before .before .before .before .before .args) in
     let u = (c .before .before .before .before .before .before .run-sequence .ensures) in
     let w = u .ends (c .before .enum-told .given .1) in
-    record { is = λ q f h o l. blocks-clause (levelsAt (a .text .now)) (length (a .text .now)) (viewOf (a .table .now)) (a .hand .first .0) (a .hand .count) (a .level) q f (a .spot .left) (a .spot .at) (a .out .now) (a .z) (a .next .0) h u (c .before .enum-told .given .1) _ (closes-after (a .text .now) q _ _ (w .around ∙ o) (omega (arith, w .least)) (c .after-block .ensures)) }
+    record { is = λ f h. blocks-clause (levelsAt (a .text .now)) (length (a .text .now)) (viewOf (a .table .now)) (a .hand .first .0) (a .hand .count) (a .level) (a .q) f (a .spot .left) (a .spot .at) (a .out .now) (a .z) (a .next .0) h u (c .before .enum-told .given .1) _ (closes-after (c .block-end .ensures)) }
 
 run-clause-same-length-2 : (t : ℕ) → run-clause-lts.Need-same-length-2 (run-clause-claims t) (run-clause-at t) run-clause.Post
 run-clause-same-length-2 t c = (c .before .before .before .before .before .run-sequence .ensures .does .size)
 
 run-clause-returns-2 : (t : ℕ) → run-clause-lts.Need-returns-2 (run-clause-claims t) (run-clause-at t) run-clause.Post
 run-clause-returns-2 t c =
-    let a = (c .before .before .before .before .before .before .before .before .before .before .args) in
-    record { is = λ q f h o l. blocks-clause-left (levelsAt (a .text .now)) (length (a .text .now)) (viewOf (a .table .now)) (a .hand .first .0) (a .hand .count) (a .level) q f (a .spot .left) (a .spot .at) (a .out .now) (a .z) (a .next .0) h (c .before .before .before .before .before .run-sequence .ensures) (c .enum-told2 .given .1) }
+    let a = (c .before .before .before .before .before .before .before .before .before .before .before .args) in
+    record { is = λ f h. blocks-clause-left (levelsAt (a .text .now)) (length (a .text .now)) (viewOf (a .table .now)) (a .hand .first .0) (a .hand .count) (a .level) (a .q) f (a .spot .left) (a .spot .at) (a .out .now) (a .z) (a .next .0) h (c .before .before .before .before .before .run-sequence .ensures) (c .enum-told2 .given .1) }
 
 run-clause-same-length-3 : (t : ℕ) → run-clause-lts.Need-same-length-3 (run-clause-claims t) (run-clause-at t) run-clause.Post
 run-clause-same-length-3 t c = (c .before .before .before .before .before .run-sequence .ensures .does .size)
 
 run-clause-returns-3 : (t : ℕ) → run-clause-lts.Need-returns-3 (run-clause-claims t) (run-clause-at t) run-clause.Post
 run-clause-returns-3 t c =
-    let a = (c .before .before .before .before .before .before .before .before .before .before .args) in
-    record { is = λ q f h o l. blocks-clause-refused (levelsAt (a .text .now)) (length (a .text .now)) (viewOf (a .table .now)) (a .hand .first .0) (a .hand .count) (a .level) q f (a .spot .left) (a .spot .at) (a .out .now) (a .z) (a .next .0) h (c .before .before .before .before .before .run-sequence .ensures) _ _ (c .enum-told3 .given .1) }
+    let a = (c .before .before .before .before .before .before .before .before .before .before .before .args) in
+    record { is = λ f h. blocks-clause-refused (levelsAt (a .text .now)) (length (a .text .now)) (viewOf (a .table .now)) (a .hand .first .0) (a .hand .count) (a .level) (a .q) f (a .spot .left) (a .spot .at) (a .out .now) (a .z) (a .next .0) h (c .before .before .before .before .before .run-sequence .ensures) _ _ (c .enum-told3 .given .1) }
 
 -- what the callees of run_conditional ask and ensure, below the measure t
 abbrev run-conditional-claims : ℕ → run-conditional-lts.Claims
 run-conditional-claims t = (choose-clause-reads.Asked, choose-clause-reads.Learnt, run-clause-below t, run-clause.Post, end-block-reads.Asked, end-block-reads.Learnt, refuse-reads.Asked, refuse-reads.Learnt)
 
 run-conditional-choose-clause-requires : (t : ℕ) → run-conditional-lts.Need-choose-clause-requires (run-conditional-claims t) (run-conditional-at t) run-conditional.Post
-run-conditional-choose-clause-requires t c κs = (c .before .before .before .pre .1 .0, (c .before .before .before .pre .1 .1 .0, c .before .before .before .pre .1 .1 .1 .0))
+run-conditional-choose-clause-requires t c κs = ((c .before .before .before .before .pre .1 .0), (c .before .before .before .before .pre .1 .1 .0, (c .before .before .before .before .pre .1 .1 .1 .0, c .before .before .before .before .pre .1 .1 .1 .1 .0)))
 
 run-conditional-enum-known-chosen : (t : ℕ) → run-conditional-lts.Need-enum-known-chosen (run-conditional-claims t) (run-conditional-at t) run-conditional.Post
 run-conditional-enum-known-chosen t c = search needs
 
 run-conditional-run-clause-requires : (t : ℕ) → run-conditional-lts.Need-run-clause-requires (run-conditional-claims t) (run-conditional-at t) run-conditional.Post
 run-conditional-run-clause-requires t c κs =
-    let a = c .before .before .before .before .before .before .before .before .args in
+    let a = c .before .before .before .before .before .before .before .before .before .args in
     let w = subst (ChosenIn (a .text .now) (a .d .next) (a .hand .count)) (c .before .before .chosen .given .1) (c .before .before .before .before .choose-clause .ensures .inside) in
-    (omega (arith, c .before .before .before .before .before .before .before .before .pre .0), (c .before .before .before .before .before .before .before .before .pre .1 .0, (w .1, (w .0 .most, c .before .before .before .before .before .before .before .before .pre .1 .1 .1 .1))))
+    (omega (arith, c .before .before .before .before .before .before .before .before .before .pre .0), (c .before .before .before .before .before .before .before .before .before .pre .1 .0, (c .before .before .before .before .before .before .before .before .before .pre .1 .1 .0, (w .1, (w .0, c .before .before .before .before .before .before .before .before .before .pre .1 .1 .1 .1 .1)))))
 
 run-conditional-enum-known-chosen-2 : (t : ℕ) → run-conditional-lts.Need-enum-known-chosen-2 (run-conditional-claims t) (run-conditional-at t) run-conditional.Post
 run-conditional-enum-known-chosen-2 t c = search needs
 
 run-conditional-end-block-requires : (t : ℕ) → run-conditional-lts.Need-end-block-requires (run-conditional-claims t) (run-conditional-at t) run-conditional.Post
 run-conditional-end-block-requires t c κs =
-    let a = c .before .before .before .before .before .before .before .args in
+    let a = c .before .before .before .before .before .before .before .before .args in
     let w = subst (ChosenIn (a .text .now) (a .d .next) (a .hand .count)) (c .before .chosen2 .given .1) (c .before .before .before .choose-clause .ensures .inside) in
-    w .0 .most
+    (c .before .before .before .before .before .before .before .before .pre .1 .0, w .0)
 
 run-conditional-enum-known-chosen-3 : (t : ℕ) → run-conditional-lts.Need-enum-known-chosen-3 (run-conditional-claims t) (run-conditional-at t) run-conditional.Post
 run-conditional-enum-known-chosen-3 t c = search needs
@@ -298,32 +298,30 @@ run-conditional-refuse-requires t c κs = search needs
 
 run-conditional-same-length : (t : ℕ) → run-conditional-lts.Need-same-length (run-conditional-claims t) (run-conditional-at t) run-conditional.Post
 run-conditional-same-length t c =
-    let a = c .before .before .before .before .before .before .before .before .before .before .before .args in
-    let w = subst (ChosenIn (a .text .now) (a .d .next) (a .hand .count)) (c .before .before .before .before .before .chosen .given .1) (c .before .before .before .before .before .before .before .choose-clause .ensures .inside) in
-    (c .before .before .run-clause .ensures .is) (a .d .next) _ (λ ks. refl) (w .0 .outside) (w .0 .least) .does .size
+    (c .before .before .run-clause .ensures .is) _ (λ ks. refl) .does .size
 
 run-conditional-returns : (t : ℕ) → run-conditional-lts.Need-returns (run-conditional-claims t) (run-conditional-at t) run-conditional.Post
 run-conditional-returns t c =
-    let a = c .before .before .before .before .before .before .before .before .before .before .before .args in
+    let a = c .before .before .before .before .before .before .before .before .before .before .before .before .args in
     let w = subst (ChosenIn (a .text .now) (a .d .next) (a .hand .count)) (c .before .before .before .before .before .chosen .given .1) (c .before .before .before .before .before .before .before .choose-clause .ensures .inside) in
-    λ j. (c .before .before .run-clause .ensures .is) (a .d .next) (picking (levelsAt (a .text .now)) (viewOf (a .table .now)) (handAt (a .hand)) (a .spot .position) (a .d) (a .d .next) j (a .spot .left) (a .settings) (a .i .0))
-    (λ ks. (c .before .before .before .before .before .before .before .choose-clause .ensures .is) (a .spot .position) (a .spot .left) j _ ∙ ap (λ (x : Chosen). onChosen (levelsAt (a .text .now)) (a .spot .position) (a .spot .left) x (λ y after. run (viewOf (a .table .now)) (a .spot .left) y (conditional (innermost (outer (levelsAt (a .text .now) (a .d .next))) .rest) ∷ ks) (handAt (a .hand) after))) (c .before .before .before .before .before .chosen .given .1)) (w .0 .outside) (w .0 .least)
+    λ j. (c .before .before .run-clause .ensures .is) (picking (levelsAt (a .text .now)) (viewOf (a .table .now)) (handAt (a .hand)) (a .spot .position) (a .d) (a .d .next) j (a .spot .left) (a .settings) (a .i .0))
+    (λ ks. (c .before .before .before .before .before .before .before .choose-clause .ensures .is) (a .spot .position) (a .spot .left) j _ ∙ ap (λ (x : Chosen). onChosen (levelsAt (a .text .now)) (a .spot .position) (a .spot .left) x (λ y after. run (viewOf (a .table .now)) (a .spot .left) y (conditional (innermost (outer (levelsAt (a .text .now) (a .d .next))) .rest) ∷ ks) (handAt (a .hand) after))) (c .before .before .before .before .before .chosen .given .1))
 
 run-conditional-returns-2 : (t : ℕ) → run-conditional-lts.Need-returns-2 (run-conditional-claims t) (run-conditional-at t) run-conditional.Post
 run-conditional-returns-2 t c =
-    let a = c .before .before .before .before .before .before .before .before .args in
+    let a = c .before .before .before .before .before .before .before .before .before .args in
     let w = subst (ChosenIn (a .text .now) (a .d .next) (a .hand .count)) (c .before .before .chosen2 .given .1) (c .before .before .before .before .choose-clause .ensures .inside) in
     let u = c .end-block .ensures in
     λ j. subst (Blocks (levelsAt (a .text .now)) (length (a .text .now)) (viewOf (a .table .now)) (handAt (a .hand)) (a .level) (a .d .next) (picking (levelsAt (a .text .now)) (viewOf (a .table .now)) (handAt (a .hand)) (a .spot .position) (a .d) (a .d .next) j (a .spot .left) (a .settings) (a .i .0)) (a .spot .left) (a .spot .at) (a .out .now) (a .out .now)) (sym (u .is))
     (blocks-nothing (levelsAt (a .text .now)) (length (a .text .now)) (viewOf (a .table .now)) (a .hand .first .0) (a .hand .count) (a .level) (a .d .next) (picking (levelsAt (a .text .now)) (viewOf (a .table .now)) (handAt (a .hand)) (a .spot .position) (a .d) (a .d .next) j (a .spot .left) (a .settings) (a .i .0)) (a .spot .left) (a .spot .at) (a .out .now) _ _
     (λ ks. (c .before .before .before .before .choose-clause .ensures .is) (a .spot .position) (a .spot .left) j _ ∙ ap (λ (x : Chosen). onChosen (levelsAt (a .text .now)) (a .spot .position) (a .spot .left) x (λ y after. run (viewOf (a .table .now)) (a .spot .left) y (conditional (innermost (outer (levelsAt (a .text .now) (a .d .next))) .rest) ∷ ks) (handAt (a .hand) after))) (c .before .before .chosen2 .given .1))
-    (record { is = u .after .is ∙ w .0 .outside; least = omega (arith, u .after .least, w .0 .least); most = u .after .most }) (c .before .before .before .before .before .before .before .before .pre .1 .1 .1 .1) (w .1))
+    (u .after) (c .before .before .before .before .before .before .before .before .before .pre .1 .1 .1 .1 .1) (w .1))
 
 run-conditional-returns-3 : (t : ℕ) → run-conditional-lts.Need-returns-3 (run-conditional-claims t) (run-conditional-at t) run-conditional.Post
 run-conditional-returns-3 t c =
-    let a = c .before .before .before .before .before .before .before .before .args in
+    let a = c .before .before .before .before .before .before .before .before .before .args in
     λ j. blocks-told (levelsAt (a .text .now)) (length (a .text .now)) (viewOf (a .table .now)) (a .hand .first .0) (a .hand .count) (a .level) (a .d .next) (picking (levelsAt (a .text .now)) (viewOf (a .table .now)) (handAt (a .hand)) (a .spot .position) (a .d) (a .d .next) j (a .spot .left) (a .settings) (a .i .0)) (a .spot .left) (a .spot .at) (a .out .now) _ _ (a .spot .position) (a .i .0) _ (c .refuse .ensures)
-    (λ ks. (c .before .before .before .before .choose-clause .ensures .is) (a .spot .position) (a .spot .left) j _ ∙ ap (λ (x : Chosen). onChosen (levelsAt (a .text .now)) (a .spot .position) (a .spot .left) x (λ y after. run (viewOf (a .table .now)) (a .spot .left) y (conditional (innermost (outer (levelsAt (a .text .now) (a .d .next))) .rest) ∷ ks) (handAt (a .hand) after))) (c .before .before .chosen3 .given .1)) (c .before .before .before .before .before .before .before .before .pre .1 .1 .1 .1) (c .before .before .before .before .before .before .before .before .pre .1 .1 .0)
+    (λ ks. (c .before .before .before .before .choose-clause .ensures .is) (a .spot .position) (a .spot .left) j _ ∙ ap (λ (x : Chosen). onChosen (levelsAt (a .text .now)) (a .spot .position) (a .spot .left) x (λ y after. run (viewOf (a .table .now)) (a .spot .left) y (conditional (innermost (outer (levelsAt (a .text .now) (a .d .next))) .rest) ∷ ks) (handAt (a .hand) after))) (c .before .before .chosen3 .given .1)) (c .before .before .before .before .before .before .before .before .before .pre .1 .1 .1 .1 .1) (c .before .before .before .before .before .before .before .before .before .pre .1 .1 .1 .0)
 
 -- what the callees of run_item ask and ensure, below the measure t
 abbrev run-item-claims : ℕ → run-item-lts.Claims
@@ -333,7 +331,7 @@ run-item-enum-known-item : (t : ℕ) → run-item-lts.Need-enum-known-item (run-
 run-item-enum-known-item t c = search needs
 
 run-item-put-literal-requires : (t : ℕ) → run-item-lts.Need-put-literal-requires (run-item-claims t) (run-item-at t) run-item.Post
-run-item-put-literal-requires t c κs = ((c .before .before .before .before .before .before .before .pre .1 .1 .0), ((c .before .before .before .before .before .before .before .pre .1 .1 .1 .1 .1), omega (arith, literal-inside ((c .before .before .before .before .before .before .before .args .text .now)) ((c .before .before .before .before .before .before .before .args .p)) (c .before .before .before .before .before .before .before .pre .1 .1 .1 .0) (c .before .before .item .given .1))))
+run-item-put-literal-requires t c κs = ((c .before .before .before .before .before .before .before .before .pre .1 .1 .1 .0), ((c .before .before .before .before .before .before .before .before .pre .1 .1 .1 .1 .1 .1), omega (arith, literal-inside ((c .before .before .before .before .before .before .before .before .args .text .now)) ((c .before .before .before .before .before .before .before .before .args .p)) (c .before .before .before .before .before .before .before .before .pre .1 .1 .1 .1 .0) (c .before .before .item .given .1))))
 
 run-item-enum-known-item-2 : (t : ℕ) → run-item-lts.Need-enum-known-item-2 (run-item-claims t) (run-item-at t) run-item.Post
 run-item-enum-known-item-2 t c = search needs
@@ -342,7 +340,7 @@ run-item-opens-block-requires : (t : ℕ) → run-item-lts.Need-opens-block-requ
 run-item-opens-block-requires t c κs = search needs
 
 run-item-run-block-requires : (t : ℕ) → run-item-lts.Need-run-block-requires (run-item-claims t) (run-item-at t) run-item.Post
-run-item-run-block-requires t c κs = (omega (arith, (c .before .before .before .before .before .before .before .before .before .pre .0)), ((c .before .before .before .before .before .before .before .before .before .pre .1 .0), ((c .before .before .before .before .before .before .before .before .before .pre .1 .1 .0), ((c .before .before .before .before .before .before .before .before .before .pre .1 .1 .1 .0) ∙ (c .before .before .before .before .item2 .given .1), (sym (c .before .before .opens-block .ensures) ∙ (c .before .if1 .taken), (c .before .before .before .before .before .before .before .before .before .pre .1 .1 .1 .1 .1))))))
+run-item-run-block-requires t c κs = (omega (arith, (c .before .before .before .before .before .before .before .before .before .before .pre .0)), (c .before .before .before .before .before .before .before .before .before .before .pre .1 .0, ((c .before .before .before .before .before .before .before .before .before .before .pre .1 .1 .0), ((c .before .before .before .before .before .before .before .before .before .before .pre .1 .1 .1 .0), ((c .before .before .before .before .before .before .before .before .before .before .pre .1 .1 .1 .1 .0) ∙ (c .before .before .before .before .item2 .given .1), (sym (c .before .before .opens-block .ensures) ∙ (c .before .if1 .taken), (c .before .before .before .before .before .before .before .before .before .before .pre .1 .1 .1 .1 .1 .1)))))))
 
 run-item-same-length : (t : ℕ) → run-item-lts.Need-same-length (run-item-claims t) (run-item-at t) run-item.Post
 run-item-same-length t c = (c .before .before .run-block .ensures .does .size)
@@ -352,27 +350,27 @@ run-item-returns t c = (c .before .before .run-block .ensures)
 
 run-item-act-requires : (t : ℕ) → run-item-lts.Need-act-requires (run-item-claims t) (run-item-at t) run-item.Post
 run-item-act-requires t c κs = (
-  acts-alone ((c .before .before .before .before .item2 .given .0 .0 .code)) (code-right ((c .before .before .before .before .before .before .before .before .before .args .text .now)) ((c .before .before .before .before .before .before .before .before .before .args .p)) ((c .before .before .before .before .item2 .given .0 .0)) ((c .before .before .before .before .before .before .before .before .before .pre .1 .1 .1 .0) ∙ (c .before .before .before .before .item2 .given .1))) (sym (c .before .before .opens-block .ensures) ∙ (c .before .if1 .left)) (sym (ap endsAt (c .before .before .before .before .item2 .given .1)) ∙ (c .before .before .before .before .before .before .before .before .before .pre .1 .1 .1 .1 .0)),
-  ((c .before .before .before .before .before .before .before .before .before .pre .1 .0), ((c .before .before .before .before .before .before .before .before .before .pre .1 .1 .0), (c .before .before .before .before .before .before .before .before .before .pre .1 .1 .1 .1 .1))),
+  acts-alone ((c .before .before .before .before .item2 .given .0 .0 .code)) (code-right ((c .before .before .before .before .before .before .before .before .before .before .args .text .now)) ((c .before .before .before .before .before .before .before .before .before .before .args .p)) ((c .before .before .before .before .item2 .given .0 .0)) ((c .before .before .before .before .before .before .before .before .before .before .pre .1 .1 .1 .1 .0) ∙ (c .before .before .before .before .item2 .given .1))) (sym (c .before .before .opens-block .ensures) ∙ (c .before .if1 .left)) (sym (ap endsAt (c .before .before .before .before .item2 .given .1)) ∙ (c .before .before .before .before .before .before .before .before .before .before .pre .1 .1 .1 .1 .1 .0)),
+  ((c .before .before .before .before .before .before .before .before .before .before .pre .1 .1 .0), ((c .before .before .before .before .before .before .before .before .before .before .pre .1 .1 .1 .0), (c .before .before .before .before .before .before .before .before .before .before .pre .1 .1 .1 .1 .1 .1))),
 )
 
 run-item-refuse-requires : (t : ℕ) → run-item-lts.Need-refuse-requires (run-item-claims t) (run-item-at t) run-item.Post
 run-item-refuse-requires t c κs = search needs
 
 run-item-same-length-2 : (t : ℕ) → run-item-lts.Need-same-length-2 (run-item-claims t) (run-item-at t) run-item.Post
-run-item-same-length-2 t c = let a = (c .before .before .before .before .before .before .before .before .before .before .args) in (c .before .before .put-literal .ensures) (a .text .now) (viewOf (a .table .now)) (a .level) ((c .before .before .before .before .before .before .before .before .before .before .pre .1 .1 .1 .0) ∙ (c .before .before .before .before .before .item .given .1)) .does .size
+run-item-same-length-2 t c = let a = (c .before .before .before .before .before .before .before .before .before .before .before .args) in (c .before .before .put-literal .ensures) (a .text .now) (viewOf (a .table .now)) (a .level) ((c .before .before .before .before .before .before .before .before .before .before .before .pre .1 .1 .1 .1 .0) ∙ (c .before .before .before .before .before .item .given .1)) .does .size
 
 run-item-returns-2 : (t : ℕ) → run-item-lts.Need-returns-2 (run-item-claims t) (run-item-at t) run-item.Post
-run-item-returns-2 t c = let a = (c .before .before .before .before .before .before .before .before .before .before .args) in (c .before .before .put-literal .ensures) (a .text .now) (viewOf (a .table .now)) (a .level) ((c .before .before .before .before .before .before .before .before .before .before .pre .1 .1 .1 .0) ∙ (c .before .before .before .before .before .item .given .1))
+run-item-returns-2 t c = let a = (c .before .before .before .before .before .before .before .before .before .before .before .args) in (c .before .before .put-literal .ensures) (a .text .now) (viewOf (a .table .now)) (a .level) ((c .before .before .before .before .before .before .before .before .before .before .before .pre .1 .1 .1 .1 .0) ∙ (c .before .before .before .before .before .item .given .1))
 
 run-item-same-length-3 : (t : ℕ) → run-item-lts.Need-same-length-3 (run-item-claims t) (run-item-at t) run-item.Post
-run-item-same-length-3 t c = let a = (c .before .before .before .before .before .before .before .before .before .before .before .before .args) in (c .before .before .act .ensures) (a .text .now) (a .level) ((c .before .before .before .before .before .before .before .before .before .before .before .before .pre .1 .1 .1 .0) ∙ (c .before .before .before .before .before .before .before .item2 .given .1)) .does .size
+run-item-same-length-3 t c = let a = (c .before .before .before .before .before .before .before .before .before .before .before .before .before .args) in (c .before .before .act .ensures) (a .text .now) (a .level) ((c .before .before .before .before .before .before .before .before .before .before .before .before .before .pre .1 .1 .1 .1 .0) ∙ (c .before .before .before .before .before .before .before .item2 .given .1)) .does .size
 
 run-item-returns-3 : (t : ℕ) → run-item-lts.Need-returns-3 (run-item-claims t) (run-item-at t) run-item.Post
-run-item-returns-3 t c = let a = (c .before .before .before .before .before .before .before .before .before .before .before .before .args) in (c .before .before .act .ensures) (a .text .now) (a .level) ((c .before .before .before .before .before .before .before .before .before .before .before .before .pre .1 .1 .1 .0) ∙ (c .before .before .before .before .before .before .before .item2 .given .1))
+run-item-returns-3 t c = let a = (c .before .before .before .before .before .before .before .before .before .before .before .before .before .args) in (c .before .before .act .ensures) (a .text .now) (a .level) ((c .before .before .before .before .before .before .before .before .before .before .before .before .before .pre .1 .1 .1 .1 .0) ∙ (c .before .before .before .before .before .before .before .item2 .given .1))
 
 run-item-returns-4 : (t : ℕ) → run-item-lts.Need-returns-4 (run-item-claims t) (run-item-at t) run-item.Post
-run-item-returns-4 t c = absurd (no-other _ ((c .before .before .before .before .before .args .item)) refl (c .before .before .before .before .before .pre .1 .1 .1 .1 .0) (c .before .match .keys3))
+run-item-returns-4 t c = absurd (no-other _ ((c .before .before .before .before .before .before .args .item)) refl (c .before .before .before .before .before .before .pre .1 .1 .1 .1 .1 .0) (c .before .match .keys3))
 
 -- what the callees of run_iteration ask and ensure, below the measure t
 abbrev run-iteration-claims : ℕ → run-iteration-lts.Claims
@@ -392,26 +390,26 @@ run-iteration-enum-known-over-2 t c = search needs
 
 run-iteration-run-passes-requires : (t : ℕ) → run-iteration-lts.Need-run-passes-requires (run-iteration-claims t) (run-iteration-at t) run-iteration.Post
 run-iteration-run-passes-requires t c κs =
-    let a = c .before .before .before .before .before .before .before .before .args in
+    let a = c .before .before .before .before .before .before .before .before .before .args in
     let w = subst (OverIn (a .table .now) (a .hand) (a .d .at) (a .i .0)) (c .before .before .over2 .given .1) (c .before .before .before .before .go-over .ensures .inside) in
-    let o = over-hand (a .table .now) (a .hand) _ (a .d .at) (a .i .0) _ w (c .before .before .before .before .before .before .before .before .pre .1 .0) (c .before .before .before .before .before .before .before .before .pre .1 .1 .0) in
-    (omega (arith, c .before .before .before .before .before .before .before .before .pre .0), (o .0, (o .1, (c .before .before .before .before .before .before .before .before .pre .1 .1 .1 .0, c .before .before .before .before .before .before .before .before .pre .1 .1 .1 .1))))
+    let o = over-hand (a .table .now) (a .hand) _ (a .d .at) (a .i .0) _ w (c .before .before .before .before .before .before .before .before .before .pre .1 .1 .0) (c .before .before .before .before .before .before .before .before .before .pre .1 .1 .1 .0) in
+    (omega (arith, c .before .before .before .before .before .before .before .before .before .pre .0), (c .before .before .before .before .before .before .before .before .before .pre .1 .0, (o .0, (o .1, (c .before .before .before .before .before .before .before .before .before .pre .1 .1 .1 .1 .0, c .before .before .before .before .before .before .before .before .before .pre .1 .1 .1 .1 .1)))))
 
 run-iteration-next-after-requires : (t : ℕ) → run-iteration-lts.Need-next-after-requires (run-iteration-claims t) (run-iteration-at t) run-iteration.Post
-run-iteration-next-after-requires t c κs = omega (arith, c .before .before .before .before .before .before .before .before .before .before .before .before .pre .1 .1 .0, hand-small (c .before .before .before .before .before .before .before .before .before .before .before .before .pre .1 .0))
+run-iteration-next-after-requires t c κs = omega (arith, c .before .before .before .before .before .before .before .before .before .before .before .before .before .pre .1 .1 .1 .0, hand-small (c .before .before .before .before .before .before .before .before .before .before .before .before .before .pre .1 .1 .0))
 
 run-iteration-returns : (t : ℕ) → run-iteration-lts.Need-returns (run-iteration-claims t) (run-iteration-at t) run-iteration.Post
 run-iteration-returns t c =
-    let a = c .before .before .before .before .before .before .before .before .args in
+    let a = c .before .before .before .before .before .before .before .before .before .args in
     λ j. blocks-told (levelsAt (a .text .now)) (length (a .text .now)) (viewOf (a .table .now)) (a .hand .first .0) (a .hand .count) (a .level) (a .d .next) (entering (levelsAt (a .text .now)) (viewOf (a .table .now)) (handAt (a .hand)) (a .spot .position) (a .d) (a .d .next) j (a .spot .left) (a .settings) (a .i .0)) (a .spot .left) (a .spot .at) (a .out .now) _ _ (a .spot .position) (a .i .0) _ (c .refuse .ensures)
-    (λ ks. (c .before .before .before .before .go-over .ensures .is) (a .spot .position) (a .spot .left) j (a .d) refl (a .settings) _ _ _ ∙ ap (λ (x : Over). onOver (a .spot .position) (a .spot .left) (a .settings .first) (restAt (levelsAt (a .text .now)) (a .d .next)) (innermost (outer (levelsAt (a .text .now) (a .d .next))) .rest) (outsideOf (a .d .at) (a .hand) (a .i .0)) x (λ k c₂. run (viewOf (a .table .now)) (a .spot .left) end (k ∷ ks) c₂)) (c .before .before .over .given .1)) (c .before .before .before .before .before .before .before .before .pre .1 .1 .1 .1) (c .before .before .before .before .before .before .before .before .pre .1 .1 .0)
+    (λ ks. (c .before .before .before .before .go-over .ensures .is) (a .spot .position) (a .spot .left) j (a .d) refl (a .settings) _ _ _ ∙ ap (λ (x : Over). onOver (a .spot .position) (a .spot .left) (a .settings .first) (restAt (levelsAt (a .text .now)) (a .d .next)) (innermost (outer (levelsAt (a .text .now) (a .d .next))) .rest) (outsideOf (a .d .at) (a .hand) (a .i .0)) x (λ k c₂. run (viewOf (a .table .now)) (a .spot .left) end (k ∷ ks) c₂)) (c .before .before .over .given .1)) (c .before .before .before .before .before .before .before .before .before .pre .1 .1 .1 .1 .1) (c .before .before .before .before .before .before .before .before .before .pre .1 .1 .1 .0)
 
 run-iteration-same-length : (t : ℕ) → run-iteration-lts.Need-same-length (run-iteration-claims t) (run-iteration-at t) run-iteration.Post
 run-iteration-same-length t c = c .before .before .before .before .run-passes .ensures .does .size
 
 run-iteration-returns-2 : (t : ℕ) → run-iteration-lts.Need-returns-2 (run-iteration-claims t) (run-iteration-at t) run-iteration.Post
 run-iteration-returns-2 t c =
-    let a = c .before .before .before .before .before .before .before .before .before .before .before .before .before .args in
+    let a = c .before .before .before .before .before .before .before .before .before .before .before .before .before .before .args in
     let w = subst (OverIn (a .table .now) (a .hand) (a .d .at) (a .i .0)) (c .before .before .before .before .before .before .before .over2 .given .1) (c .before .before .before .before .before .before .before .before .before .go-over .ensures .inside) in
     λ j. over-blocks (levelsAt (a .text .now)) (length (a .text .now)) (viewOf (a .table .now)) (a .table .now) (a .level) (a .spot .position) (a .d .next) (entering (levelsAt (a .text .now)) (viewOf (a .table .now)) (handAt (a .hand)) (a .spot .position) (a .d) (a .d .next) j (a .spot .left) (a .settings) (a .i .0)) (a .spot .left) (a .spot .at) (a .out .now) (a .hand) _ (a .d .at) (a .i .0) _ (a .settings .first) (c .next-after .result) w (c .next-after .ensures)
     (λ ks. (c .before .before .before .before .before .before .before .before .before .go-over .ensures .is) (a .spot .position) (a .spot .left) j (a .d) refl (a .settings) _ _ _ ∙ ap (λ (x : Over). onOver (a .spot .position) (a .spot .left) (a .settings .first) (restAt (levelsAt (a .text .now)) (a .d .next)) (innermost (outer (levelsAt (a .text .now) (a .d .next))) .rest) (outsideOf (a .d .at) (a .hand) (a .i .0)) x (λ k c₂. run (viewOf (a .table .now)) (a .spot .left) end (k ∷ ks) c₂)) (c .before .before .before .before .before .before .before .over2 .given .1)) (c .before .before .before .before .run-passes .ensures)
@@ -428,8 +426,8 @@ run-opened-refuse-requires t c κs = search needs
 
 run-opened-returns : (t : ℕ) → run-opened-lts.Need-returns (run-opened-claims t) (run-opened-at t) run-opened.Post
 run-opened-returns t c =
-    let a = c .before .before .before .before .before .before .args in
-    blocks-told (levelsAt (a .text .now)) (length (a .text .now)) (viewOf (a .table .now)) (a .hand .first .0) (a .hand .count) (a .level) (a .d .next) (opening (iterates (a .d .code)) (levelsAt (a .text .now)) (viewOf (a .table .now)) (handAt (a .hand)) (a .spot .position) (a .d) (a .d .next) (a .next .0) (a .spot .left)) (a .spot .left) (a .spot .at) (a .out .now) _ 5 (a .spot .position) (a .next .0) _ (c .refuse .ensures) (λ ks. settings-ill (viewOf (a .table .now)) (a .spot .position) (a .spot .left) (a .d) (handAt (a .hand) (a .next .0)) _ (sym (c .before .before .is-well-written .ensures) ∙ not-true _ (c .before .if1 .taken))) (c .before .before .before .before .before .before .pre .1 .1 .1 .1) (c .before .before .before .before .before .before .pre .1 .1 .0)
+    let a = c .before .before .before .before .before .before .before .args in
+    blocks-told (levelsAt (a .text .now)) (length (a .text .now)) (viewOf (a .table .now)) (a .hand .first .0) (a .hand .count) (a .level) (a .d .next) (opening (iterates (a .d .code)) (levelsAt (a .text .now)) (viewOf (a .table .now)) (handAt (a .hand)) (a .spot .position) (a .d) (a .d .next) (a .next .0) (a .spot .left)) (a .spot .left) (a .spot .at) (a .out .now) _ 5 (a .spot .position) (a .next .0) _ (c .refuse .ensures) (λ ks. settings-ill (viewOf (a .table .now)) (a .spot .position) (a .spot .left) (a .d) (handAt (a .hand) (a .next .0)) _ (sym (c .before .before .is-well-written .ensures) ∙ not-true _ (c .before .if1 .taken))) (c .before .before .before .before .before .before .before .pre .1 .1 .1 .1 .1) (c .before .before .before .before .before .before .before .pre .1 .1 .1 .0)
 
 run-opened-settle-directive-requires : (t : ℕ) → run-opened-lts.Need-settle-directive-requires (run-opened-claims t) (run-opened-at t) run-opened.Post
 run-opened-settle-directive-requires t c κs = search needs
@@ -447,62 +445,62 @@ run-opened-is-iteration-requires : (t : ℕ) → run-opened-lts.Need-is-iteratio
 run-opened-is-iteration-requires t c κs = search needs
 
 run-opened-run-iteration-requires : (t : ℕ) → run-opened-lts.Need-run-iteration-requires (run-opened-claims t) (run-opened-at t) run-opened.Post
-run-opened-run-iteration-requires t c κs = (omega (arith, c .before .before .before .before .before .before .before .before .before .before .before .before .pre .0), (c .before .before .before .before .before .before .before .before .before .before .before .before .pre .1 .0, (next-reaches (c .before .before .before .before .before .before .settle-directive .ensures) (c .before .before .before .before .settled2 .given .1), (c .before .before .before .before .before .before .before .before .before .before .before .before .pre .1 .1 .1 .0, c .before .before .before .before .before .before .before .before .before .before .before .before .pre .1 .1 .1 .1))))
+run-opened-run-iteration-requires t c κs = (omega (arith, c .before .before .before .before .before .before .before .before .before .before .before .before .before .pre .0), (c .before .before .before .before .before .before .before .before .before .before .before .before .before .pre .1 .0, (c .before .before .before .before .before .before .before .before .before .before .before .before .before .pre .1 .1 .0, (next-reaches (c .before .before .before .before .before .before .settle-directive .ensures) (c .before .before .before .before .settled2 .given .1), (c .before .before .before .before .before .before .before .before .before .before .before .before .before .pre .1 .1 .1 .1 .0, c .before .before .before .before .before .before .before .before .before .before .before .before .before .pre .1 .1 .1 .1 .1)))))
 
 run-opened-same-length : (t : ℕ) → run-opened-lts.Need-same-length (run-opened-claims t) (run-opened-at t) run-opened.Post
 run-opened-same-length t c = ((c .before .before .run-iteration .ensures) 0) .does .size
 
 run-opened-returns-2 : (t : ℕ) → run-opened-lts.Need-returns-2 (run-opened-claims t) (run-opened-at t) run-opened.Post
 run-opened-returns-2 t c =
-    let a = c .before .before .before .before .before .before .before .before .before .before .before .before .before .before .before .args in
+    let a = c .before .before .before .before .before .before .before .before .before .before .before .before .before .before .before .before .args in
     blocks-as (opening (iterates (a .d .code)) (levelsAt (a .text .now)) (viewOf (a .table .now)) (handAt (a .hand)) (a .spot .position) (a .d) (a .d .next) (a .next .0) (a .spot .left)) _ (λ ks. run-settled (c .before .before .before .before .before .before .before .before .before .settle-directive .ensures) (sym (c .before .before .before .before .before .before .before .before .before .before .before .is-well-written .ensures) ∙ not-false _ (c .before .before .before .before .before .before .before .before .before .before .if1 .left)) (a .spot .position) (a .spot .left) _ (c .before .before .before .before .before .before .before .settled2 .given .1) ∙ ap (λ (y : Bool). inside y (levelsAt (a .text .now)) (viewOf (a .table .now)) (handAt (a .hand)) (a .spot .position) (a .d) (a .d .next) (a .next .0) (a .spot .left) (c .before .before .before .before .before .before .before .settled2 .given .0 .0) (c .before .before .before .before .before .before .before .settled2 .given .0 .1 .0 .0) ks) (sym (c .before .before .before .before .before .is-iteration .ensures) ∙ c .before .before .before .before .if2 .taken)) ((c .before .before .run-iteration .ensures) (a .next .0))
 
 run-opened-run-conditional-requires : (t : ℕ) → run-opened-lts.Need-run-conditional-requires (run-opened-claims t) (run-opened-at t) run-opened.Post
-run-opened-run-conditional-requires t c κs = (omega (arith, c .before .before .before .before .before .before .before .before .before .before .before .before .pre .0), (c .before .before .before .before .before .before .before .before .before .before .before .before .pre .1 .0, (next-reaches (c .before .before .before .before .before .before .settle-directive .ensures) (c .before .before .before .before .settled2 .given .1), (c .before .before .before .before .before .before .before .before .before .before .before .before .pre .1 .1 .1 .0, c .before .before .before .before .before .before .before .before .before .before .before .before .pre .1 .1 .1 .1))))
+run-opened-run-conditional-requires t c κs = (omega (arith, c .before .before .before .before .before .before .before .before .before .before .before .before .before .pre .0), (c .before .before .before .before .before .before .before .before .before .before .before .before .before .pre .1 .0, (c .before .before .before .before .before .before .before .before .before .before .before .before .before .pre .1 .1 .0, (next-reaches (c .before .before .before .before .before .before .settle-directive .ensures) (c .before .before .before .before .settled2 .given .1), (c .before .before .before .before .before .before .before .before .before .before .before .before .before .pre .1 .1 .1 .1 .0, c .before .before .before .before .before .before .before .before .before .before .before .before .before .pre .1 .1 .1 .1 .1)))))
 
 run-opened-returns-3 : (t : ℕ) → run-opened-lts.Need-returns-3 (run-opened-claims t) (run-opened-at t) run-opened.Post
 run-opened-returns-3 t c =
-    let a = c .before .before .before .before .before .before .before .before .before .before .args in
-    blocks-told (levelsAt (a .text .now)) (length (a .text .now)) (viewOf (a .table .now)) (a .hand .first .0) (a .hand .count) (a .level) (a .d .next) (opening (iterates (a .d .code)) (levelsAt (a .text .now)) (viewOf (a .table .now)) (handAt (a .hand)) (a .spot .position) (a .d) (a .d .next) (a .next .0) (a .spot .left)) (a .spot .left) (a .spot .at) (a .out .now) _ _ (a .spot .position) (a .next .0) _ (c .refuse2 .ensures) (λ ks. run-refused (c .before .before .before .before .settle-directive .ensures) (sym (c .before .before .before .before .before .before .is-well-written .ensures) ∙ not-false _ (c .before .before .before .before .before .if1 .left)) (a .spot .position) (a .spot .left) _ (c .before .before .settled .given .1)) (c .before .before .before .before .before .before .before .before .before .before .pre .1 .1 .1 .1) (c .before .before .before .before .before .before .before .before .before .before .pre .1 .1 .0)
+    let a = c .before .before .before .before .before .before .before .before .before .before .before .args in
+    blocks-told (levelsAt (a .text .now)) (length (a .text .now)) (viewOf (a .table .now)) (a .hand .first .0) (a .hand .count) (a .level) (a .d .next) (opening (iterates (a .d .code)) (levelsAt (a .text .now)) (viewOf (a .table .now)) (handAt (a .hand)) (a .spot .position) (a .d) (a .d .next) (a .next .0) (a .spot .left)) (a .spot .left) (a .spot .at) (a .out .now) _ _ (a .spot .position) (a .next .0) _ (c .refuse2 .ensures) (λ ks. run-refused (c .before .before .before .before .settle-directive .ensures) (sym (c .before .before .before .before .before .before .is-well-written .ensures) ∙ not-false _ (c .before .before .before .before .before .if1 .left)) (a .spot .position) (a .spot .left) _ (c .before .before .settled .given .1)) (c .before .before .before .before .before .before .before .before .before .before .before .pre .1 .1 .1 .1 .1) (c .before .before .before .before .before .before .before .before .before .before .before .pre .1 .1 .1 .0)
 
 run-opened-same-length-2 : (t : ℕ) → run-opened-lts.Need-same-length-2 (run-opened-claims t) (run-opened-at t) run-opened.Post
 run-opened-same-length-2 t c = ((c .before .before .run-conditional .ensures) 0) .does .size
 
 run-opened-returns-4 : (t : ℕ) → run-opened-lts.Need-returns-4 (run-opened-claims t) (run-opened-at t) run-opened.Post
 run-opened-returns-4 t c =
-    let a = c .before .before .before .before .before .before .before .before .before .before .before .before .before .before .before .args in
+    let a = c .before .before .before .before .before .before .before .before .before .before .before .before .before .before .before .before .args in
     blocks-as (opening (iterates (a .d .code)) (levelsAt (a .text .now)) (viewOf (a .table .now)) (handAt (a .hand)) (a .spot .position) (a .d) (a .d .next) (a .next .0) (a .spot .left)) _ (λ ks. run-settled (c .before .before .before .before .before .before .before .before .before .settle-directive .ensures) (sym (c .before .before .before .before .before .before .before .before .before .before .before .is-well-written .ensures) ∙ not-false _ (c .before .before .before .before .before .before .before .before .before .before .if1 .left)) (a .spot .position) (a .spot .left) _ (c .before .before .before .before .before .before .before .settled2 .given .1) ∙ ap (λ (y : Bool). inside y (levelsAt (a .text .now)) (viewOf (a .table .now)) (handAt (a .hand)) (a .spot .position) (a .d) (a .d .next) (a .next .0) (a .spot .left) (c .before .before .before .before .before .before .before .settled2 .given .0 .0) (c .before .before .before .before .before .before .before .settled2 .given .0 .1 .0 .0) ks) (sym (c .before .before .before .before .before .is-iteration .ensures) ∙ c .before .before .before .before .if2 .left)) ((c .before .before .run-conditional .ensures) (a .next .0))
 
 abbrev run-passes-Inv-loop : run-passes-lts.InvT-loop
-run-passes-Inv-loop text table level spot q hand out₀ passes₀ next₀ left₀ at₀ known₀ out passes next left at known =
+run-passes-Inv-loop text marks table level spot q hand out₀ passes₀ next₀ left₀ at₀ known₀ out passes next left at known =
     Onto (λ i l a b e r. Passes (levelsAt text) (length text) (viewOf table) (handAt hand) level (spot .position) q i passes l a b e r) (Passes (levelsAt text) (length text) (viewOf table) (handAt hand) level (spot .position) q (next₀ .0) passes₀ (spot .left) (spot .at) out₀) (spot .left) (hand .count) out₀ (next .0) left at out
-    × (outer (levelsAt text known) ≡ outer (levelsAt text q)) × (q ≤ known) × (known ≤ length text)
+    × InsideAt text q known
 
 abbrev run-passes-μ-loop : run-passes-lts.MeasureT-loop
-run-passes-μ-loop text table level spot q hand out₀ passes₀ next₀ left₀ at₀ known₀ out passes next left at known =
+run-passes-μ-loop text marks table level spot q hand out₀ passes₀ next₀ left₀ at₀ known₀ out passes next left at known =
     left
 
 -- what the callees of run_passes ask and ensure, below the measure t
 abbrev run-passes-claims : ℕ → run-passes-lts.Claims
-run-passes-claims t = (is-over-reads.Asked, is-over-reads.Learnt, after-block-reads.Asked, after-block-reads.Learnt, refuse-reads.Asked, refuse-reads.Learnt, run-sequence-below t, run-sequence.Post, one-less-reads.Asked, one-less-reads.Learnt)
+run-passes-claims t = (is-over-reads.Asked, is-over-reads.Learnt, block-end-reads.Asked, block-end-reads.Learnt, refuse-reads.Asked, refuse-reads.Learnt, run-sequence-below t, run-sequence.Post, one-less-reads.Asked, one-less-reads.Learnt)
 
 run-passes-loop-holds : (t : ℕ) → run-passes-lts.Need-loop-holds (run-passes-claims t) (run-passes-at t) run-passes.Post run-passes-Inv-loop run-passes-μ-loop
-run-passes-loop-holds t c = (record { ends = λ e r k. k; size = refl; fits = (c .before .before .before .pre .1 .1 .1 .1); falls = omega arith; inside = (c .before .before .before .pre .1 .1 .0) }, refl, omega arith, (c .before .before .before .pre .1 .1 .1 .0))
+run-passes-loop-holds t c = (record { ends = λ e r k. k; size = refl; fits = (c .before .before .before .before .pre .1 .1 .1 .1 .1); falls = omega arith; inside = (c .before .before .before .before .pre .1 .1 .1 .0) }, inside-start _ _ (c .before .before .before .before .pre .1 .1 .1 .1 .0))
 
 run-passes-is-over-requires : (t : ℕ) → run-passes-lts.Need-is-over-requires (run-passes-claims t) (run-passes-at t) run-passes.Post run-passes-Inv-loop run-passes-μ-loop
 run-passes-is-over-requires t c κs = search needs
 
-run-passes-after-block-requires : (t : ℕ) → run-passes-lts.Need-after-block-requires (run-passes-claims t) (run-passes-at t) run-passes.Post run-passes-Inv-loop run-passes-μ-loop
-run-passes-after-block-requires t c κs = (c .before .before .loop .inv .3)
+run-passes-block-end-requires : (t : ℕ) → run-passes-lts.Need-block-end-requires (run-passes-claims t) (run-passes-at t) run-passes.Post run-passes-Inv-loop run-passes-μ-loop
+run-passes-block-end-requires t c κs = (c .before .before .before .before .before .before .before .pre .1 .0, c .before .before .loop .inv .1)
 
 run-passes-same-length : (t : ℕ) → run-passes-lts.Need-same-length (run-passes-claims t) (run-passes-at t) run-passes.Post run-passes-Inv-loop run-passes-μ-loop
 run-passes-same-length t c = (c .before .before .before .loop .inv .0 .size)
 
 run-passes-returns : (t : ℕ) → run-passes-lts.Need-returns (run-passes-claims t) (run-passes-at t) run-passes.Post run-passes-Inv-loop run-passes-μ-loop
 run-passes-returns t c =
-    let a = (c .before .before .before .before .before .before .before .args) in
+    let a = (c .before .before .before .before .before .before .before .before .args) in
     let l = (c .before .before .before .loop) in
-    l .inv .0 .ends _ _ (passes-over (levelsAt (a .text .now)) (length (a .text .now)) (viewOf (a .table .now)) (a .hand .first .0) (a .hand .count) (a .level) (a .spot .position) (a .q) (l .next .0) (l .passes) (l .left) (l .at) (l .out) (sym (c .before .before .is-over .ensures) ∙ (c .before .if1 .taken)) _ (closes-after (a .text .now) (a .q) (l .known) _ (l .inv .1) (l .inv .2) (c .after-block .ensures)) (l .inv .0 .fits) (l .inv .0 .inside))
+    l .inv .0 .ends _ _ (passes-over (levelsAt (a .text .now)) (length (a .text .now)) (viewOf (a .table .now)) (a .hand .first .0) (a .hand .count) (a .level) (a .spot .position) (a .q) (l .next .0) (l .passes) (l .left) (l .at) (l .out) (sym (c .before .before .is-over .ensures) ∙ (c .before .if1 .taken)) _ (closes-after (c .block-end .ensures)) (l .inv .0 .fits) (l .inv .0 .inside))
 
 run-passes-refuse-requires : (t : ℕ) → run-passes-lts.Need-refuse-requires (run-passes-claims t) (run-passes-at t) run-passes.Post run-passes-Inv-loop run-passes-μ-loop
 run-passes-refuse-requires t c κs = search needs
@@ -512,7 +510,7 @@ run-passes-same-length-2 t c = (c .before .before .before .before .loop .inv .0 
 
 run-passes-returns-2 : (t : ℕ) → run-passes-lts.Need-returns-2 (run-passes-claims t) (run-passes-at t) run-passes.Post run-passes-Inv-loop run-passes-μ-loop
 run-passes-returns-2 t c =
-    let a = (c .before .before .before .before .before .before .before .before .args) in
+    let a = (c .before .before .before .before .before .before .before .before .before .args) in
     let l = (c .before .before .before .before .loop) in
     l .inv .0 .ends _ _ (passes-none-told (levelsAt (a .text .now)) (length (a .text .now)) (viewOf (a .table .now)) (a .hand .first .0) (a .hand .count) (a .level) (a .spot .position) (a .q) (l .next .0) (l .passes) (l .left) (l .at) (l .out) _ _ (c .refuse .ensures) (sym (c .before .before .before .is-over .ensures) ∙ (c .before .before .if1 .left)) (c .before .if2 .taken) (l .inv .0 .fits) (l .inv .0 .inside))
 
@@ -520,7 +518,7 @@ run-passes-sub-run-sequence : (t : ℕ) → run-passes-lts.Need-sub-run-sequence
 run-passes-sub-run-sequence t c = search needs
 
 run-passes-run-sequence-requires : (t : ℕ) → run-passes-lts.Need-run-sequence-requires (run-passes-claims t) (run-passes-at t) run-passes.Post run-passes-Inv-loop run-passes-μ-loop
-run-passes-run-sequence-requires t c κs = (omega (arith, (c .before .before .before .before .before .before .before .before .pre .0)), ((c .before .before .before .before .before .before .before .before .pre .1 .0), ((c .before .before .before .before .loop .inv .0 .inside), ((c .before .before .before .before .before .before .before .before .pre .1 .1 .1 .0), (c .before .before .before .before .loop .inv .0 .fits)))))
+run-passes-run-sequence-requires t c κs = (omega (arith, (c .before .before .before .before .before .before .before .before .before .pre .0)), (c .before .before .before .before .before .before .before .before .before .pre .1 .0, ((c .before .before .before .before .before .before .before .before .before .pre .1 .1 .0), ((c .before .before .before .before .loop .inv .0 .inside), ((c .before .before .before .before .before .before .before .before .before .pre .1 .1 .1 .1 .0), (c .before .before .before .before .loop .inv .0 .fits))))))
 
 run-passes-enum-told : (t : ℕ) → run-passes-lts.Need-enum-told (run-passes-claims t) (run-passes-at t) run-passes.Post run-passes-Inv-loop run-passes-μ-loop
 run-passes-enum-told t c = search needs
@@ -533,7 +531,7 @@ run-passes-loop-less t c = let u = (c .before .before .before .before .before .b
 
 run-passes-loop-again : (t : ℕ) → run-passes-lts.Need-loop-again (run-passes-claims t) (run-passes-at t) run-passes.Post run-passes-Inv-loop run-passes-μ-loop
 run-passes-loop-again t c =
-    let a = (c .before .before .before .before .before .before .before .before .before .before .before .before .before .before .before .args) in
+    let a = (c .before .before .before .before .before .before .before .before .before .before .before .before .before .before .before .before .args) in
     let l = (c .before .before .before .before .before .before .before .before .before .before .before .loop) in
     let u = (c .before .before .before .before .before .before .run-sequence .ensures) in
     let e = (c .before .enum-told .given .1) in
@@ -545,25 +543,23 @@ run-passes-loop-again t c =
         falls = omega (arith, u .does .falls, l .inv .0 .falls);
         inside = u .does .inside;
       },
-      w .around,
-      w .least,
-      w .most,
+      ends-inside (inside-start (a .text .now) (a .q) (c .before .before .before .before .before .before .before .before .before .before .before .before .before .before .before .before .pre .1 .1 .1 .1 .0)) w,
     )
 
 run-passes-enum-told-2 : (t : ℕ) → run-passes-lts.Need-enum-told-2 (run-passes-claims t) (run-passes-at t) run-passes.Post run-passes-Inv-loop run-passes-μ-loop
 run-passes-enum-told-2 t c = search needs
 
-run-passes-after-block-requires-2 : (t : ℕ) → run-passes-lts.Need-after-block-requires-2 (run-passes-claims t) (run-passes-at t) run-passes.Post run-passes-Inv-loop run-passes-μ-loop
-run-passes-after-block-requires-2 t c κs = (c .before .before .before .before .before .before .before .before .before .before .loop .inv .3)
+run-passes-block-end-requires-2 : (t : ℕ) → run-passes-lts.Need-block-end-requires-2 (run-passes-claims t) (run-passes-at t) run-passes.Post run-passes-Inv-loop run-passes-μ-loop
+run-passes-block-end-requires-2 t c κs = (c .before .before .before .before .before .before .before .before .before .before .before .before .before .before .before .pre .1 .0, c .before .before .before .before .before .before .before .before .before .before .loop .inv .1)
 
 run-passes-same-length-3 : (t : ℕ) → run-passes-lts.Need-same-length-3 (run-passes-claims t) (run-passes-at t) run-passes.Post run-passes-Inv-loop run-passes-μ-loop
 run-passes-same-length-3 t c = let u = (c .before .before .before .before .before .before .run-sequence .ensures) in u .does .size ∙ (c .before .before .before .before .before .before .before .before .before .before .before .loop .inv .0 .size)
 
 run-passes-returns-3 : (t : ℕ) → run-passes-lts.Need-returns-3 (run-passes-claims t) (run-passes-at t) run-passes.Post run-passes-Inv-loop run-passes-μ-loop
 run-passes-returns-3 t c =
-    let a = (c .before .before .before .before .before .before .before .before .before .before .before .before .before .before .before .args) in
+    let a = (c .before .before .before .before .before .before .before .before .before .before .before .before .before .before .before .before .args) in
     let l = (c .before .before .before .before .before .before .before .before .before .before .before .loop) in
-    l .inv .0 .ends _ _ (passes-left (levelsAt (a .text .now)) (length (a .text .now)) (viewOf (a .table .now)) (a .hand .first .0) (a .hand .count) (a .level) (a .spot .position) (a .q) (l .next .0) (l .passes) (l .left) (l .at) (l .out) (sym (c .before .before .before .before .before .before .before .before .before .before .is-over .ensures) ∙ (c .before .before .before .before .before .before .before .before .before .if1 .left)) (c .before .before .before .before .before .before .before .before .if2 .left) (c .before .before .before .before .before .before .run-sequence .ensures) (c .before .enum-told2 .given .1) _ (closes-after (a .text .now) (a .q) (l .known) _ (l .inv .1) (l .inv .2) (c .after-block2 .ensures)))
+    l .inv .0 .ends _ _ (passes-left (levelsAt (a .text .now)) (length (a .text .now)) (viewOf (a .table .now)) (a .hand .first .0) (a .hand .count) (a .level) (a .spot .position) (a .q) (l .next .0) (l .passes) (l .left) (l .at) (l .out) (sym (c .before .before .before .before .before .before .before .before .before .before .is-over .ensures) ∙ (c .before .before .before .before .before .before .before .before .before .if1 .left)) (c .before .before .before .before .before .before .before .before .if2 .left) (c .before .before .before .before .before .before .run-sequence .ensures) (c .before .enum-told2 .given .1) _ (closes-after (c .block-end2 .ensures)))
 
 run-passes-enum-told-3 : (t : ℕ) → run-passes-lts.Need-enum-told-3 (run-passes-claims t) (run-passes-at t) run-passes.Post run-passes-Inv-loop run-passes-μ-loop
 run-passes-enum-told-3 t c = search needs
@@ -573,17 +569,17 @@ run-passes-same-length-4 t c = let u = (c .before .before .before .before .befor
 
 run-passes-returns-4 : (t : ℕ) → run-passes-lts.Need-returns-4 (run-passes-claims t) (run-passes-at t) run-passes.Post run-passes-Inv-loop run-passes-μ-loop
 run-passes-returns-4 t c =
-    let a = (c .before .before .before .before .before .before .before .before .before .before .before .before .before .before .args) in
+    let a = (c .before .before .before .before .before .before .before .before .before .before .before .before .before .before .before .args) in
     let l = (c .before .before .before .before .before .before .before .before .before .before .loop) in
     l .inv .0 .ends _ _ (passes-refused (levelsAt (a .text .now)) (length (a .text .now)) (viewOf (a .table .now)) (a .hand .first .0) (a .hand .count) (a .level) (a .spot .position) (a .q) (l .next .0) (l .passes) (l .left) (l .at) (l .out) (sym (c .before .before .before .before .before .before .before .before .before .is-over .ensures) ∙ (c .before .before .before .before .before .before .before .before .if1 .left)) (c .before .before .before .before .before .before .before .if2 .left) (c .before .before .before .before .before .run-sequence .ensures) _ _ (c .enum-told3 .given .1))
 
 abbrev run-sequence-Inv-loop : run-sequence-lts.InvT-loop
-run-sequence-Inv-loop text table level start hand most out₀ from p₀ next₀ left₀ at₀ out p next left at =
+run-sequence-Inv-loop text marks table level start hand most out₀ from p₀ next₀ left₀ at₀ out p next left at =
     Onto (Runs (levelsAt text) (length text) (viewOf table) (handAt hand) level p) (Runs (levelsAt text) (length text) (viewOf table) (handAt hand) level start (next₀ .0) most from out₀) most (hand .count) out₀ (next .0) left at out
     × (p ≤ length text)
 
 abbrev run-sequence-μ-loop : run-sequence-lts.MeasureT-loop
-run-sequence-μ-loop text table level start hand most out₀ from p₀ next₀ left₀ at₀ out p next left at =
+run-sequence-μ-loop text marks table level start hand most out₀ from p₀ next₀ left₀ at₀ out p next left at =
     length text - p
 
 -- what the callees of run_sequence ask and ensure, below the measure t
@@ -591,17 +587,17 @@ abbrev run-sequence-claims : ℕ → run-sequence-lts.Claims
 run-sequence-claims t = (run-short-reads.Asked, run-short-reads.Learnt, is-ended-reads.Asked, is-ended-reads.Learnt, closes-at-reads.Asked, closes-at-reads.Learnt, item-at-reads.Asked, item-at-reads.Learnt, ends-here-reads.Asked, ends-here-reads.Learnt, run-item-below t, run-item.Post)
 
 run-sequence-loop-holds : (t : ℕ) → run-sequence-lts.Need-loop-holds (run-sequence-claims t) (run-sequence-at t) run-sequence.Post run-sequence-Inv-loop run-sequence-μ-loop
-run-sequence-loop-holds t c = (record { ends = λ e r k. k; size = refl; fits = (c .before .before .before .pre .1 .1 .1 .1); falls = omega arith; inside = (c .before .before .before .pre .1 .1 .0) }, (c .before .before .before .pre .1 .1 .1 .0))
+run-sequence-loop-holds t c = (record { ends = λ e r k. k; size = refl; fits = (c .before .before .before .before .pre .1 .1 .1 .1 .1); falls = omega arith; inside = (c .before .before .before .before .pre .1 .1 .1 .0) }, (c .before .before .before .before .pre .1 .1 .1 .1 .0))
 
 run-sequence-run-short-requires : (t : ℕ) → run-sequence-lts.Need-run-short-requires (run-sequence-claims t) (run-sequence-at t) run-sequence.Post run-sequence-Inv-loop run-sequence-μ-loop
-run-sequence-run-short-requires t c κs = ((c .before .before .before .before .before .pre .1 .0), ((c .before .loop .inv .0 .inside), ((c .before .loop .inv .1), (c .before .loop .inv .0 .fits))))
+run-sequence-run-short-requires t c κs = ((c .before .before .before .before .before .before .pre .1 .1 .0), ((c .before .loop .inv .0 .inside), ((c .before .loop .inv .1), (c .before .loop .inv .0 .fits))))
 
 run-sequence-is-ended-requires : (t : ℕ) → run-sequence-lts.Need-is-ended-requires (run-sequence-claims t) (run-sequence-at t) run-sequence.Post run-sequence-Inv-loop run-sequence-μ-loop
 run-sequence-is-ended-requires t c κs = search needs
 
 run-sequence-same-length : (t : ℕ) → run-sequence-lts.Need-same-length (run-sequence-claims t) (run-sequence-at t) run-sequence.Post run-sequence-Inv-loop run-sequence-μ-loop
 run-sequence-same-length t c =
-    let a = (c .before .before .before .before .before .before .before .before .before .before .args) in
+    let a = (c .before .before .before .before .before .before .before .before .before .before .before .args) in
     let l = (c .before .before .before .before .before .before .loop) in
     let s = levelsAt (a .text .now) in
     let n = length (a .text .now) in
@@ -611,7 +607,7 @@ run-sequence-same-length t c =
 
 run-sequence-returns : (t : ℕ) → run-sequence-lts.Need-returns (run-sequence-claims t) (run-sequence-at t) run-sequence.Post run-sequence-Inv-loop run-sequence-μ-loop
 run-sequence-returns t c =
-    let a = (c .before .before .before .before .before .before .before .before .before .before .args) in
+    let a = (c .before .before .before .before .before .before .before .before .before .before .before .args) in
     let l = (c .before .before .before .before .before .before .loop) in
     let s = levelsAt (a .text .now) in
     let n = length (a .text .now) in
@@ -624,14 +620,14 @@ run-sequence-closes-at-requires t c κs = search needs
 
 run-sequence-same-length-2 : (t : ℕ) → run-sequence-lts.Need-same-length-2 (run-sequence-claims t) (run-sequence-at t) run-sequence.Post run-sequence-Inv-loop run-sequence-μ-loop
 run-sequence-same-length-2 t c =
-    let a = (c .before .before .before .before .before .before .before .before .before .before .before .before .args) in
+    let a = (c .before .before .before .before .before .before .before .before .before .before .before .before .before .args) in
     let l = (c .before .before .before .before .before .before .before .before .loop) in
     let w = (c .before .before .before .before .before .before .run-short .ensures .0) (a .level) in
     w .does .size ∙ l .inv .0 .size
 
 run-sequence-returns-2 : (t : ℕ) → run-sequence-lts.Need-returns-2 (run-sequence-claims t) (run-sequence-at t) run-sequence.Post run-sequence-Inv-loop run-sequence-μ-loop
 run-sequence-returns-2 t c =
-    let a = (c .before .before .before .before .before .before .before .before .before .before .before .before .args) in
+    let a = (c .before .before .before .before .before .before .before .before .before .before .before .before .before .args) in
     let l = (c .before .before .before .before .before .before .before .before .loop) in
     let s = levelsAt (a .text .now) in
     let n = length (a .text .now) in
@@ -648,7 +644,7 @@ run-sequence-ends-here-requires t c κs = search needs
 
 run-sequence-same-length-3 : (t : ℕ) → run-sequence-lts.Need-same-length-3 (run-sequence-claims t) (run-sequence-at t) run-sequence.Post run-sequence-Inv-loop run-sequence-μ-loop
 run-sequence-same-length-3 t c =
-    let a = (c .before .before .before .before .before .before .before .before .before .before .before .before .before .before .before .args) in
+    let a = (c .before .before .before .before .before .before .before .before .before .before .before .before .before .before .before .before .args) in
     let l = (c .before .before .before .before .before .before .before .before .before .before .before .loop) in
     let s = levelsAt (a .text .now) in
     let n = length (a .text .now) in
@@ -658,7 +654,7 @@ run-sequence-same-length-3 t c =
 
 run-sequence-returns-3 : (t : ℕ) → run-sequence-lts.Need-returns-3 (run-sequence-claims t) (run-sequence-at t) run-sequence.Post run-sequence-Inv-loop run-sequence-μ-loop
 run-sequence-returns-3 t c =
-    let a = (c .before .before .before .before .before .before .before .before .before .before .before .before .before .before .before .args) in
+    let a = (c .before .before .before .before .before .before .before .before .before .before .before .before .before .before .before .before .args) in
     let l = (c .before .before .before .before .before .before .before .before .before .before .before .loop) in
     let s = levelsAt (a .text .now) in
     let n = length (a .text .now) in
@@ -669,20 +665,20 @@ run-sequence-returns-3 t c =
 
 run-sequence-run-item-requires : (t : ℕ) → run-sequence-lts.Need-run-item-requires (run-sequence-claims t) (run-sequence-at t) run-sequence.Post run-sequence-Inv-loop run-sequence-μ-loop
 run-sequence-run-item-requires t c κs =
-    let a = (c .before .before .before .before .before .before .before .before .before .before .before .before .before .before .before .before .before .args) in
+    let a = (c .before .before .before .before .before .before .before .before .before .before .before .before .before .before .before .before .before .before .args) in
     let l = (c .before .before .before .before .before .before .before .before .before .before .before .before .before .loop) in
     let s = levelsAt (a .text .now) in
     let n = length (a .text .now) in
     let v = viewOf (a .table .now) in
     let w = (c .before .before .before .before .before .before .before .before .before .before .before .run-short .ensures .0) (a .level) in
-    (omega (arith, (c .before .before .before .before .before .before .before .before .before .before .before .before .before .before .before .before .before .pre .0)), ((c .before .before .before .before .before .before .before .before .before .before .before .before .before .before .before .before .before .pre .1 .0), (w .does .inside, (sym (c .before .before .before .before .item-at .ensures), (sym (c .before .before .before .ends-here .ensures) ∙ (c .before .before .if3 .left), omega (arith, w .does .most, w .does .size))))))
+    (omega (arith, (c .before .before .before .before .before .before .before .before .before .before .before .before .before .before .before .before .before .before .pre .0)), (c .before .before .before .before .before .before .before .before .before .before .before .before .before .before .before .before .before .before .pre .1 .0, ((c .before .before .before .before .before .before .before .before .before .before .before .before .before .before .before .before .before .before .pre .1 .1 .0), (w .does .inside, (sym (c .before .before .before .before .item-at .ensures), (sym (c .before .before .before .ends-here .ensures) ∙ (c .before .before .if3 .left), omega (arith, w .does .most, w .does .size)))))))
 
 run-sequence-enum-told : (t : ℕ) → run-sequence-lts.Need-enum-told (run-sequence-claims t) (run-sequence-at t) run-sequence.Post run-sequence-Inv-loop run-sequence-μ-loop
 run-sequence-enum-told t c = search needs
 
 run-sequence-loop-less : (t : ℕ) → run-sequence-lts.Need-loop-less (run-sequence-claims t) (run-sequence-at t) run-sequence.Post run-sequence-Inv-loop run-sequence-μ-loop
 run-sequence-loop-less t c =
-    let a = (c .before .before .before .before .before .before .before .before .before .before .before .before .before .before .before .before .before .before .before .before .before .before .before .args) in
+    let a = (c .before .before .before .before .before .before .before .before .before .before .before .before .before .before .before .before .before .before .before .before .before .before .before .before .args) in
     let l = (c .before .before .before .before .before .before .before .before .before .before .before .before .before .before .before .before .before .before .before .loop) in
     let s = levelsAt (a .text .now) in
     let n = length (a .text .now) in
@@ -694,7 +690,7 @@ run-sequence-loop-less t c =
 
 run-sequence-loop-again : (t : ℕ) → run-sequence-lts.Need-loop-again (run-sequence-claims t) (run-sequence-at t) run-sequence.Post run-sequence-Inv-loop run-sequence-μ-loop
 run-sequence-loop-again t c =
-    let a = (c .before .before .before .before .before .before .before .before .before .before .before .before .before .before .before .before .before .before .before .before .before .before .before .args) in
+    let a = (c .before .before .before .before .before .before .before .before .before .before .before .before .before .before .before .before .before .before .before .before .before .before .before .before .args) in
     let l = (c .before .before .before .before .before .before .before .before .before .before .before .before .before .before .before .before .before .before .before .loop) in
     let s = levelsAt (a .text .now) in
     let n = length (a .text .now) in
@@ -718,7 +714,7 @@ run-sequence-enum-told-2 t c = search needs
 
 run-sequence-same-length-4 : (t : ℕ) → run-sequence-lts.Need-same-length-4 (run-sequence-claims t) (run-sequence-at t) run-sequence.Post run-sequence-Inv-loop run-sequence-μ-loop
 run-sequence-same-length-4 t c =
-    let a = (c .before .before .before .before .before .before .before .before .before .before .before .before .before .before .before .before .before .before .before .before .before .before .before .args) in
+    let a = (c .before .before .before .before .before .before .before .before .before .before .before .before .before .before .before .before .before .before .before .before .before .before .before .before .args) in
     let l = (c .before .before .before .before .before .before .before .before .before .before .before .before .before .before .before .before .before .before .before .loop) in
     let s = levelsAt (a .text .now) in
     let n = length (a .text .now) in
@@ -729,7 +725,7 @@ run-sequence-same-length-4 t c =
 
 run-sequence-returns-4 : (t : ℕ) → run-sequence-lts.Need-returns-4 (run-sequence-claims t) (run-sequence-at t) run-sequence.Post run-sequence-Inv-loop run-sequence-μ-loop
 run-sequence-returns-4 t c =
-    let a = (c .before .before .before .before .before .before .before .before .before .before .before .before .before .before .before .before .before .before .before .before .before .before .before .args) in
+    let a = (c .before .before .before .before .before .before .before .before .before .before .before .before .before .before .before .before .before .before .before .before .before .before .before .before .args) in
     let l = (c .before .before .before .before .before .before .before .before .before .before .before .before .before .before .before .before .before .before .before .loop) in
     let s = levelsAt (a .text .now) in
     let n = length (a .text .now) in
@@ -744,7 +740,7 @@ run-sequence-enum-told-3 t c = search needs
 
 run-sequence-same-length-5 : (t : ℕ) → run-sequence-lts.Need-same-length-5 (run-sequence-claims t) (run-sequence-at t) run-sequence.Post run-sequence-Inv-loop run-sequence-μ-loop
 run-sequence-same-length-5 t c =
-    let a = (c .before .before .before .before .before .before .before .before .before .before .before .before .before .before .before .before .before .before .before .before .before .before .before .args) in
+    let a = (c .before .before .before .before .before .before .before .before .before .before .before .before .before .before .before .before .before .before .before .before .before .before .before .before .args) in
     let l = (c .before .before .before .before .before .before .before .before .before .before .before .before .before .before .before .before .before .before .before .loop) in
     let s = levelsAt (a .text .now) in
     let n = length (a .text .now) in
@@ -755,7 +751,7 @@ run-sequence-same-length-5 t c =
 
 run-sequence-returns-5 : (t : ℕ) → run-sequence-lts.Need-returns-5 (run-sequence-claims t) (run-sequence-at t) run-sequence.Post run-sequence-Inv-loop run-sequence-μ-loop
 run-sequence-returns-5 t c =
-    let a = (c .before .before .before .before .before .before .before .before .before .before .before .before .before .before .before .before .before .before .before .before .before .before .before .args) in
+    let a = (c .before .before .before .before .before .before .before .before .before .before .before .before .before .before .before .before .before .before .before .before .before .before .before .before .args) in
     let l = (c .before .before .before .before .before .before .before .before .before .before .before .before .before .before .before .before .before .before .before .loop) in
     let s = levelsAt (a .text .now) in
     let n = length (a .text .now) in
@@ -797,14 +793,14 @@ pub +run-block+run-clause+run-conditional+run-item+run-iteration+run-opened+run-
     (λ t. run-clause-lts.spec (
       run-sequence-below t,
       run-sequence.Post,
-      after-block-reads.Asked,
-      after-block-reads.Learnt,
+      block-end-reads.Asked,
+      block-end-reads.Learnt,
     )
     (run-clause-at t)
     run-clause.Post
     (run-clause-run-sequence-requires t)
     (run-clause-enum-told t)
-    (run-clause-after-block-requires t)
+    (run-clause-block-end-requires t)
     (run-clause-enum-told-2 t)
     (run-clause-enum-told-3 t)
     (run-clause-same-length t)
@@ -919,8 +915,8 @@ pub +run-block+run-clause+run-conditional+run-item+run-iteration+run-opened+run-
     (λ t. run-passes-lts.spec (
       is-over-reads.Asked,
       is-over-reads.Learnt,
-      after-block-reads.Asked,
-      after-block-reads.Learnt,
+      block-end-reads.Asked,
+      block-end-reads.Learnt,
       refuse-reads.Asked,
       refuse-reads.Learnt,
       run-sequence-below t,
@@ -934,7 +930,7 @@ pub +run-block+run-clause+run-conditional+run-item+run-iteration+run-opened+run-
     run-passes-μ-loop
     (run-passes-loop-holds t)
     (run-passes-is-over-requires t)
-    (run-passes-after-block-requires t)
+    (run-passes-block-end-requires t)
     (run-passes-same-length t)
     (run-passes-returns t)
     (run-passes-refuse-requires t)
@@ -947,7 +943,7 @@ pub +run-block+run-clause+run-conditional+run-item+run-iteration+run-opened+run-
     (run-passes-loop-less t)
     (run-passes-loop-again t)
     (run-passes-enum-told-2 t)
-    (run-passes-after-block-requires-2 t)
+    (run-passes-block-end-requires-2 t)
     (run-passes-same-length-3 t)
     (run-passes-returns-3 t)
     (run-passes-enum-told-3 t)

@@ -1,0 +1,53 @@
+-- The run of a whole text by way of landmarks is the answer of the call. Assumes nothing.
+use Rattle.engine.proofs.WholeLaws.{whole-told, all-in-hand, has-header}
+use native.Mathlib.Omega.{arith}
+use Rattle.rules.proofs.TextLaws.{sound-start}
+use Rattle.blocks.proofs.LandmarkLaws.{none-laid-in}
+use borrow.Author.Needs.{needs}
+use Rattle.engine.proofs.formatting.run_long.Statement.{statement}
+use Rattle.engine.proofs.formatting.run_long.Tie as tie
+use Rattle.engine.proofs.formatting.run_long.Reads as reads
+use Rattle.engine.proofs.formatting.run_long.Lts as lts
+use Rattle.blocks.proofs.landmarks.mark_text.Reads as mark-text-reads
+use Rattle.engine.proofs.formatting.outcome_of.Reads as outcome-of-reads
+use Rattle.engine.proofs.runners.run_sequence.Reads as run-sequence-reads
+use Rattle.table.proofs.argument_count.Reads as argument-count-reads
+
+slice-aggregate-mark-text : tie.Need-slice-aggregate-mark-text
+slice-aggregate-mark-text c = search needs
+
+mark-text-requires : tie.Need-mark-text-requires
+mark-text-requires c κs = none-laid-in (c .before .before .before .before .args .format .now) 1280 (sound-start (c .before .before .before .before .args .format .now) (c .before .before .before .before .pre .1) .0)
+
+argument-count-requires : tie.Need-argument-count-requires
+argument-count-requires c κs = has-header (c .before .before .before .before .before .before .args .table .now) (c .before .before .before .before .before .before .pre .0)
+
+slice-aggregate-run-sequence : tie.Need-slice-aggregate-run-sequence
+slice-aggregate-run-sequence c = search needs
+
+run-sequence-requires : tie.Need-run-sequence-requires
+run-sequence-requires c κs = (c .before .before .before .before .mark-text .ensures .sound, (all-in-hand (c .before .before .before .before .before .before .before .before .before .args .table .now) _ (c .before .before .before .before .before .before .before .before .before .pre .0) (c .before .before .argument-count .ensures .0), (omega arith, (omega arith, omega arith))))
+
+outcome-of-requires : tie.Need-outcome-of-requires
+outcome-of-requires c κs = c .before .before .run-sequence .ensures .does .falls
+
+same-length : tie.Need-same-length
+same-length c = c .before .before .before .run-sequence .ensures .does .size
+
+returns : tie.Need-returns
+returns c =
+    let a = c .before .before .before .before .before .before .before .before .before .before .before .before .before .args in
+    whole-told (a .format .now) (a .table .now) (a .out .now) _ _ (c .before .before .before .before .before .before .argument-count .ensures .0) (c .before .before .before .before .before .before .before .before .before .before .before .before .before .pre .0) (c .before .before .before .before .before .before .before .before .before .before .before .before .before .pre .1) (c .before .before .before .run-sequence .ensures) (c .outcome-of .ensures)
+
+pub run-long-spec : {M : Type 1} → statement M
+run-long-spec =
+    tie.close
+    (tie.spec
+    slice-aggregate-mark-text
+    mark-text-requires
+    argument-count-requires
+    slice-aggregate-run-sequence
+    run-sequence-requires
+    outcome-of-requires
+    same-length
+    returns)
