@@ -5,3 +5,4 @@ pub mod ReaderExamples
 pub mod ScanLaws
 pub mod ShortLaws
 pub mod SkipLaws
+pub mod SpanLaws

@@ -38,6 +38,20 @@ out-of-range : shortAt (126 ∷ 52 ∷ 48 ∷ 57 ∷ 55 ∷ 100 ∷ []) 0 ≡ Ot
 unfolding shortAt numberFrom
 out-of-range = refl
 
+-- ~0a, and ~00a, which is not short
+one-zero : shortAt (126 ∷ 48 ∷ 97 ∷ []) 0 ≡ Is 0 0 0 256 3
+unfolding shortAt codedAt codeNamed numberFrom
+one-zero = refl
+
+two-zeros : shortAt (126 ∷ 48 ∷ 48 ∷ 97 ∷ []) 0 ≡ Other
+unfolding shortAt
+two-zeros = refl
+
+-- ~0005a: the 5 is found after the zeros
+zeros-passed : numberFrom 4096 0 (48 ∷ 48 ∷ 48 ∷ 53 ∷ 97 ∷ []) 1 ≡ numberFrom 4096 0 (53 ∷ 97 ∷ []) 4
+unfolding numberFrom
+zeros-passed = refl
+
 -- ~:[
 two-clauses : markAt (126 ∷ 58 ∷ 91 ∷ []) 0 ≡ 5
 unfolding markOf

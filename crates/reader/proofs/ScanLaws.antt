@@ -3,17 +3,17 @@ use mathlib.Core.Path.{_≡_, refl, sym, _∙_}
 use mathlib.Core.Logic.{_⊎_, inl, inr}
 use mathlib.Core.Bool.{Bool, true, false, not}
 use mathlib.Core.List.{List}
-use Prim.Native.Nat.{ℕ, suc, _+_, _-_, _*_, _≤_, _<_}
+use Prim.Native.Nat.{ℕ, zero, suc, _+_, _-_, _*_, _≤_, _<_}
 use native.Mathlib.Decide.{decLt, ℕ-discrete as decEq}
 use native.Mathlib.Numerals.{add-one}
 use native.Mathlib.Omega.{arith}
-use borrow.Author.Tests.{lt-ltb, le-ltb, le-leb, lt-leb, ne-eqb, ltb-true, leb-true}
+use borrow.Author.Tests.{lt-ltb, le-ltb, le-leb, lt-leb, ne-eqb, ltb-true, leb-true, eqb-true}
 use lib.Dec.{ltb, leb, eqb}
 use lib.ListN.{length, getD, drop, drop-of-length-le, List·getD-eq-default}
 use lib.Seq.{drop-cons}
 use Rattle.rules.specs.Choice.{both}
 use Rattle.rules.specs.Directive.{Reading, start, signed, digits, quote, whole, modifiers, step, scan, blank, having}
-use Rattle.rules.specs.Directive.{noParameters, closed, pending, withParameter, isDigit, oneMore, isBlank, blanks}
+use Rattle.rules.specs.Directive.{noParameters, closed, pending, withParameter, isDigit, oneMore}
 use Rattle.rules.specs.Directive.{lowerCase, codeOf}
 use Rattle.rules.specs.declared.Code.{Code}
 use Rattle.rules.specs.declared.Code.the-variants.{Unknown}
@@ -24,12 +24,14 @@ use Rattle.rules.specs.declared.Parameter.{Parameter}
 use Rattle.rules.specs.declared.Parameter.the-variants.{Number, Character, Next, Remaining}
 use Rattle.rules.specs.declared.Parameters.{Parameters}
 use Rattle.rules.proofs.Reading.{scan-on, scan-end}
-use Rattle.reader.specs.Scans.{digitAt, commaAt, greatestOf, afterAt, reading, skippedBy, Numbers}
+use Rattle.reader.specs.Scans.{digitAt, commaAt, zerosAt, greatestOf, afterAt, reading, skippedBy, Numbers}
 use Rattle.reader.specs.Scans.{numberParameter, numberFrom, Ends, Advances, Parametrises}
+use Rattle.reader.specs.Spans.{inClass, spanOf}
 use Rattle.reader.specs.declared.directive.NumberRead.{NumberRead}
 use Rattle.reader.specs.declared.directive.NumberRead.the-variants.{Bad as BadOne, Whole as WholeOne}
 use Rattle.reader.specs.declared.directive.ParameterRead.{ParameterRead}
 use Rattle.reader.specs.declared.directive.ParameterRead.the-variants.{Bad, Cut, Whole}
+use Rattle.reader.proofs.SpanLaws.{span-on, span-inside, span-first}
 
 pub no-both : _≡_ {A = Bool} false true → ⊥
 no-both e = let z : _≡_ {A = ℕ} 0 1 = cc in omega arith
@@ -265,20 +267,6 @@ module _ (t : List ℕ) (p : ℕ) (colon at : Bool) (ps : Parameters) (h : p < l
   code-ends e f code is next after =
       rw (after, is) (rw (scan-on t p modifiers (marked colon at ps) h, step, e, f))
 
--- blanks
-module _ (t : List ℕ) (p : ℕ) where
-  pub blanks-on : p < length t → isBlank (getD t p 0) ≡ true → blanks (drop p t) ≡ suc (blanks (drop (p + 1) t))
-  unfolding blanks
-  blanks-on h e = rw (drop-cons t p 0 h, add-one, blanks, e)
-
-  pub blanks-none : p < length t → isBlank (getD t p 0) ≡ false → blanks (drop p t) ≡ 0
-  unfolding blanks
-  blanks-none h e = rw (drop-cons t p 0 h, blanks, e)
-
-  pub blanks-end : length t ≤ p → blanks (drop p t) ≡ 0
-  unfolding blanks
-  blanks-end h = rw (drop-of-length-le t h, blanks)
-
 -- the loop over digits: the number that begins at first, if a digit stands there, is n so far, and goes on at i
 pub record Numbering (t : List ℕ) (first : ℕ) (m : Bool) (n i : ℕ) : Type 0 where
   pub same : digitAt t first ≡ true → (d : Directive)
@@ -289,7 +277,7 @@ pub record Numbering (t : List ℕ) (first : ℕ) (m : Bool) (n i : ℕ) : Type 
   pub small : n ≤ 4096
   pub forth : first ≤ i
 
-pub number-first : (t : List ℕ) (p : ℕ) (m : Bool) → Numbering t p m 0 p
+number-first : (t : List ℕ) (p : ℕ) (m : Bool) → Numbering t p m 0 p
 number-first t p m = record {
   same = λ e d. signed-digits t p m d e;
   through = refl;
@@ -344,6 +332,47 @@ module _ {t : List ℕ} {first : ℕ} {m : Bool} {n i : ℕ} (s : Numbering t fi
           advances = tt;
           few = tt;
         }
+
+-- the zeros that a number begins with
+pub zeros-inside : (t : List ℕ) (i : ℕ) → zerosAt t i ≡ true → i < length t
+zeros-inside t i e =
+    let b = getD t i 0 in
+    let q = eqb-true b 48 (both-first (eqb b 48) (eqb (getD t (i + 1) 0) 48) e) in
+    byte-inside t i (λ z. omega (arith, q, z))
+
+zero-byte : (b : ℕ) → inClass 48 48 48 b ≡ true → b ≡ 48
+zero-byte b e = elim (decEq b 48) [
+  | yes z ↦ z
+  | no z ↦
+      let f = rw (ne-eqb b 48 z) at e in
+      let low = leb-true 48 b (both-first (leb 48 b) (leb b 48) f) in
+      let high = leb-true b 48 (both-second (leb 48 b) (leb b 48) f) in
+      omega (arith, low, high)
+]
+
+greatest-few : (m : Bool) → greatestOf m ≤ 4096
+greatest-few true = omega arith
+greatest-few false = omega arith
+
+abbrev zeros : List ℕ → ℕ → ℕ
+zeros t i = spanOf (inClass 48 48 48) (drop i t)
+
+module _ (t : List ℕ) (first : ℕ) (m : Bool) where
+  zeros-passed : (k i : ℕ) → Numbering t first m 0 i → k ≤ zeros t i → Numbering t first m 0 (i + k)
+  zeros-passed zero i s e = let none : i + 0 ≡ i = omega arith in rw none s
+  zeros-passed (suc k) i s e =
+      let some : 1 ≤ zeros t i = omega (arith, e) in
+      let h = span-inside (inClass 48 48 48) t i some in
+      let b = zero-byte (getD t i 0) (span-first (inClass 48 48 48) t i some) in
+      let on : k ≤ zeros t (i + 1) = omega (arith, e, span-on (inClass 48 48 48) t i h (rw b)) in
+      let next : i + 1 + k ≡ i + suc k = omega arith in
+      let more = number-more s 48 (greatestOf m) (rw (lt-ltb i (length t) h, b)) (sym b) (refl, greatest-few m) (omega arith) in
+      rw next at (zeros-passed k (i + 1) more on)
+
+  pub zeros-first : (i : ℕ) → first ≤ i → i ≤ first + zeros t first → Numbering t first m 0 i
+  zeros-first i h k =
+      let on : first + (i - first) ≡ i = omega arith in
+      rw on at (zeros-passed (i - first) first (number-first t first m) (omega arith))
 
 -- a number that begins at i or after it, where a parameter begins at i
 later : (t : List ℕ) (i j : ℕ) → i ≤ j → (r : NumberRead) → Advances t j (numberParameter r)

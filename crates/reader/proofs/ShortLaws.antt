@@ -20,7 +20,7 @@ use Rattle.rules.specs.declared.Parameters.{Parameters}
 use Rattle.rules.specs.declared.Setting.{Setting}
 use Rattle.rules.specs.declared.Setting.the-variants.{Absent, Is}
 use Rattle.rules.proofs.Reading.{item-tilde}
-use Rattle.reader.specs.Scans.{digitAt, numberFrom, afterAt, skippedBy, Numbers}
+use Rattle.reader.specs.Scans.{digitAt, zerosAt, numberFrom, afterAt, skippedBy, Numbers}
 use Rattle.reader.specs.declared.directive.NumberRead.{NumberRead}
 use Rattle.reader.specs.declared.directive.NumberRead.the-variants.{Bad as BadOne, Whole as WholeOne}
 use Rattle.reader.specs.Shorts.{settingOf, shortForm, shortParameters, shortDirective, NumberIn, CharacterIn, NoneIn, ShortIn, ShortAt, leading, NoSign, Leads}
@@ -59,19 +59,26 @@ module _ (t : List ℕ) (first : ℕ) (h : first ≤ length t) where
     few = omega arith;
   }
 
-  module _ (r : NumberRead) (e : digitAt t first ≡ true) (s : Numbers t first false r) where
+  -- a number that is refused
+  leads-past : shortAfter t (leadingAt t first) ≡ Other → Leads t first 4097 (length t)
+  leads-past q = record {
+    same = q ∙ sym (none-past t 4097);
+    is = λ k. absurd (omega (arith, k));
+    within = omega arith;
+    few = omega arith;
+  }
+
+  pub leads-zeros : digitAt t first ≡ true → zerosAt t first ≡ true → Leads t first 4097 (length t)
+  leads-zeros e z = leads-past (rw (e, z))
+
+  module _ (r : NumberRead) (e : digitAt t first ≡ true) (o : zerosAt t first ≡ false) (s : Numbers t first false r) where
     leads-same : shortAfter t (leadingAt t first) ≡ shortAfter t r
     leads-same =
         let q : r ≡ numberFrom 4096 0 (drop first t) first = s .same ∙ rw e in
-        rw e (ap (shortAfter t) (sym q))
+        rw (e, o) (ap (shortAfter t) (sym q))
 
     pub leads-bad : r ≡ BadOne → Leads t first 4097 (length t)
-    leads-bad q = record {
-      same = leads-same ∙ ap (shortAfter t) q ∙ sym (none-past t 4097);
-      is = λ k. absurd (omega (arith, k));
-      within = omega arith;
-      few = omega arith;
-    }
+    leads-bad q = leads-past (leads-same ∙ ap (shortAfter t) q)
 
     pub leads-number : (n next : ℕ) → r ≡ WholeOne n next → Leads t first n next
     leads-number n next q =

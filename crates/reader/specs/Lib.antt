@@ -1,3 +1,4 @@
 pub mod Marks
 pub mod Scans
 pub mod Shorts
+pub mod Spans

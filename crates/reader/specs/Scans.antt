@@ -26,6 +26,10 @@ digitAt t i = both (ltb i (length t)) (isDigit (getD t i 0))
 abbrev pub commaAt : List ℕ → ℕ → Bool
 commaAt t i = both (ltb i (length t)) (eqb (getD t i 0) 44)
 
+-- two zeros stand at i
+abbrev pub zerosAt : List ℕ → ℕ → Bool
+zerosAt t i = both (eqb (getD t i 0) 48) (eqb (getD t (i + 1) 0) 48)
+
 abbrev pub greatestOf : Bool → ℕ
 greatestOf minus = cond minus 0 4096
 

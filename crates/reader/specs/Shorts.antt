@@ -20,7 +20,7 @@ use Rattle.rules.specs.declared.Parameter.the-variants.{Default, Number, Charac
 use Rattle.rules.specs.declared.Parameters.{Parameters}
 use Rattle.rules.specs.declared.Setting.{Setting}
 use Rattle.rules.specs.declared.Setting.the-variants.{Absent, Is}
-use Rattle.reader.specs.Scans.{digitAt, numberAt, afterAt}
+use Rattle.reader.specs.Scans.{digitAt, zerosAt, numberAt, afterAt}
 use Rattle.reader.specs.declared.directive.NumberRead.{NumberRead}
 use Rattle.reader.specs.declared.directive.NumberRead.the-variants.{Bad, Whole}
 use Rattle.reader.specs.declared.short.Short.{Short}
@@ -128,9 +128,10 @@ abbrev pub shortAfter : List ℕ → NumberRead → Short
 shortAfter t Bad = Other
 shortAfter t (Whole number i) = codedAt t number (secondAt t i) (afterSecond i (secondAt t i))
 
--- the number that begins at i, or 4097
+-- the number that begins at i, or 4097; one that begins with two zeros is refused, so that a directive with thousands of
+-- them is read once, the general way
 abbrev pub leadingAt : List ℕ → ℕ → NumberRead
-leadingAt t i = cond (digitAt t i) (numberAt t false i) (Whole 4097 i)
+leadingAt t i = cond (digitAt t i) (cond (zerosAt t i) Bad (numberAt t false i)) (Whole 4097 i)
 
 -- the short directive at p, if one stands there
 unfoldable pub shortAt : List ℕ → ℕ → Short

@@ -1,5 +1,8 @@
 // One directive, read from left to right: parameters, modifiers, code.
 use crate::codes::code_of;
+use crate::spans::STRIDE;
+use crate::spans::after_strides;
+use crate::spans::in_class;
 use rules::Code;
 use rules::Directive;
 use rules::Form;
@@ -15,8 +18,9 @@ ghost use Rattle.rules.specs.Choice.{both};
 ghost use Rattle.rules.specs.Directive.{withParameter, noParameters, isDigit, isBlank, blanks, blank, having, closed};
 ghost use Rattle.rules.specs.Directive.{scan, start as starting, modifiers, itemAt};
 ghost use Rattle.reader.specs.declared.directive.ParameterRead.the-variants.{Whole};
-ghost use Rattle.reader.specs.Scans.{digitAt, commaAt, greatestOf, Few, Numbers, numberParameter, Parametrises};
+ghost use Rattle.reader.specs.Scans.{digitAt, commaAt, zerosAt, greatestOf, Few, Numbers, numberParameter, Parametrises};
 ghost use Rattle.reader.specs.Scans.{reading, skippedBy};
+ghost use Rattle.reader.specs.Spans.{inClass, spanOf, Along};
 
 // A number that is read: its value and the position after it, or a number that is refused.
 pub enum NumberRead {
@@ -120,6 +124,26 @@ fn greatest(minus: bool) -> usize
     if minus { 0 } else { 4096 }
 }
 
+// Whether two zeros stand at i.
+pub fn zeros_at(text: &[u8], i: usize) -> bool
+    ensures { λ r. ⌜ r ≡ zerosAt (now (text .entry)) i ⌝ }
+{
+    if byte_at(text, i) != 48 {
+        return false;
+    }
+    byte_at(text, i + 1) == 48
+}
+
+// A position among the zeros that a number at start begins with: after the strides of them, if two zeros stand there.
+fn after_zeros(text: &[u8], start: usize) -> usize
+    ensures { λ r. ⌜ (start ≤ r) × (r ≤ start + spanOf (inClass 48 48 48) (drop start (now (text .entry)))) ⌝ }
+{
+    if zeros_at(text, start) {
+        return after_strides(text, start, 48, 48, 48);
+    }
+    start
+}
+
 // The number whose digits begin at start, after a sign or none. It is refused as soon as it leaves the range, and where
 // there is no digit.
 pub fn read_number(text: &[u8], start: usize, minus: bool) -> NumberRead
@@ -127,7 +151,7 @@ pub fn read_number(text: &[u8], start: usize, minus: bool) -> NumberRead
 {
     let most = greatest(minus);
     let mut n: usize = 0;
-    let mut i = start;
+    let mut i = after_zeros(text, start);
     while digit_at(text, i) {
         n = n * 10 + (wide(text[i]) - 48);
         if most < n {
@@ -200,10 +224,26 @@ fn read_parameter(text: &[u8], i: usize) -> ParameterRead
 fn is_blank(b: u8) -> bool
     ensures { λ r. ⌜ r ≡ isBlank b ⌝ }
 {
-    if b == 32 {
-        return true;
+    in_class(b, 9, 13, 32)
+}
+
+// A position among the blanks from start on: after the strides of them, if there may be any. Two bytes of the first stride
+// tell nearly always that there is none.
+fn after_blank_strides(text: &[u8], start: usize) -> usize
+    requires { ⌜ start ≤ length (now text) ⌝ }
+    ensures { λ r. ⌜ Along isBlank (now (text .entry)) start r ⌝ }
+{
+    if text.len() - start < STRIDE {
+        return start;
     }
-    if b < 9 { false } else { b <= 13 }
+    let first = text[start];
+    if is_blank(first) {
+        let last = text[start + 15];
+        if is_blank(last) {
+            return after_strides(text, start, 9, 13, 32);
+        }
+    }
+    start
 }
 
 // The position after the blanks from start on.
@@ -211,7 +251,7 @@ fn after_blanks(text: &[u8], start: usize) -> usize
     requires { ⌜ start ≤ length (now text) ⌝ }
     ensures { λ r. ⌜ (r ≡ start + blanks (drop start (now (text .entry)))) × (r ≤ length (now (text .entry))) ⌝ }
 {
-    let mut i = start;
+    let mut i = after_blank_strides(text, start);
     while i < text.len() {
         let b = text[i];
         if !is_blank(b) {

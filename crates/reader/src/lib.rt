@@ -3,3 +3,4 @@ pub mod codes;
 pub mod directive;
 pub mod marks;
 pub mod short;
+pub mod spans;

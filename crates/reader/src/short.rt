@@ -1,11 +1,13 @@
 // Short directives: no modifier, at most a number and a character as parameters, and a code that repeats a byte or writes
-// an argument. Most directives are short. They are read here into a few words, which is much faster than a `Directive`.
+// an argument. The number begins with at most one zero. Most directives are short. They are read here into a few words,
+// which is much faster than a `Directive`.
 use crate::codes::lower_case;
 use crate::directive::NumberRead;
 use crate::directive::byte_at;
 use crate::directive::digit_at;
 use crate::directive::read_number;
 use crate::directive::wide;
+use crate::directive::zeros_at;
 use rules::Form;
 ghost use mathlib.Core.Path.{_≡_};
 ghost use Prim.Native.Nat.{_+_, _≤_, _<_};
@@ -47,12 +49,19 @@ struct Leading {
     next: usize,
 }
 
-// The number that begins at start, if one does. Behind one that is refused nothing short follows.
+// The number that begins at start, if one does. Behind one that is refused nothing short follows, nor behind one that
+// begins with two zeros: thousands of them would be read here, and again where the directive turns out not to be short.
 fn leading_number(text: &[u8], start: usize) -> Leading
     requires { ⌜ start ≤ length (now text) ⌝ }
     ensures { λ r. ⌜ Leads (now (text .entry)) start (r .number) (r .next) ⌝ }
 {
     if digit_at(text, start) {
+        if zeros_at(text, start) {
+            return Leading {
+                number: NO_NUMBER,
+                next: text.len(),
+            };
+        }
         let r = read_number(text, start, false);
         return match r {
             NumberRead::Bad => Leading {

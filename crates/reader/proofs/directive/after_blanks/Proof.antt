@@ -1,26 +1,30 @@
 -- `reader::directive::after_blanks` meets its contract. The loop's invariant: the blanks from i on end where those from
 -- start on end. Assumes nothing.
-use mathlib.Core.Path.{_≡_, sym, _∙_}
-use Prim.Native.Nat.{_+_, _-_, _≤_}
+use mathlib.Core.Path.{sym, _∙_}
+use Prim.Native.Nat.{_-_}
 use native.Mathlib.Omega.{arith}
 use borrow.Author.Needs.{needs}
 use borrow.Author.Tests.{not-true, not-false}
 use lib.ListN.{length, drop}
-use Rattle.rules.specs.Directive.{blanks}
-use Rattle.reader.proofs.ScanLaws.{blanks-on, blanks-none, blanks-end}
+use Rattle.rules.specs.Directive.{isBlank}
+use Rattle.reader.specs.Spans.{Along}
+use Rattle.reader.proofs.SpanLaws.{span-blanks, along-byte, along-none, along-end}
 use Rattle.reader.proofs.directive.after_blanks.Statement.{statement}
 use Rattle.reader.proofs.directive.after_blanks.Tie as tie
 
 abbrev Inv-loop : tie.InvT-loop
 Inv-loop text start i₀ i =
-    (i + blanks (drop i text) ≡ start + blanks (drop start text)) × (i ≤ length text)
+    Along isBlank text start i
 
 abbrev μ-loop : tie.MeasureT-loop
 μ-loop text start i₀ i =
     length text - i
 
+after-blank-strides-requires : tie.Need-after-blank-strides-requires Inv-loop μ-loop
+after-blank-strides-requires c κs = search needs
+
 loop-holds : tie.Need-loop-holds Inv-loop μ-loop
-loop-holds c = search needs
+loop-holds c = c .after-blank-strides .ensures
 
 shared-slice-read-b : tie.Need-shared-slice-read-b Inv-loop μ-loop
 shared-slice-read-b c = search needs
@@ -30,14 +34,14 @@ is-blank-requires c κs = search needs
 
 returns : tie.Need-returns Inv-loop μ-loop
 returns c =
-    let entry = c .before .before .before .before .before .before in
+    let entry = c .before .before .before .before .before .before .before in
     let head = c .before .before .before .before in
     let by-loop-test = c .before .before .before in
     let none =
-    blanks-none (entry .args .text .now) (head .loop .i) (by-loop-test .loop-test .taken)
+    along-none (head .loop .inv) (by-loop-test .loop-test .taken)
     (sym (c .before .is-blank .ensures) ∙ not-true _ (c .if1 .taken))
     in
-    (omega (arith, head .loop .inv .0, none), omega arith)
+    (omega (arith, none, span-blanks (drop (entry .args .start) (entry .args .text .now))), head .loop .inv .within)
 
 add-i : tie.Need-add-i Inv-loop μ-loop
 add-i c = search needs
@@ -47,25 +51,16 @@ loop-less c = search needs
 
 loop-again : tie.Need-loop-again Inv-loop μ-loop
 loop-again c =
-    let entry = c .before .before .before .before .before .before in
     let head = c .before .before .before .before in
     let by-loop-test = c .before .before .before in
-    let one =
-    blanks-on (entry .args .text .now) (head .loop .i) (by-loop-test .loop-test .taken)
+    along-byte (head .loop .inv) (by-loop-test .loop-test .taken)
     (sym (c .before .is-blank .ensures) ∙ not-false _ (c .if1 .left))
-    in
-    (omega (arith, head .loop .inv .0, one), omega arith)
 
 returns-2 : tie.Need-returns-2 Inv-loop μ-loop
 returns-2 c =
-    let entry = c .before .before .before in (
-      omega (
-        arith,
-        c .before .loop .inv .0,
-        blanks-end (entry .args .text .now) (c .before .loop .i) (c .loop-test .left),
-      ),
-      omega arith,
-    )
+    let entry = c .before .before .before .before in
+    let end = along-end (c .before .loop .inv) (c .loop-test .left) in
+    (omega (arith, end, span-blanks (drop (entry .args .start) (entry .args .text .now))), c .before .loop .inv .within)
 
 pub after-blanks-spec : {M : Type 1} → statement M
 after-blanks-spec =
@@ -73,6 +68,7 @@ after-blanks-spec =
     (tie.spec
     Inv-loop
     μ-loop
+    after-blank-strides-requires
     loop-holds
     shared-slice-read-b
     is-blank-requires

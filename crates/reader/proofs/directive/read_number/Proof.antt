@@ -6,7 +6,7 @@ use native.Mathlib.Omega.{arith}
 use borrow.Author.Needs.{needs}
 use lib.ListN.{length}
 use Rattle.reader.proofs.ScanLaws.{number-whole, digit-least, test-inside}
-use Rattle.reader.proofs.ScanLaws.{Numbering, number-none, number-first, number-more, number-out}
+use Rattle.reader.proofs.ScanLaws.{Numbering, number-none, zeros-first, number-more, number-out}
 use Rattle.reader.proofs.directive.read_number.Statement.{statement}
 use Rattle.reader.proofs.directive.read_number.Tie as tie
 
@@ -21,10 +21,14 @@ abbrev μ-loop : tie.MeasureT-loop
 greatest-requires : tie.Need-greatest-requires Inv-loop μ-loop
 greatest-requires c κs = search needs
 
+after-zeros-requires : tie.Need-after-zeros-requires Inv-loop μ-loop
+after-zeros-requires c κs = search needs
+
 loop-holds : tie.Need-loop-holds Inv-loop μ-loop
 loop-holds c =
-    let entry = c .before .before in
-    number-first (entry .args .text .now) (entry .args .start) (entry .args .minus)
+    let entry = c .before .before .before in
+    zeros-first (entry .args .text .now) (entry .args .start) (entry .args .minus) (c .after-zeros .result)
+    (c .after-zeros .ensures .0) (c .after-zeros .ensures .1)
 
 digit-at-requires : tie.Need-digit-at-requires Inv-loop μ-loop
 digit-at-requires c κs = search needs
@@ -34,7 +38,7 @@ mul-n c = search needs
 
 shared-slice-read-wide : tie.Need-shared-slice-read-wide Inv-loop μ-loop
 shared-slice-read-wide c =
-    let entry = c .before .before .before .before .before .before in
+    let entry = c .before .before .before .before .before .before .before in
     let head = c .before .before .before in
     let by-digit-at = c .before .before in
     test-inside (entry .args .text .now) (head .loop .i) _
@@ -45,7 +49,7 @@ wide-requires c κs = search needs
 
 sub-n : tie.Need-sub-n Inv-loop μ-loop
 sub-n c =
-    let entry = c .before .before .before .before .before .before .before in
+    let entry = c .before .before .before .before .before .before .before .before in
     let head = c .before .before .before .before in
     let by-digit-at = c .before .before .before in
     let by-if1 = c .before .before in
@@ -63,7 +67,7 @@ add-n c =
 
 returns : tie.Need-returns Inv-loop μ-loop
 returns c =
-    let by-greatest = c .before .before .before .before .before .before in
+    let by-greatest = c .before .before .before .before .before .before .before in
     let head = c .before .before .before .before .before in
     let by-digit-at = c .before .before .before .before in
     let by-if1 = c .before .before .before in
@@ -73,7 +77,7 @@ returns c =
 
 add-i : tie.Need-add-i Inv-loop μ-loop
 add-i c =
-    let entry = c .before .before .before .before .before .before .before .before in
+    let entry = c .before .before .before .before .before .before .before .before .before in
     let head = c .before .before .before .before .before in
     let by-digit-at = c .before .before .before .before in
     let by-if1 = c .before .before .before in
@@ -85,7 +89,7 @@ add-i c =
 
 loop-less : tie.Need-loop-less Inv-loop μ-loop
 loop-less c =
-    let entry = c .before .before .before .before .before .before .before .before in
+    let entry = c .before .before .before .before .before .before .before .before .before in
     let head = c .before .before .before .before .before in
     let by-digit-at = c .before .before .before .before in
     let by-if1 = c .before .before .before in
@@ -97,7 +101,7 @@ loop-less c =
 
 loop-again : tie.Need-loop-again Inv-loop μ-loop
 loop-again c =
-    let by-greatest = c .before .before .before .before .before .before in
+    let by-greatest = c .before .before .before .before .before .before .before in
     let head = c .before .before .before .before .before in
     let by-digit-at = c .before .before .before .before in
     let by-if1 = c .before .before .before in
@@ -124,6 +128,7 @@ read-number-spec =
     Inv-loop
     μ-loop
     greatest-requires
+    after-zeros-requires
     loop-holds
     digit-at-requires
     mul-n
