@@ -24,10 +24,11 @@ use Rattle.blocks.specs.declared.passes.Over.{Over}
 use Rattle.acting.specs.declared.state.Ran.{Ran}
 use Rattle.running.specs.Runs.{Runs, Steps, Blocks, Passes, restAt, picking, entering, inside, opening}
 use Rattle.acting.proofs.ActLaws.{settings-ill, argument-there, argument-none}
-use Rattle.running.proofs.Strides.{strides-runs-on, runs-on, runs-left, runs-refused}
+use Rattle.stepping.proofs.ItemLaws.{is-ended}
+use Rattle.running.proofs.Strides.{Onto, strides-runs-on, runs-on, runs-left, runs-refused}
 use Rattle.rules.proofs.Bases.{code-right}
 use Rattle.running.proofs.BlockArms.{passes-over, passes-none, passes-on, passes-left, passes-refused, blocks-nothing, blocks-clause, blocks-clause-left, blocks-clause-refused, blocks-same, blocks-list, blocks-as}
-use Rattle.engine.proofs.RunnerLaws.{Onto, is-ended, ended-as, runs-stopped, sequence-ends, sequence-closes, literal-inside, no-other, acts-alone, block-deep, block-none, block-opens, blocks-told, closes-after, over-blocks, over-hand, passes-none-told, passes-on-told}
+use Rattle.engine.proofs.RunnerLaws.{ended-as, runs-stopped, sequence-ends, sequence-closes, literal-inside, no-other, acts-alone, block-deep, block-none, block-opens, blocks-told, closes-after, over-blocks, over-hand, passes-none-told, passes-on-told}
 use Rattle.rules.proofs.RunLaws.{choose-yes, choose-no}
 use Rattle.rules.proofs.TextLaws.{next-inside}
 use Prim.Native.Nat.{ℕ, _+_, _-_, _*_, _<_, _≤_}
@@ -58,7 +59,7 @@ use Rattle.engine.proofs.runners.run_sequence.Reads as run-sequence
 use Rattle.engine.proofs.runners.run_sequence.Kinds as run-sequence-kinds
 use Rattle.engine.proofs.runners.+run_block+run_clause+run_conditional+run_item+run_iteration+run_opened+run_passes+run_sequence.Lts-run_sequence as run-sequence-lts
 use Rattle.blocks.proofs.clauses.choose_clause.Reads as choose-clause-reads
-use Rattle.engine.proofs.items.act.Reads as act-reads
+use Rattle.stepping.proofs.items.act.Reads as act-reads
 use Rattle.checking.proofs.text.after_block.Reads as after-block-reads
 use Rattle.blocks.proofs.ends.ends_here.Reads as ends-here-reads
 use Rattle.blocks.proofs.ends.is_iteration.Reads as is-iteration-reads
@@ -67,10 +68,10 @@ use Rattle.blocks.proofs.passes.go_over.Reads as go-over-reads
 use Rattle.blocks.proofs.passes.next_after.Reads as next-after-reads
 use Rattle.blocks.proofs.passes.one_less.Reads as one-less-reads
 use Rattle.blocks.proofs.ends.opens_block.Reads as opens-block-reads
-use Rattle.engine.proofs.items.put_literal.Reads as put-literal-reads
+use Rattle.stepping.proofs.items.put_literal.Reads as put-literal-reads
 use Rattle.engine.proofs.runners.end_block.Reads as end-block-reads
-use Rattle.engine.proofs.short.run_short.Reads as run-short-reads
-use Rattle.engine.proofs.items.is_ended.Reads as is-ended-reads
+use Rattle.stepping.proofs.short.run_short.Reads as run-short-reads
+use Rattle.stepping.proofs.items.is_ended.Reads as is-ended-reads
 use Rattle.acting.proofs.state.refuse.Reads as refuse-reads
 use Rattle.reader.proofs.directive.item_at.Reads as item-at-reads
 use Rattle.reader.proofs.marks.closes_at.Reads as closes-at-reads
