@@ -1,58 +1,93 @@
 -- One item of a sequence that opens no block, from the answer that its code gives. Assumes nothing.
 use Prim.Native.Nat.{ℕ, _+_, _-_, _<_, _≤_}
 use mathlib.Core.Path.{_≡_, refl, sym, ap, subst, _∙_}
-use mathlib.Core.Bool.{Bool, true, false, cond}
+use mathlib.Core.Bool.{Bool, true, cond}
 use mathlib.Core.List.{List, [], _∷_}
 use native.Mathlib.Omega.{arith}
 use native.Mathlib.Decide.{decLe}
 use borrow.Author.Tests.{le-leb, lt-leb}
 use denote.Enum.Declared.{tagOf}
 use types.Run.{OneOf, miss}
+use lib.Dec.{leb}
 use lib.ListN.{length, getD, set}
 use Rattle.rules.specs.Directive.{itemAt}
 use Rattle.rules.specs.Table.{View}
-use Rattle.rules.specs.Text.{levelsAt}
+use Rattle.rules.specs.Text.{Level, levelsAt}
 use Rattle.rules.specs.declared.Code.{Code}
 use Rattle.rules.specs.declared.Code.the-variants.{Writes, Jump, Escape, Opens, Separator, Closes, Unknown}
 use Rattle.rules.specs.declared.Directive.{Directive}
-use Rattle.rules.specs.declared.Form.{Form}
 use Rattle.rules.specs.declared.Item.{Item}
-use Rattle.rules.specs.declared.Item.the-variants.{Literal, Written}
+use Rattle.rules.specs.declared.Item.the-variants.{Literal}
 use Rattle.rules.specs.Run.{itemActs}
 use Rattle.rules.proofs.Code as code-declared
 use Rattle.rules.proofs.Reading.{item-literal}
 use Rattle.rules.proofs.Tests.{not-both-ways}
-use Rattle.rules.proofs.TextLaws.{next-inside, stands}
 use Rattle.acting.specs.declared.state.Stop.{Stop}
 use Rattle.acting.specs.declared.state.Stop.the-variants.{Ended, Left, Refused}
 use Rattle.acting.specs.declared.state.Ran.{Ran}
 use Rattle.acting.specs.declared.state.Spot.{Spot}
 use Rattle.acting.specs.Acting.{Performed}
-use Rattle.acting.specs.Ran.{refusedRan, endedRan, hand, Acts}
-use Rattle.running.specs.Runs.{ActsAt, Steps}
+use Rattle.acting.specs.Ran.{refusedRan, endedRan, hand}
+use Rattle.running.specs.Runs.{ActsAt, EscapesAt, AloneAt, Ahead, Steps}
 use Rattle.stepping.specs.Stepping.{ActsAlone, PutsLiterals, leftRan, escaped, isEnded}
 use Rattle.running.proofs.Arms.{literal-acts, literal-full, steps-acts-none, steps-acts, steps-escape-none, steps-escape-left, steps-escape-on}
 use Rattle.running.proofs.Strides.{strides, strides-none, strides-on}
-use Rattle.running.proofs.Places.{literal-at, writes-at, jump-at, escape-at}
+use Rattle.running.proofs.Places.{literal-at, literal-ahead}
 
--- a literal byte
-module _ (t : List ℕ) (v : View) (first count level p byte i left at : ℕ) (b : List ℕ) (r : Ran) (e : itemAt t p ≡ Literal byte) where
-  pub literal-none : left ≡ 0 → r ≡ refusedRan 9 p i left at (p + 1) → at ≤ length b → i ≤ count → Steps (levelsAt t) (length t) v (hand first count) level p i left at b b r
-  literal-none z q l k =
-      subst (Steps (levelsAt t) (length t) v (hand first count) level p i left at b b) (sym q)
-      (steps-acts-none (levelsAt t) (length t) v first count level p i left at b (literal-at t p byte e) z (p + 1) l k)
+-- an item at the place `here` of whatever gives the sequences
+module _ (s : ℕ → List Level) (n : ℕ) (v : View) (first count level here i left at : ℕ) (b : List ℕ) where
+  abbrev StepsHere : List ℕ → Ran → Type 0
+  StepsHere e r = Steps s n v (hand first count) level here i left at b e r
 
-  pub literal-no-room : (left ≡ 0 → ⊥) → length b ≤ at → r ≡ refusedRan 10 p i (left - 1) at (p + 1) → at ≤ length b → i ≤ count
-      → Steps (levelsAt t) (length t) v (hand first count) level p i left at b b r
-  literal-no-room z h q l k =
-      subst (Steps (levelsAt t) (length t) v (hand first count) level p i left at b b) (sym q)
-      (steps-acts (levelsAt t) (length t) v first count level p i left at b (literal-at t p byte e) z (literal-full v first count p byte i (left - 1) at (p + 1) b k l h) (omega arith) (omega (arith, stands t p (Literal byte) e)))
+  -- no step is left for one that acts
+  pub acts-none : {p q : ℕ} {item : Item} → ActsAt s here p item q → (r : Ran) → left ≡ 0 → r ≡ refusedRan 9 p i left at q → at ≤ length b → i ≤ count → StepsHere b r
+  acts-none {p} {q} a r z e l k = subst (StepsHere b) (sym e) (steps-acts-none s n v first count level here i left at b a z q l k)
 
-  pub literal-put : (left ≡ 0 → ⊥) → at < length b → r ≡ endedRan i (left - 1) (at + 1) (p + 1) → i ≤ count
-      → Steps (levelsAt t) (length t) v (hand first count) level p i left at b (set b at byte) r
-  literal-put z h q k =
-      subst (Steps (levelsAt t) (length t) v (hand first count) level p i left at b (set b at byte)) (sym q)
-      (steps-acts (levelsAt t) (length t) v first count level p i left at b (literal-at t p byte e) z (literal-acts v first count p byte i (left - 1) at (p + 1) b k h) (omega arith) (omega (arith, stands t p (Literal byte) e)))
+  -- the same of a directive that acts alone, by its code
+  pub alone-none : (p : ℕ) (d : Directive) → ActsAlone (d .code) → AloneAt s here p d (d .code) → (r : Ran) → left ≡ 0 → r ≡ refusedRan 9 p i left at (d .next) → at ≤ length b → i ≤ count → StepsHere b r
+  alone-none p d o a r z e l k = by (d .code) o a
+    where
+      by : (c : Code) → ActsAlone c → AloneAt s here p d c → StepsHere b r
+      by (Writes f) o a = acts-none a r z e l k
+      by Jump o a = acts-none a r z e l k
+      by Escape o a = subst (StepsHere b) (sym e) (steps-escape-none s n v first count level here i left at b a z (d .next) l k)
+      by (Opens c) o a = absurd o
+      by Separator o a = absurd o
+      by (Closes c) o a = absurd o
+      by Unknown o a = absurd o
+
+  module _ (z : left ≡ 0 → ⊥) {p q : ℕ} (h : Ahead n here q) where
+    -- one that acts, once it is begun
+    pub acts-begun : {item : Item} → ActsAt s here p item q → {b₂ : List ℕ} {r : Ran} (spot : Spot) → spot ≡ record { position = p; place = q; left = left - 1; at = at }
+        → Performed (λ on. itemActs v (spot .position) (spot .left) item (hand first count i) on) count spot b b₂ r → StepsHere b₂ r
+    acts-begun {item} a {b₂} {r} spot e u =
+        let w : Performed (λ on. itemActs v p (left - 1) item (hand first count i) on) count (record { position = p; place = q; left = left - 1; at = at }) b b₂ r =
+        subst (λ (y : Spot). Performed (λ on. itemActs v (y .position) (y .left) item (hand first count i) on) count y b b₂ r) e u in
+        let a₂ : ActsAt s here p item (r .place) = subst (λ (y : ℕ). ActsAt s here p item y) (sym (w .place)) a in
+        steps-acts s n v first count level here i left at b a₂ z (w .does) (omega (arith, w .place, h .least)) (omega (arith, w .place, h .most))
+
+    -- a literal byte
+    module _ (byte : ℕ) (a : ActsAt s here p (Literal byte) q) (r : Ran) where
+      pub literal-no-room : length b ≤ at → r ≡ refusedRan 10 p i (left - 1) at q → at ≤ length b → i ≤ count → StepsHere b r
+      literal-no-room f e l k =
+          subst (StepsHere b) (sym e) (steps-acts s n v first count level here i left at b a z (literal-full v first count p byte i (left - 1) at q b k l f) (h .least) (h .most))
+
+      pub literal-put : at < length b → r ≡ endedRan i (left - 1) (at + 1) q → i ≤ count → StepsHere (set b at byte) r
+      literal-put f e k =
+          subst (StepsHere (set b at byte)) (sym e) (steps-acts s n v first count level here i left at b a z (literal-acts v first count p byte i (left - 1) at q b k f) (h .least) (h .most))
+
+    -- an escape, once it is begun
+    pub escape-begun : EscapesAt s here p q → {r : Ran} → r ≡ escaped (record { position = p; place = q; left = left - 1; at = at }) count i → at ≤ length b → i ≤ count → StepsHere b r
+    escape-begun a {r} e l k = by (decLe count i)
+      where
+        told : {y : Bool} → leb count i ≡ y → r ≡ cond y (leftRan i (left - 1) at q) (endedRan i (left - 1) at q)
+        told g = e ∙ ap (λ (y : Bool). cond y (leftRan i (left - 1) at q) (endedRan i (left - 1) at q)) g
+
+        by : Dec (count ≤ i) → StepsHere b r
+        by (yes g) = subst (StepsHere b) (sym (told (le-leb count i g))) (steps-escape-left s n v first count level here i left at b a z g q l k)
+        by (no g) =
+            let f : i < count = omega arith in
+            subst (StepsHere b) (sym (told (lt-leb count i f))) (steps-escape-on s n v first count level here i left at b a z f (h .least) (h .most) l k)
 
 -- literal bytes one after another
 pub one-nearer : (most k : ℕ) → k < most → most - (k + 1) < most - k
@@ -81,9 +116,11 @@ module _ (t : List ℕ) (p left at : ℕ) (b : List ℕ) where
         runs =
             λ v first count level i c.
             let w = u .runs v first count level i c in
+            let byte = getD t (p + k) 0 in
+            let m : itemAt t (p + k) ≡ Literal byte = item-literal t (p + k) h n in
             strides-on (levelsAt t) (length t) v first count level p i left at b w refl
             (strides (levelsAt t) (length t) v first count level (p + k) i (left - k) (at + k) e
-            (literal-put t v first count level (p + k) (getD t (p + k) 0) i (left - k) (at + k) e _ (item-literal t (p + k) h n) (λ z. omega arith) (omega (arith, w .does .size))
+            (literal-put (levelsAt t) (length t) v first count level (p + k) i (left - k) (at + k) e (λ z. omega arith) (literal-ahead t (p + k) byte m) byte (literal-at t (p + k) byte m) _ (omega (arith, w .does .size))
             (ended-is (omega arith) (omega arith) (omega arith)) c));
       }
 
@@ -96,47 +133,6 @@ only-escape keys (Opens b) q a o = absurd a
 only-escape keys Separator q a o = absurd a
 only-escape keys (Closes b) q a o = absurd a
 only-escape keys Unknown q a o = absurd a
-
-module _ (t : List ℕ) (v : View) (first count level p i left at : ℕ) (b : List ℕ) (r : Ran) (d : Directive) (e : itemAt t p ≡ Written d) where
-  place-after : p < d .next
-  place-after = omega (arith, next-inside t p d e .above)
-
-  -- no step is left for it
-  pub alone-none : ActsAlone (d .code) → left ≡ 0 → r ≡ refusedRan 9 p i left at (d .next) → at ≤ length b → i ≤ count
-      → Steps (levelsAt t) (length t) v (hand first count) level p i left at b b r
-  alone-none a z q l k = subst (Steps (levelsAt t) (length t) v (hand first count) level p i left at b b) (sym q) (by (d .code) refl a)
-    where
-      by : (c : Code) → d .code ≡ c → ActsAlone c → Steps (levelsAt t) (length t) v (hand first count) level p i left at b b (refusedRan 9 p i left at (d .next))
-      by (Writes f) w a = steps-acts-none (levelsAt t) (length t) v first count level p i left at b (writes-at t p d e f w) z (d .next) l k
-      by Jump w a = steps-acts-none (levelsAt t) (length t) v first count level p i left at b (jump-at t p d e w) z (d .next) l k
-      by Escape w a = steps-escape-none (levelsAt t) (length t) v first count level p i left at b (escape-at t p d e w) z (d .next) l k
-      by (Opens b) w a = absurd a
-      by Separator w a = absurd a
-      by (Closes b) w a = absurd a
-      by Unknown w a = absurd a
-
-  module _ (z : left ≡ 0 → ⊥) where
-    -- a directive that writes, or a jump
-    pub alone-acts : {b₂ : List ℕ} (spot : Spot) → ActsAt (levelsAt t) p p (Written d) (d .next) → spot ≡ record { position = p; place = d .next; left = left - 1; at = at }
-        → Performed (λ on. itemActs v (spot .position) (spot .left) (Written d) (hand first count i) on) count spot b b₂ r → Steps (levelsAt t) (length t) v (hand first count) level p i left at b b₂ r
-    alone-acts {b₂} spot a q u =
-        let w : Performed (λ on. itemActs v p (left - 1) (Written d) (hand first count i) on) count (record { position = p; place = d .next; left = left - 1; at = at }) b b₂ r =
-        subst (λ (s : Spot). Performed (λ on. itemActs v (s .position) (s .left) (Written d) (hand first count i) on) count s b b₂ r) q u in
-        let a₂ : ActsAt (levelsAt t) p p (Written d) (r .place) = subst (λ (y : ℕ). ActsAt (levelsAt t) p p (Written d) y) (sym (w .place)) a in
-        steps-acts (levelsAt t) (length t) v first count level p i left at b a₂ z (w .does) (omega (arith, w .place, place-after)) (omega (arith, w .place, next-inside t p d e .most))
-
-    pub alone-escape : d .code ≡ Escape → r ≡ escaped (record { position = p; place = d .next; left = left - 1; at = at }) count i → at ≤ length b → i ≤ count
-        → Steps (levelsAt t) (length t) v (hand first count) level p i left at b b r
-    alone-escape w q l k = by (decLe count i)
-      where
-        by : Dec (count ≤ i) → Steps (levelsAt t) (length t) v (hand first count) level p i left at b b r
-        by (yes h) =
-            subst (Steps (levelsAt t) (length t) v (hand first count) level p i left at b b) (sym (q ∙ ap (λ (y : Bool). cond y (leftRan i (left - 1) at (d .next)) (endedRan i (left - 1) at (d .next))) (le-leb count i h)))
-            (steps-escape-left (levelsAt t) (length t) v first count level p i left at b (escape-at t p d e w) z h (d .next) l k)
-        by (no n) =
-            let h : i < count = omega arith in
-            subst (Steps (levelsAt t) (length t) v (hand first count) level p i left at b b) (sym (q ∙ ap (λ (y : Bool). cond y (leftRan i (left - 1) at (d .next)) (endedRan i (left - 1) at (d .next))) (lt-leb count i h)))
-            (steps-escape-on (levelsAt t) (length t) v first count level p i left at b (escape-at t p d e w) z h place-after (next-inside t p d e .most) l k)
 
 -- how a run stopped
 pub is-ended : (x : Stop) → isEnded x ≡ true → x ≡ Ended

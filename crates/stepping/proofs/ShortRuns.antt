@@ -1,28 +1,28 @@
 -- A short directive does what the definition has it do, with the settings that are read. Assumes nothing.
 use Prim.Native.Nat.{ℕ, _-_, _<_, _≤_}
-use mathlib.Core.Path.{_≡_, refl, sym, ap, subst, _∙_}
+use mathlib.Core.Path.{_≡_, refl, ap, subst, _∙_}
 use mathlib.Core.Bool.{true, false}
 use mathlib.Core.List.{List}
 use native.Mathlib.Decide.{ℕ-discrete as decEq}
 use native.Mathlib.Omega.{arith}
 use borrow.Author.Tests.{le-ltb, eq-eqb, ne-eqb, eqb-true}
 use lib.Dec.{eqb}
-use lib.ListN.{length}
 use Rattle.rules.specs.Choice.{both}
 use Rattle.rules.specs.Directive.{number, character, formPlaces, inOrder}
 use Rattle.rules.specs.Table.{View}
-use Rattle.rules.specs.Text.{levelsAt}
+use Rattle.rules.specs.Text.{Level}
 use Rattle.rules.specs.Working.{Context, workOut, settle, Source, own, sourceOf}
 use Rattle.rules.specs.Run.{Flow, refused, onSettled, writeFrom}
 use Rattle.rules.specs.declared.Directive.{Directive}
 use Rattle.rules.specs.declared.Form.{Form}
 use Rattle.rules.specs.declared.Form.the-variants.{Object, Numeral, Glyph, Plural, Repeat, Fold}
+use Rattle.rules.specs.declared.Item.the-variants.{Written}
 use Rattle.rules.specs.declared.Setting.{Setting}
 use Rattle.rules.specs.declared.Setting.the-variants.{Absent, Is}
 use Rattle.rules.specs.declared.Settings.{Settings}
 use Rattle.rules.proofs.RunLaws.{choose-no}
 use Rattle.rules.proofs.Tests.{both-true}
-use Rattle.reader.specs.Shorts.{settingOf, shortForm, shortParameters, shortDirective, NumberIn, CharacterIn, NoneIn, ShortIn, IsShort}
+use Rattle.reader.specs.Shorts.{settingOf, shortForm, shortParameters, shortDirective, NumberIn, CharacterIn, NoneIn, ShortIn}
 use Rattle.reader.proofs.ShortLaws.{short-well}
 use Rattle.working.specs.Settling.{InPlace, InRange}
 use Rattle.pieces.specs.Given.{Worked}
@@ -30,13 +30,12 @@ use Rattle.acting.specs.declared.state.Ran.{Ran}
 use Rattle.acting.specs.declared.state.Spot.{Spot}
 use Rattle.rules.specs.Directive.{FormRight}
 use Rattle.acting.specs.Acting.{Performed}
-use Rattle.acting.specs.Ran.{refusedRan, hand}
+use Rattle.acting.specs.Ran.{hand}
 use Rattle.acting.proofs.ActLaws.{performed-as, acts-writes, settings-well, write-anywhere}
 use Rattle.acting.proofs.Sources.{worked-in}
-use Rattle.running.specs.Runs.{Steps}
+use Rattle.running.specs.Runs.{ActsAt, Ahead, Steps}
 use Rattle.stepping.specs.Stepping.{shortSettings}
-use Rattle.stepping.proofs.ItemLaws.{alone-none, alone-acts}
-use Rattle.running.proofs.Places.{writes-at}
+use Rattle.stepping.proofs.ItemLaws.{acts-begun}
 
 in-number : (x : Setting) → NumberIn x → InPlace (number 0 4096) x
 in-number Absent h = tt
@@ -76,26 +75,22 @@ settled v c (Repeat b) (Is n) Absent p m on s = refl
 settled v c (Repeat b) x (Is k) p m on s = absurd (s .1)
 settled v c Fold x y p m on s = absurd s
 
-module _ (t : List ℕ) (v : View) (first count level p i left at : ℕ) (b : List ℕ) {f : Form} {x y : Setting} {place : ℕ} (u : IsShort t p f x y place) where
-  -- no step is left for it
-  pub short-none : (r : Ran) → FormRight f → left ≡ 0 → r ≡ refusedRan 9 p i left at place → at ≤ length b → i ≤ count
-      → Steps (levelsAt t) (length t) v (hand first count) level p i left at b b r
-  short-none r g z q l k = alone-none t v first count level p i left at b r (shortDirective f x y place) (u .item) g z q l k
-
-  -- what it does once it is begun
-  pub short-acts : {b₂ : List ℕ} {r : Ran} (spot : Spot) → (left ≡ 0 → ⊥) → spot ≡ record { position = p; place = place; left = left - 1; at = at }
-      → ((d : Directive) → d .colon ≡ false → d .at ≡ false
-      → Performed (λ on. writeFrom v (spot .position) (spot .left) f d (hand first count 0) (shortSettings x y) i on (sourceOf f false (shortSettings x y))) count spot b b₂ r)
-      → Steps (levelsAt t) (length t) v (hand first count) level p i left at b b₂ r
-  short-acts {b₂} {r} spot z o h =
-      let d : Directive = shortDirective f x y place in
-      alone-acts t v first count level p i left at b r d (u .item) z spot (writes-at t p d (u .item) f refl) o
-      (performed-as _
-      (λ on. acts-writes v (spot .position) (spot .left) d (hand first count i) on f refl
-      ∙ settings-well v (spot .position) (spot .left) d (hand first count i) _ (short-well f x y place (u .suits))
-      ∙ settled v (hand first count i) f x y (spot .position) (spot .left) _ (u .suits)
-      ∙ write-anywhere v (spot .position) (spot .left) f d first count i (shortSettings x y) i on (sourceOf f false (shortSettings x y)))
-      (h d refl refl))
+-- a short directive, once it is begun, at the place `here` of whatever gives the sequences
+pub short-begun : (s : ℕ → List Level) (n : ℕ) (v : View) (first count level here i left at : ℕ) (b : List ℕ) (f : Form) (x y : Setting) {p place : ℕ} → ShortIn f x y
+    → ActsAt s here p (Written (shortDirective f x y place)) place → Ahead n here place → (left ≡ 0 → ⊥)
+    → {b₂ : List ℕ} {r : Ran} (spot : Spot) → spot ≡ record { position = p; place = place; left = left - 1; at = at }
+    → ((d : Directive) → d .colon ≡ false → d .at ≡ false
+    → Performed (λ on. writeFrom v (spot .position) (spot .left) f d (hand first count 0) (shortSettings x y) i on (sourceOf f false (shortSettings x y))) count spot b b₂ r)
+    → Steps s n v (hand first count) level here i left at b b₂ r
+short-begun s n v first count level here i left at b f x y {p} {place} u a h z spot o w =
+    let d : Directive = shortDirective f x y place in
+    acts-begun s n v first count level here i left at b z h a spot o
+    (performed-as _
+    (λ on. acts-writes v (spot .position) (spot .left) d (hand first count i) on f refl
+    ∙ settings-well v (spot .position) (spot .left) d (hand first count i) _ (short-well f x y place u)
+    ∙ settled v (hand first count i) f x y (spot .position) (spot .left) _ u
+    ∙ write-anywhere v (spot .position) (spot .left) f d first count i (shortSettings x y) i on (sourceOf f false (shortSettings x y)))
+    (w d refl refl))
 
 -- the form g and the settings a and c are those that are read
 module _ (v : View) (k : Context) (i count : ℕ) (spot : Spot) (d : Directive) (b e : List ℕ) (r : Ran) where

@@ -14,15 +14,14 @@ ghost use mathlib.Core.Path.{_≡_};
 ghost use mathlib.Core.List.{List};
 ghost use Prim.Native.Nat.{ℕ, _+_, _-_, _≤_, _<_};
 ghost use lib.ListN.{length, getD};
-ghost use Rattle.rules.specs.Directive.{itemAt};
 ghost use Rattle.rules.specs.Table.{View, viewOf};
-ghost use Rattle.rules.specs.Text.{levelsAt};
-ghost use Rattle.rules.specs.declared.Item.the-variants.{Literal, Written};
+ghost use Rattle.rules.specs.Text.{Level};
+ghost use Rattle.rules.specs.declared.Item.the-variants.{Literal};
 ghost use Rattle.working.specs.Settling.{InHand, handAt};
-ghost use Rattle.running.specs.Runs.{Steps};
+ghost use Rattle.running.specs.Runs.{ActsAt, AloneAt, Ahead, Steps};
 ghost use Rattle.stepping.specs.Stepping.{isEnded, escaped, ActsAlone, PutsLiterals};
 
-// A literal byte.
+// A literal byte of the position p, wherever it stands: the place may be one of the text or of what it was read into.
 pub fn put_literal(
     p: usize,
     byte: u8,
@@ -35,7 +34,7 @@ pub fn put_literal(
     requires { ⌜ next .0 ≤ hand .count ⌝ }
     requires { ⌜ at ≤ length (now out) ⌝ }
     requires { ⌜ p < 18446744073709551615 ⌝ }
-    ensures { λ r. ⌜ ((t : List ℕ) (v : View) (level : ℕ) → itemAt t p ≡ Literal byte → Steps (levelsAt t) (length t) v (handAt hand) level p (next .0) left at (now (out .entry)) (now (out .exit)) r) ⌝ }
+    ensures { λ r. ⌜ ((s : ℕ → List Level) (n : ℕ) (v : View) (level here : ℕ) → ActsAt s here p (Literal byte) (p + 1) → Ahead n here (p + 1) → Steps s n v (handAt hand) level here (next .0) left at (now (out .entry)) (now (out .exit)) r) ⌝ }
 {
     let place = p + 1;
     if left == 0 {
@@ -109,7 +108,7 @@ fn escape(spot: Spot, hand: Hand, next: ArgumentPosition) -> Ran
     go_on(spot, next, spot.at)
 }
 
-// A directive that opens no block and ends no sequence.
+// A directive of the position p that opens no block and ends no sequence, wherever it stands.
 pub fn act(
     p: usize,
     d: Directive,
@@ -124,7 +123,7 @@ pub fn act(
     requires { ⌜ InHand (now table) hand ⌝ }
     requires { ⌜ next .0 ≤ hand .count ⌝ }
     requires { ⌜ at ≤ length (now out) ⌝ }
-    ensures { λ r. ⌜ ((t : List ℕ) (level : ℕ) → itemAt t p ≡ Written d → Steps (levelsAt t) (length t) (viewOf (now (table .entry))) (handAt hand) level p (next .0) left at (now (out .entry)) (now (out .exit)) r) ⌝ }
+    ensures { λ r. ⌜ ((s : ℕ → List Level) (n level here : ℕ) → AloneAt s here p d (d .code) → Ahead n here (d .next) → Steps s n (viewOf (now (table .entry))) (handAt hand) level here (next .0) left at (now (out .entry)) (now (out .exit)) r) ⌝ }
 {
     let code = d.code;
     let place = d.next;

@@ -30,13 +30,14 @@ ghost use lib.Dec.{eqb};
 ghost use Rattle.rules.specs.Choice.{both};
 ghost use Rattle.rules.specs.Piece.{orElse};
 ghost use Rattle.rules.specs.Table.{viewOf};
-ghost use Rattle.rules.specs.Text.{levelsAt};
-ghost use Rattle.reader.specs.Shorts.{settingOf, shortForm, shortAt, ShortIn, IsShort};
+ghost use Rattle.rules.specs.Text.{Level, levelsAt};
+ghost use Rattle.rules.specs.declared.Item.the-variants.{Written};
+ghost use Rattle.reader.specs.Shorts.{settingOf, shortForm, shortAt, shortDirective, ShortIn};
 ghost use Rattle.reader.specs.declared.short.Short.the-variants.{Other};
 ghost use Rattle.acting.specs.declared.state.Stop.the-variants.{Ended};
 ghost use Rattle.working.specs.Settling.{InHand, handAt};
 ghost use Rattle.rules.specs.Directive.{FormRight};
-ghost use Rattle.running.specs.Runs.{Steps, Strides};
+ghost use Rattle.running.specs.Runs.{ActsAt, Ahead, Steps, Strides};
 ghost use Rattle.stepping.specs.Stepping.{WritesShort, NotShort};
 
 // A parameter as its setting, where none stands for one that is not written.
@@ -153,7 +154,7 @@ fn write_argument(
     }
 }
 
-// The short directive at p, after which the text goes on at place.
+// A short directive of the position p, wherever it stands, after which the run goes on at place.
 fn act_short(
     p: usize,
     kind: u8,
@@ -173,7 +174,7 @@ fn act_short(
     requires { ⌜ InHand (now table) hand ⌝ }
     requires { ⌜ next .0 ≤ hand .count ⌝ }
     requires { ⌜ at ≤ length (now out) ⌝ }
-    ensures { λ r. ⌜ ((t : List ℕ) (level : ℕ) → IsShort t p (shortForm kind detail) (settingOf 4097 number) (settingOf 256 byte) place → Steps (levelsAt t) (length t) (viewOf (now (table .entry))) (handAt hand) level p (next .0) left at (now (out .entry)) (now (out .exit)) r) ⌝ }
+    ensures { λ r. ⌜ ((s : ℕ → List Level) (n level here : ℕ) → ActsAt s here p (Written (shortDirective (shortForm kind detail) (settingOf 4097 number) (settingOf 256 byte) place)) place → Ahead n here place → Steps s n (viewOf (now (table .entry))) (handAt hand) level here (next .0) left at (now (out .entry)) (now (out .exit)) r) ⌝ }
 {
     if left == 0 {
         return refuse(

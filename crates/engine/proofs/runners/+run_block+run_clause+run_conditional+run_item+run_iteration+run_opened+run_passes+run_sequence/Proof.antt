@@ -25,6 +25,7 @@ use Rattle.acting.specs.declared.state.Ran.{Ran}
 use Rattle.running.specs.Runs.{Runs, Steps, Blocks, Passes, restAt, picking, entering, inside, opening}
 use Rattle.acting.proofs.ActLaws.{settings-ill, argument-there, argument-none}
 use Rattle.stepping.proofs.ItemLaws.{is-ended}
+use Rattle.running.proofs.Places.{literal-at, literal-ahead, alone-at, directive-ahead}
 use Rattle.running.proofs.Strides.{Onto, strides-runs-on, runs-on, runs-left, runs-refused}
 use Rattle.rules.proofs.Bases.{code-right}
 use Rattle.running.proofs.BlockArms.{passes-over, passes-none, passes-on, passes-left, passes-refused, blocks-nothing, blocks-clause, blocks-clause-left, blocks-clause-refused, blocks-same, blocks-list, blocks-as}
@@ -361,16 +362,16 @@ run-item-refuse-requires : (t : ℕ) → run-item-lts.Need-refuse-requires (run-
 run-item-refuse-requires t c κs = search needs
 
 run-item-same-length-2 : (t : ℕ) → run-item-lts.Need-same-length-2 (run-item-claims t) (run-item-at t) run-item.Post
-run-item-same-length-2 t c = let a = (c .before .before .before .before .before .before .before .before .before .before .args) in (c .before .before .put-literal .ensures) (a .text .now) (viewOf (a .table .now)) (a .level) ((c .before .before .before .before .before .before .before .before .before .before .pre .1 .1 .1 .0) ∙ (c .before .before .before .before .before .item .given .1)) .does .size
+run-item-same-length-2 t c = let a = (c .before .before .before .before .before .before .before .before .before .before .args) in let e = (c .before .before .before .before .before .before .before .before .before .before .pre .1 .1 .1 .0) ∙ (c .before .before .before .before .before .item .given .1) in (c .before .before .put-literal .ensures) (levelsAt (a .text .now)) (length (a .text .now)) (viewOf (a .table .now)) (a .level) (a .p) (literal-at (a .text .now) (a .p) _ e) (literal-ahead (a .text .now) (a .p) _ e) .does .size
 
 run-item-returns-2 : (t : ℕ) → run-item-lts.Need-returns-2 (run-item-claims t) (run-item-at t) run-item.Post
-run-item-returns-2 t c = let a = (c .before .before .before .before .before .before .before .before .before .before .args) in (c .before .before .put-literal .ensures) (a .text .now) (viewOf (a .table .now)) (a .level) ((c .before .before .before .before .before .before .before .before .before .before .pre .1 .1 .1 .0) ∙ (c .before .before .before .before .before .item .given .1))
+run-item-returns-2 t c = let a = (c .before .before .before .before .before .before .before .before .before .before .args) in let e = (c .before .before .before .before .before .before .before .before .before .before .pre .1 .1 .1 .0) ∙ (c .before .before .before .before .before .item .given .1) in (c .before .before .put-literal .ensures) (levelsAt (a .text .now)) (length (a .text .now)) (viewOf (a .table .now)) (a .level) (a .p) (literal-at (a .text .now) (a .p) _ e) (literal-ahead (a .text .now) (a .p) _ e)
 
 run-item-same-length-3 : (t : ℕ) → run-item-lts.Need-same-length-3 (run-item-claims t) (run-item-at t) run-item.Post
-run-item-same-length-3 t c = let a = (c .before .before .before .before .before .before .before .before .before .before .before .before .args) in (c .before .before .act .ensures) (a .text .now) (a .level) ((c .before .before .before .before .before .before .before .before .before .before .before .before .pre .1 .1 .1 .0) ∙ (c .before .before .before .before .before .before .before .item2 .given .1)) .does .size
+run-item-same-length-3 t c = let a = (c .before .before .before .before .before .before .before .before .before .before .before .before .args) in let e = (c .before .before .before .before .before .before .before .before .before .before .before .before .pre .1 .1 .1 .0) ∙ (c .before .before .before .before .before .before .before .item2 .given .1) in (c .before .before .act .ensures) (levelsAt (a .text .now)) (length (a .text .now)) (a .level) (a .p) (alone-at (a .text .now) (a .p) _ e _ refl) (directive-ahead (a .text .now) (a .p) _ e) .does .size
 
 run-item-returns-3 : (t : ℕ) → run-item-lts.Need-returns-3 (run-item-claims t) (run-item-at t) run-item.Post
-run-item-returns-3 t c = let a = (c .before .before .before .before .before .before .before .before .before .before .before .before .args) in (c .before .before .act .ensures) (a .text .now) (a .level) ((c .before .before .before .before .before .before .before .before .before .before .before .before .pre .1 .1 .1 .0) ∙ (c .before .before .before .before .before .before .before .item2 .given .1))
+run-item-returns-3 t c = let a = (c .before .before .before .before .before .before .before .before .before .before .before .before .args) in let e = (c .before .before .before .before .before .before .before .before .before .before .before .before .pre .1 .1 .1 .0) ∙ (c .before .before .before .before .before .before .before .item2 .given .1) in (c .before .before .act .ensures) (levelsAt (a .text .now)) (length (a .text .now)) (a .level) (a .p) (alone-at (a .text .now) (a .p) _ e _ refl) (directive-ahead (a .text .now) (a .p) _ e)
 
 run-item-returns-4 : (t : ℕ) → run-item-lts.Need-returns-4 (run-item-claims t) (run-item-at t) run-item.Post
 run-item-returns-4 t c = absurd (no-other _ ((c .before .before .before .before .before .args .item)) refl (c .before .before .before .before .before .pre .1 .1 .1 .1 .0) (c .before .match .keys3))

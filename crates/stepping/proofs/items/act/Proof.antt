@@ -1,9 +1,9 @@
 -- A directive that holds no clause acts as 01 has it. Assumes nothing.
-use Rattle.stepping.proofs.ItemLaws.{alone-none, alone-acts, alone-escape, only-escape}
-use Rattle.running.proofs.Places.{writes-at, jump-at}
-use Rattle.rules.specs.declared.Code.{Code}
+use Rattle.stepping.proofs.ItemLaws.{alone-none, acts-begun, escape-begun, only-escape}
+use Rattle.running.specs.Runs.{AloneAt}
 use Rattle.stepping.specs.Stepping.{ActsAlone}
-use mathlib.Core.Path.{_≡_, refl, subst}
+use Rattle.rules.specs.Table.{viewOf}
+use mathlib.Core.Path.{refl, subst}
 use borrow.Author.Needs.{needs}
 use Rattle.stepping.proofs.items.act.Statement.{statement}
 use Rattle.stepping.proofs.items.act.Tie as tie
@@ -14,7 +14,7 @@ refuse-requires c κs = search needs
 returns : tie.Need-returns
 returns c =
     let a = (c .before .before .before .before .args) in
-    λ t level e. alone-none t (Rattle.rules.specs.Table.viewOf (a .table .now)) (a .hand .first .0) (a .hand .count) level (a .p) (a .next .0) (a .left) (a .at) (a .out .now) _ (a .d) e (c .before .before .before .before .pre .0) (c .before .if1 .taken) (c .refuse .ensures) (c .before .before .before .before .pre .1 .1 .1) (c .before .before .before .before .pre .1 .1 .0)
+    λ s n level here e _. alone-none s n (viewOf (a .table .now)) (a .hand .first .0) (a .hand .count) level here (a .next .0) (a .left) (a .at) (a .out .now) (a .p) (a .d) (c .before .before .before .before .pre .0) e _ (c .before .if1 .taken) (c .refuse .ensures) (c .before .before .before .before .pre .1 .1 .1) (c .before .before .before .before .pre .1 .1 .0)
 
 sub-t15 : tie.Need-sub-t15
 sub-t15 c = search needs
@@ -42,17 +42,17 @@ same-length c = search needs
 returns-2 : tie.Need-returns-2
 returns-2 c =
     let a = (c .before .before .before .before .before .before .before .before .before .before .args) in
-    λ t level e. alone-acts t (Rattle.rules.specs.Table.viewOf (a .table .now)) (a .hand .first .0) (a .hand .count) level (a .p) (a .next .0) (a .left) (a .at) (a .out .now) _ (a .d) e (c .before .before .before .before .before .before .before .if1 .left) _ (writes-at t (a .p) (a .d) e _ (c .before .before .before .before .before .code .given .1)) refl (c .before .before .act-form .ensures)
+    λ s n level here e h. acts-begun s n (viewOf (a .table .now)) (a .hand .first .0) (a .hand .count) level here (a .next .0) (a .left) (a .at) (a .out .now) (c .before .before .before .before .before .before .before .if1 .left) h (subst (AloneAt s here (a .p) (a .d)) (c .before .before .before .before .before .code .given .1) e) _ refl (c .before .before .act-form .ensures)
 
 returns-3 : tie.Need-returns-3
 returns-3 c =
     let a = (c .before .before .before .before .before .before .args) in
-    λ t level e. alone-acts t (Rattle.rules.specs.Table.viewOf (a .table .now)) (a .hand .first .0) (a .hand .count) level (a .p) (a .next .0) (a .left) (a .at) (a .out .now) _ (a .d) e (c .before .before .before .if1 .left) _ (jump-at t (a .p) (a .d) e (c .before .enum-told .given .1)) refl ((c .act-jump .ensures) (a .out .now) (c .before .before .before .before .before .before .pre .1 .1 .1))
+    λ s n level here e h. acts-begun s n (viewOf (a .table .now)) (a .hand .first .0) (a .hand .count) level here (a .next .0) (a .left) (a .at) (a .out .now) (c .before .before .before .if1 .left) h (subst (AloneAt s here (a .p) (a .d)) (c .before .enum-told .given .1) e) _ refl ((c .act-jump .ensures) (a .out .now) (c .before .before .before .before .before .before .pre .1 .1 .1))
 
 returns-4 : tie.Need-returns-4
 returns-4 c =
     let a = (c .before .before .before .before .before .args) in
-    λ t level e. alone-escape t (Rattle.rules.specs.Table.viewOf (a .table .now)) (a .hand .first .0) (a .hand .count) level (a .p) (a .next .0) (a .left) (a .at) (a .out .now) _ (a .d) e (c .before .before .if1 .left) (only-escape _ (a .d .code) refl (c .before .before .before .before .before .pre .0) (c .before .match .keys3)) (c .escape .ensures) (c .before .before .before .before .before .pre .1 .1 .1) (c .before .before .before .before .before .pre .1 .1 .0)
+    λ s n level here e h. escape-begun s n (viewOf (a .table .now)) (a .hand .first .0) (a .hand .count) level here (a .next .0) (a .left) (a .at) (a .out .now) (c .before .before .if1 .left) h (subst (AloneAt s here (a .p) (a .d)) (only-escape _ (a .d .code) refl (c .before .before .before .before .before .pre .0) (c .before .match .keys3)) e) (c .escape .ensures) (c .before .before .before .before .before .pre .1 .1 .1) (c .before .before .before .before .before .pre .1 .1 .0)
 
 pub act-spec : {M : Type 1} → statement M
 act-spec =

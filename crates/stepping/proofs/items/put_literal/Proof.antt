@@ -1,5 +1,5 @@
 -- A literal run is written whole or refused. Assumes nothing.
-use Rattle.stepping.proofs.ItemLaws.{literal-none, literal-no-room, literal-put}
+use Rattle.stepping.proofs.ItemLaws.{acts-none, literal-no-room, literal-put}
 use borrow.Author.Needs.{needs}
 use Rattle.stepping.proofs.items.put_literal.Statement.{statement}
 use Rattle.stepping.proofs.items.put_literal.Tie as tie
@@ -13,7 +13,7 @@ refuse-requires c κs = search needs
 returns : tie.Need-returns
 returns c =
     let a = (c .before .before .before .args) in
-    λ t v level e. literal-none t v (a .hand .first .0) (a .hand .count) level (a .p) (a .byte) (a .next .0) (a .left) (a .at) (a .out .now) _ e (c .before .if1 .taken) (c .refuse .ensures) (c .before .before .before .pre .1 .0) (c .before .before .before .pre .0)
+    λ s n v level here e _. acts-none s n v (a .hand .first .0) (a .hand .count) level here (a .next .0) (a .left) (a .at) (a .out .now) e _ (c .before .if1 .taken) (c .refuse .ensures) (c .before .before .before .pre .1 .0) (c .before .before .before .pre .0)
 
 sub-if2 : tie.Need-sub-if2
 sub-if2 c = search needs
@@ -24,7 +24,7 @@ refuse-requires-2 c κs = search needs
 returns-2 : tie.Need-returns-2
 returns-2 c =
     let a = (c .before .before .before .before .args) in
-    λ t v level e. literal-no-room t v (a .hand .first .0) (a .hand .count) level (a .p) (a .byte) (a .next .0) (a .left) (a .at) (a .out .now) _ e (c .before .before .if1 .left) (c .before .if2 .taken) (c .refuse2 .ensures) (c .before .before .before .before .pre .1 .0) (c .before .before .before .before .pre .0)
+    λ s n v level here e h. literal-no-room s n v (a .hand .first .0) (a .hand .count) level here (a .next .0) (a .left) (a .at) (a .out .now) (c .before .before .if1 .left) h (a .byte) e _ (c .before .if2 .taken) (c .refuse2 .ensures) (c .before .before .before .before .pre .1 .0) (c .before .before .before .before .pre .0)
 
 slice-write-out : tie.Need-slice-write-out
 slice-write-out c = search needs
@@ -41,7 +41,7 @@ same-length c = search needs
 returns-3 : tie.Need-returns-3
 returns-3 c =
     let a = (c .before .before .before .before .args) in
-    λ t v level e. literal-put t v (a .hand .first .0) (a .hand .count) level (a .p) (a .byte) (a .next .0) (a .left) (a .at) (a .out .now) _ e (c .before .before .if1 .left) (c .before .if2 .left) (c .go-on .ensures) (c .before .before .before .before .pre .0)
+    λ s n v level here e h. literal-put s n v (a .hand .first .0) (a .hand .count) level here (a .next .0) (a .left) (a .at) (a .out .now) (c .before .before .if1 .left) h (a .byte) e _ (c .before .if2 .left) (c .go-on .ensures) (c .before .before .before .before .pre .0)
 
 pub put-literal-spec : {M : Type 1} → statement M
 put-literal-spec =

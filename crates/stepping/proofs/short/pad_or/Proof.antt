@@ -1,5 +1,4 @@
 -- `pad_or` meets its contract. Assumes nothing.
-use borrow.Author.Needs.{needs}
 use native.Mathlib.Omega.{arith}
 use borrow.Author.Tests.{eq-eqb, ne-eqb}
 use Rattle.stepping.proofs.short.pad_or.Statement.{statement}

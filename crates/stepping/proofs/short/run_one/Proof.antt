@@ -7,6 +7,7 @@ use Rattle.rules.specs.Table.{viewOf}
 use Rattle.rules.specs.Text.{levelsAt}
 use Rattle.reader.specs.Shorts.{ShortAt}
 use Rattle.rules.proofs.Bases.{code-right}
+use Rattle.running.proofs.Places.{writes-at, directive-ahead}
 use Rattle.running.proofs.Strides.{strides, strides-none}
 use Rattle.stepping.proofs.short.run_one.Statement.{statement}
 use Rattle.stepping.proofs.short.run_one.Tie as tie
@@ -37,14 +38,20 @@ same-length : tie.Need-same-length
 same-length c =
     let a = (c .before .before .before .before .before .before .before .before .before .before .before .args) in
     let u = subst (ShortAt (a .text .now) (a .p)) (c .before .before .before .before .before .short .given .1) (c .before .before .before .before .before .before .before .read-short .ensures .means) in
-    ((c .before .before .act-short .ensures) (a .text .now) 0 u) .does .size
+    let one = (c .before .before .act-short .ensures) (levelsAt (a .text .now)) (length (a .text .now)) in
+    let here = writes-at (a .text .now) (a .p) _ (u .item) _ refl in
+    let on = directive-ahead (a .text .now) (a .p) _ (u .item) in
+    (one 0 (a .p) here on) .does .size
 
 returns-2 : tie.Need-returns-2
 returns-2 c =
     let a = (c .before .before .before .before .before .before .before .before .before .before .before .args) in
-    let u = subst (ShortAt (a .text .now) (a .p)) (c .before .before .before .before .before .short .given .1) (c .before .before .before .before .before .before .before .read-short .ensures .means) in (
-      λ level. strides (levelsAt (a .text .now)) (length (a .text .now)) (viewOf (a .table .now)) (a .hand .first .0) (a .hand .count) level (a .p) (a .next .0) (a .left) (a .at) (a .out .now) ((c .before .before .act-short .ensures) (a .text .now) level u),
-      λ h q. absurd (omega (arith, q, ((c .before .before .act-short .ensures) (a .text .now) 0 u) .least h)),
+    let u = subst (ShortAt (a .text .now) (a .p)) (c .before .before .before .before .before .short .given .1) (c .before .before .before .before .before .before .before .read-short .ensures .means) in
+    let one = (c .before .before .act-short .ensures) (levelsAt (a .text .now)) (length (a .text .now)) in
+    let here = writes-at (a .text .now) (a .p) _ (u .item) _ refl in
+    let on = directive-ahead (a .text .now) (a .p) _ (u .item) in (
+      λ level. strides (levelsAt (a .text .now)) (length (a .text .now)) (viewOf (a .table .now)) (a .hand .first .0) (a .hand .count) level (a .p) (a .next .0) (a .left) (a .at) (a .out .now) (one level (a .p) here on),
+      λ h q. absurd (omega (arith, q, (one 0 (a .p) here on) .least h)),
     )
 
 pub run-one-spec : {M : Type 1} → statement M

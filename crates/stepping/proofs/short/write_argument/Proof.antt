@@ -2,7 +2,7 @@
 use mir.ValLaws.{toZ-ofZ}
 use mir.Syntax.{w64}
 use borrow.Author.Needs.{needs}
-use Rattle.reader.specs.Shorts.{settingOf, shortForm}
+use Rattle.reader.specs.Shorts.{settingOf}
 use Rattle.working.specs.Settling.{handAt}
 use Rattle.acting.proofs.ActLaws.{performed-refused}
 use Rattle.rules.specs.Table.{viewOf}

@@ -1,6 +1,5 @@
 -- `write_piece` meets its contract: the settings and the form are those that were read. Assumes nothing.
 use Rattle.reader.specs.Shorts.{settingOf, shortForm}
-use mathlib.Core.Path.{refl}
 use borrow.Author.Needs.{needs}
 use Rattle.working.specs.Settling.{handAt}
 use Rattle.rules.specs.Table.{viewOf}
