@@ -1,4 +1,2 @@
-pub mod ShortRuns
-pub mod ItemLaws
 pub mod RunnerLaws
 pub mod WholeLaws

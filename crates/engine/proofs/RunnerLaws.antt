@@ -36,7 +36,7 @@ use Rattle.running.specs.Runs.{EndsAt, After, restAt, Runs, Steps, Strides, Blo
 use Rattle.blocks.specs.Clauses.{InsideAt}
 use Rattle.blocks.specs.Parts.{endsSequence, endsAt, opensBlock, iterates, outsideOf, OverIn}
 use Rattle.blocks.specs.declared.passes.Over.the-variants.{Is as OverIs}
-use Rattle.engine.specs.Running.{isEnded, ActsAlone}
+use Rattle.stepping.specs.Stepping.{isEnded, ActsAlone}
 use Rattle.running.proofs.Arms.{runs-end, steps-deep, steps-block-none, steps-block}
 use Rattle.running.proofs.BlockArms.{chooses-run, iterates-run, blocks-refused, blocks-same, blocks-list, passes-none, passes-on}
 use Rattle.running.proofs.Strides.{strides-runs-left, strides-runs-refused}
@@ -44,14 +44,6 @@ use Rattle.running.proofs.Places.{end-at, bad-at, unfinished-at, separator-at, 
 
 pub not-both : {b : Bool} → b ≡ true → b ≡ false → ⊥
 not-both p q = let z : _≡_ {A = ℕ} 0 1 = cc in omega arith
-
--- what a loop of a runner knows at its head: whatever ends from here is the whole
-pub record Onto (Run : ℕ → ℕ → ℕ → List ℕ → List ℕ → Ran → Type 0) (Whole : List ℕ → Ran → Type 0) (most count : ℕ) (b₀ : List ℕ) (i left at : ℕ) (b : List ℕ) : Type 0 where
-  pub ends : (e : List ℕ) (r : Ran) → Run i left at b e r → Whole e r
-  pub size : length b ≡ length b₀
-  pub fits : at ≤ length b
-  pub falls : left ≤ most
-  pub inside : i ≤ count
 
 -- an item that ends its sequence
 module _ (t : List ℕ) (p : ℕ) where
@@ -88,11 +80,6 @@ module _ (t : List ℕ) (p : ℕ) where
   literal-inside {x} {b} e q = stands t p (Literal b) (e ∙ q)
 
 -- how a run over any number of items stopped
-pub is-ended : (x : Stop) → isEnded x ≡ true → x ≡ Ended
-is-ended Ended h = refl
-is-ended Left h = absurd (not-both h refl)
-is-ended (Refused code p) h = absurd (not-both h refl)
-
 pub ended-as : (r : Ran) → r .stop ≡ Ended → r ≡ endedRan (r .next .0) (r .left) (r .at) (r .place)
 ended-as r q = ap (λ (x : Stop). record { stop = x; next = r .next; left = r .left; at = r .at; place = r .place }) q
 

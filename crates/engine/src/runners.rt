@@ -1,10 +1,6 @@
 // The runners. The runner of a sequence calls the runners of blocks and is called by them: the levels left for blocks
 // fall at each block, and the text or the steps that are left fall in each turn of a loop. All of them have the landmarks
 // of the text, if it has any.
-use crate::items::act;
-use crate::items::is_ended;
-use crate::items::put_literal;
-use crate::short::run_short;
 use acting::state::Ran;
 use acting::state::Spot;
 use acting::state::Stop;
@@ -28,6 +24,10 @@ use rules::Directive;
 use rules::Item;
 use rules::Setting;
 use rules::Settings;
+use stepping::items::act;
+use stepping::items::is_ended;
+use stepping::items::put_literal;
+use stepping::short::run_short;
 use working::Hand;
 use working::SettledOut;
 use working::settle_directive;

@@ -2,6 +2,7 @@
 use Prim.Native.Nat.{ℕ, _+_}
 use mathlib.Core.Path.{_≡_, refl, sym, ap, _∙_}
 use mathlib.Core.List.{List, [], _∷_}
+use native.Mathlib.Omega.{arith}
 use lib.ListN.{length}
 use Rattle.rules.specs.Directive.{itemAt}
 use Rattle.rules.specs.Text.{end, levelsAt, innermost, Level}
@@ -12,12 +13,15 @@ use Rattle.rules.specs.declared.Code.the-variants.{Writes, Jump, Escape, Opens,
 use Rattle.rules.specs.declared.Directive.{Directive}
 use Rattle.rules.specs.declared.Form.{Form}
 use Rattle.rules.specs.declared.Item.the-variants.{End, Literal, Written, BadNumber, Unfinished}
-use Rattle.rules.proofs.TextLaws.{levels-end, levels-literal, levels-bad, levels-unfinished, levels-writes, levels-jump, levels-escape, levels-iteration, levels-conditional, levels-separator, levels-closer, levels-unknown}
-use Rattle.running.specs.Runs.{ActsAt, EscapesAt, IteratesAt, ChoosesAt, restAt}
+use Rattle.rules.proofs.TextLaws.{levels-end, levels-literal, levels-bad, levels-unfinished, levels-writes, levels-jump, levels-escape, levels-iteration, levels-conditional, levels-separator, levels-closer, levels-unknown, next-inside, stands}
+use Rattle.running.specs.Runs.{ActsAt, EscapesAt, AloneAt, IteratesAt, ChoosesAt, Ahead, restAt}
 
 module _ (t : List ℕ) (p : ℕ) where
   pub literal-at : (b : ℕ) → itemAt t p ≡ Literal b → ActsAt (levelsAt t) p p (Literal b) (p + 1)
   literal-at b e = record { is = levels-literal t p b e }
+
+  pub literal-ahead : (b : ℕ) → itemAt t p ≡ Literal b → Ahead (length t) p (p + 1)
+  literal-ahead b e = let h = stands t p (Literal b) e in record { least = omega arith; most = omega (arith, h) }
 
   rest-of : {y : List Level} → levelsAt t p ≡ y → innermost y .rest ≡ end → restAt (levelsAt t) p ≡ end
   rest-of e q = ap (λ (x : List Level). innermost x .rest) e ∙ q
@@ -40,6 +44,18 @@ module _ (t : List ℕ) (p : ℕ) where
 
     pub escape-at : d .code ≡ Escape → EscapesAt (levelsAt t) p p (d .next)
     escape-at q = record { is = levels-escape t p d e q }
+
+    pub alone-at : (c : Code) → d .code ≡ c → AloneAt (levelsAt t) p p d c
+    alone-at (Writes f) q = writes-at f q
+    alone-at Jump q = jump-at q
+    alone-at Escape q = escape-at q
+    alone-at (Opens b) q = tt
+    alone-at Separator q = tt
+    alone-at (Closes b) q = tt
+    alone-at Unknown q = tt
+
+    pub directive-ahead : Ahead (length t) p (d .next)
+    directive-ahead = let w = next-inside t p d e in record { least = omega (arith, w .above); most = w .most }
 
     pub iteration-at : d .code ≡ Opens Iteration → IteratesAt (levelsAt t) p p d (d .next)
     iteration-at q = record { is = levels-iteration t p d e q }

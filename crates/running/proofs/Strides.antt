@@ -75,3 +75,11 @@ module _ (s : ℕ → List Level) (n : ℕ) (v : View) (first count level p i le
 
     pub runs-refused : (code x : ℕ) → r .stop ≡ Refused code x → Runs s n v (hand first count) level p i left at b e r
     runs-refused code x q = strides-runs-refused (strides u) code x q
+
+-- what a loop of a runner knows at its head: whatever ends from here is the whole
+pub record Onto (Run : ℕ → ℕ → ℕ → List ℕ → List ℕ → Ran → Type 0) (Whole : List ℕ → Ran → Type 0) (most count : ℕ) (b₀ : List ℕ) (i left at : ℕ) (b : List ℕ) : Type 0 where
+  pub ends : (e : List ℕ) (r : Ran) → Run i left at b e r → Whole e r
+  pub size : length b ≡ length b₀
+  pub fits : at ≤ length b
+  pub falls : left ≤ most
+  pub inside : i ≤ count

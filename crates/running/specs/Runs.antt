@@ -2,14 +2,17 @@
 use mathlib.Core.Path.{_≡_}
 use mathlib.Core.List.{List, _∷_}
 use mathlib.Core.Bool.{Bool, true, false}
-use Prim.Native.Nat.{ℕ, _≤_, _+_}
+use Prim.Native.Nat.{ℕ, _<_, _≤_, _+_}
 use lib.ListN.{length}
 use Rattle.rules.specs.Table.{View}
 use Rattle.rules.specs.Text.{Sequence, end, acts, escapes, iterates, chooses, Level, innermost, outer, before, asClauses, deepest}
 use Rattle.rules.specs.Working.{Context}
 use Rattle.rules.specs.Run.{Flow, Frame, iteration, conditional, Outside, other, afterwards, withSettings, withArgument, overList, pick, enter, leave, run}
+use Rattle.rules.specs.declared.Code.{Code}
+use Rattle.rules.specs.declared.Code.the-variants.{Writes, Jump, Escape, Opens, Separator, Closes, Unknown}
 use Rattle.rules.specs.declared.Directive.{Directive}
 use Rattle.rules.specs.declared.Item.{Item}
+use Rattle.rules.specs.declared.Item.the-variants.{Written}
 use Rattle.rules.specs.declared.Setting.{Setting}
 use Rattle.rules.specs.declared.Settings.{Settings}
 use Rattle.acting.specs.declared.state.Stop.the-variants.{Ended}
@@ -25,11 +28,26 @@ pub record ActsAt (s : ℕ → List Level) (p x : ℕ) (i : Item) (q : ℕ) : Ty
 pub record EscapesAt (s : ℕ → List Level) (p x q : ℕ) : Type 0 where
   pub is : s p ≡ before (escapes x) (s q)
 
+-- a directive d that acts or escapes, by its code; of the other codes nothing is said
+abbrev pub AloneAt : (ℕ → List Level) → ℕ → ℕ → Directive → Code → Type 0
+AloneAt s p x d (Writes f) = ActsAt s p x (Written d) (d .next)
+AloneAt s p x d Jump = ActsAt s p x (Written d) (d .next)
+AloneAt s p x d Escape = EscapesAt s p x (d .next)
+AloneAt s p x d (Opens b) = Unit {0}
+AloneAt s p x d Separator = Unit {0}
+AloneAt s p x d (Closes b) = Unit {0}
+AloneAt s p x d Unknown = Unit {0}
+
 pub record IteratesAt (s : ℕ → List Level) (p x : ℕ) (d : Directive) (q : ℕ) : Type 0 where
   pub is : s p ≡ before (iterates x d (innermost (s q) .rest)) (outer (s q))
 
 pub record ChoosesAt (s : ℕ → List Level) (p x : ℕ) (d : Directive) (q : ℕ) : Type 0 where
   pub is : s p ≡ before (chooses x d (asClauses false (s q))) (outer (s q))
+
+-- the place q is behind the place p, of n
+pub record Ahead (n p q : ℕ) : Type 0 where
+  pub least : p < q
+  pub most : q ≤ n
 
 -- the sequence that is open at p ends at the place q, of n
 pub record EndsAt (s : ℕ → List Level) (n p q : ℕ) : Type 0 where

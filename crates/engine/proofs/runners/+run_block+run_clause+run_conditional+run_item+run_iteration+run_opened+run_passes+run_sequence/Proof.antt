@@ -24,10 +24,12 @@ use Rattle.blocks.specs.declared.passes.Over.{Over}
 use Rattle.acting.specs.declared.state.Ran.{Ran}
 use Rattle.running.specs.Runs.{Runs, Steps, Blocks, Passes, restAt, picking, entering, inside, opening}
 use Rattle.acting.proofs.ActLaws.{settings-ill, argument-there, argument-none}
-use Rattle.running.proofs.Strides.{strides-runs-on, runs-on, runs-left, runs-refused}
+use Rattle.stepping.proofs.ItemLaws.{is-ended}
+use Rattle.running.proofs.Places.{literal-at, literal-ahead, alone-at, directive-ahead}
+use Rattle.running.proofs.Strides.{Onto, strides-runs-on, runs-on, runs-left, runs-refused}
 use Rattle.rules.proofs.Bases.{code-right}
 use Rattle.running.proofs.BlockArms.{passes-over, passes-none, passes-on, passes-left, passes-refused, blocks-nothing, blocks-clause, blocks-clause-left, blocks-clause-refused, blocks-same, blocks-list, blocks-as}
-use Rattle.engine.proofs.RunnerLaws.{Onto, is-ended, ended-as, runs-stopped, sequence-ends, sequence-closes, literal-inside, no-other, acts-alone, block-deep, block-none, block-opens, blocks-told, closes-after, ends-inside, inside-start, over-blocks, over-hand, passes-none-told, passes-on-told}
+use Rattle.engine.proofs.RunnerLaws.{ended-as, runs-stopped, sequence-ends, sequence-closes, literal-inside, no-other, acts-alone, block-deep, block-none, block-opens, blocks-told, closes-after, ends-inside, inside-start, over-blocks, over-hand, passes-none-told, passes-on-told}
 use Rattle.rules.proofs.RunLaws.{choose-yes, choose-no}
 use Rattle.rules.proofs.TextLaws.{next-inside}
 use Prim.Native.Nat.{ℕ, _+_, _-_, _*_, _<_, _≤_}
@@ -58,7 +60,7 @@ use Rattle.engine.proofs.runners.run_sequence.Reads as run-sequence
 use Rattle.engine.proofs.runners.run_sequence.Kinds as run-sequence-kinds
 use Rattle.engine.proofs.runners.+run_block+run_clause+run_conditional+run_item+run_iteration+run_opened+run_passes+run_sequence.Lts-run_sequence as run-sequence-lts
 use Rattle.blocks.proofs.clauses.choose_clause.Reads as choose-clause-reads
-use Rattle.engine.proofs.items.act.Reads as act-reads
+use Rattle.stepping.proofs.items.act.Reads as act-reads
 use Rattle.blocks.proofs.clauses.block_end.Reads as block-end-reads
 use Rattle.blocks.proofs.ends.ends_here.Reads as ends-here-reads
 use Rattle.blocks.proofs.ends.is_iteration.Reads as is-iteration-reads
@@ -67,10 +69,10 @@ use Rattle.blocks.proofs.passes.go_over.Reads as go-over-reads
 use Rattle.blocks.proofs.passes.next_after.Reads as next-after-reads
 use Rattle.blocks.proofs.passes.one_less.Reads as one-less-reads
 use Rattle.blocks.proofs.ends.opens_block.Reads as opens-block-reads
-use Rattle.engine.proofs.items.put_literal.Reads as put-literal-reads
+use Rattle.stepping.proofs.items.put_literal.Reads as put-literal-reads
 use Rattle.engine.proofs.runners.end_block.Reads as end-block-reads
-use Rattle.engine.proofs.short.run_short.Reads as run-short-reads
-use Rattle.engine.proofs.items.is_ended.Reads as is-ended-reads
+use Rattle.stepping.proofs.short.run_short.Reads as run-short-reads
+use Rattle.stepping.proofs.items.is_ended.Reads as is-ended-reads
 use Rattle.acting.proofs.state.refuse.Reads as refuse-reads
 use Rattle.reader.proofs.directive.item_at.Reads as item-at-reads
 use Rattle.reader.proofs.marks.closes_at.Reads as closes-at-reads
@@ -358,16 +360,16 @@ run-item-refuse-requires : (t : ℕ) → run-item-lts.Need-refuse-requires (run-
 run-item-refuse-requires t c κs = search needs
 
 run-item-same-length-2 : (t : ℕ) → run-item-lts.Need-same-length-2 (run-item-claims t) (run-item-at t) run-item.Post
-run-item-same-length-2 t c = let a = (c .before .before .before .before .before .before .before .before .before .before .before .args) in (c .before .before .put-literal .ensures) (a .text .now) (viewOf (a .table .now)) (a .level) ((c .before .before .before .before .before .before .before .before .before .before .before .pre .1 .1 .1 .1 .0) ∙ (c .before .before .before .before .before .item .given .1)) .does .size
+run-item-same-length-2 t c = let a = (c .before .before .before .before .before .before .before .before .before .before .before .args) in let e = (c .before .before .before .before .before .before .before .before .before .before .before .pre .1 .1 .1 .1 .0) ∙ (c .before .before .before .before .before .item .given .1) in (c .before .before .put-literal .ensures) (levelsAt (a .text .now)) (length (a .text .now)) (viewOf (a .table .now)) (a .level) (a .p) (literal-at (a .text .now) (a .p) _ e) (literal-ahead (a .text .now) (a .p) _ e) .does .size
 
 run-item-returns-2 : (t : ℕ) → run-item-lts.Need-returns-2 (run-item-claims t) (run-item-at t) run-item.Post
-run-item-returns-2 t c = let a = (c .before .before .before .before .before .before .before .before .before .before .before .args) in (c .before .before .put-literal .ensures) (a .text .now) (viewOf (a .table .now)) (a .level) ((c .before .before .before .before .before .before .before .before .before .before .before .pre .1 .1 .1 .1 .0) ∙ (c .before .before .before .before .before .item .given .1))
+run-item-returns-2 t c = let a = (c .before .before .before .before .before .before .before .before .before .before .before .args) in let e = (c .before .before .before .before .before .before .before .before .before .before .before .pre .1 .1 .1 .1 .0) ∙ (c .before .before .before .before .before .item .given .1) in (c .before .before .put-literal .ensures) (levelsAt (a .text .now)) (length (a .text .now)) (viewOf (a .table .now)) (a .level) (a .p) (literal-at (a .text .now) (a .p) _ e) (literal-ahead (a .text .now) (a .p) _ e)
 
 run-item-same-length-3 : (t : ℕ) → run-item-lts.Need-same-length-3 (run-item-claims t) (run-item-at t) run-item.Post
-run-item-same-length-3 t c = let a = (c .before .before .before .before .before .before .before .before .before .before .before .before .before .args) in (c .before .before .act .ensures) (a .text .now) (a .level) ((c .before .before .before .before .before .before .before .before .before .before .before .before .before .pre .1 .1 .1 .1 .0) ∙ (c .before .before .before .before .before .before .before .item2 .given .1)) .does .size
+run-item-same-length-3 t c = let a = (c .before .before .before .before .before .before .before .before .before .before .before .before .before .args) in let e = (c .before .before .before .before .before .before .before .before .before .before .before .before .before .pre .1 .1 .1 .1 .0) ∙ (c .before .before .before .before .before .before .before .item2 .given .1) in (c .before .before .act .ensures) (levelsAt (a .text .now)) (length (a .text .now)) (a .level) (a .p) (alone-at (a .text .now) (a .p) _ e _ refl) (directive-ahead (a .text .now) (a .p) _ e) .does .size
 
 run-item-returns-3 : (t : ℕ) → run-item-lts.Need-returns-3 (run-item-claims t) (run-item-at t) run-item.Post
-run-item-returns-3 t c = let a = (c .before .before .before .before .before .before .before .before .before .before .before .before .before .args) in (c .before .before .act .ensures) (a .text .now) (a .level) ((c .before .before .before .before .before .before .before .before .before .before .before .before .before .pre .1 .1 .1 .1 .0) ∙ (c .before .before .before .before .before .before .before .item2 .given .1))
+run-item-returns-3 t c = let a = (c .before .before .before .before .before .before .before .before .before .before .before .before .before .args) in let e = (c .before .before .before .before .before .before .before .before .before .before .before .before .before .pre .1 .1 .1 .1 .0) ∙ (c .before .before .before .before .before .before .before .item2 .given .1) in (c .before .before .act .ensures) (levelsAt (a .text .now)) (length (a .text .now)) (a .level) (a .p) (alone-at (a .text .now) (a .p) _ e _ refl) (directive-ahead (a .text .now) (a .p) _ e)
 
 run-item-returns-4 : (t : ℕ) → run-item-lts.Need-returns-4 (run-item-claims t) (run-item-at t) run-item.Post
 run-item-returns-4 t c = absurd (no-other _ ((c .before .before .before .before .before .before .args .item)) refl (c .before .before .before .before .before .before .pre .1 .1 .1 .1 .1 .0) (c .before .match .keys3))

@@ -1,0 +1,145 @@
+-- A short directive does what the definition has it do, with the settings that are read. Assumes nothing.
+use Prim.Native.Nat.{ℕ, _-_, _<_, _≤_}
+use mathlib.Core.Path.{_≡_, refl, ap, subst, _∙_}
+use mathlib.Core.Bool.{true, false}
+use mathlib.Core.List.{List}
+use native.Mathlib.Decide.{ℕ-discrete as decEq}
+use native.Mathlib.Omega.{arith}
+use borrow.Author.Tests.{le-ltb, eq-eqb, ne-eqb, eqb-true}
+use lib.Dec.{eqb}
+use Rattle.rules.specs.Choice.{both}
+use Rattle.rules.specs.Directive.{number, character, formPlaces, inOrder}
+use Rattle.rules.specs.Table.{View}
+use Rattle.rules.specs.Text.{Level}
+use Rattle.rules.specs.Working.{Context, workOut, settle, Source, own, sourceOf}
+use Rattle.rules.specs.Run.{Flow, refused, onSettled, writeFrom}
+use Rattle.rules.specs.declared.Directive.{Directive}
+use Rattle.rules.specs.declared.Form.{Form}
+use Rattle.rules.specs.declared.Form.the-variants.{Object, Numeral, Glyph, Plural, Repeat, Fold}
+use Rattle.rules.specs.declared.Item.the-variants.{Written}
+use Rattle.rules.specs.declared.Setting.{Setting}
+use Rattle.rules.specs.declared.Setting.the-variants.{Absent, Is}
+use Rattle.rules.specs.declared.Settings.{Settings}
+use Rattle.rules.proofs.RunLaws.{choose-no}
+use Rattle.rules.proofs.Tests.{both-true}
+use Rattle.reader.specs.Shorts.{settingOf, shortForm, shortParameters, shortDirective, NumberIn, CharacterIn, NoneIn, ShortIn}
+use Rattle.reader.proofs.ShortLaws.{short-well}
+use Rattle.working.specs.Settling.{InPlace, InRange}
+use Rattle.pieces.specs.Given.{Worked}
+use Rattle.acting.specs.declared.state.Ran.{Ran}
+use Rattle.acting.specs.declared.state.Spot.{Spot}
+use Rattle.rules.specs.Directive.{FormRight}
+use Rattle.acting.specs.Acting.{Performed}
+use Rattle.acting.specs.Ran.{hand}
+use Rattle.acting.proofs.ActLaws.{performed-as, acts-writes, settings-well, write-anywhere}
+use Rattle.acting.proofs.Sources.{worked-in}
+use Rattle.running.specs.Runs.{ActsAt, Ahead, Steps}
+use Rattle.stepping.specs.Stepping.{shortSettings}
+use Rattle.stepping.proofs.ItemLaws.{acts-begun}
+
+in-number : (x : Setting) → NumberIn x → InPlace (number 0 4096) x
+in-number Absent h = tt
+in-number (Is n) h = (omega arith, h)
+
+in-character : (y : Setting) → CharacterIn y → InPlace character y
+in-character Absent h = tt
+in-character (Is c) h = h
+
+in-range : (f : Form) (x y : Setting) → ShortIn f x y → InRange (formPlaces f) (shortSettings x y)
+in-range (Object q) x Absent s = record { first = in-number x (s .0); second = tt; third = tt; fourth = tt }
+in-range (Object q) x (Is c) s = absurd (s .1)
+in-range (Numeral base) x y s = record { first = in-number x (s .0); second = in-character y (s .1); third = tt; fourth = tt }
+in-range Glyph x y s = absurd s
+in-range Plural x y s = absurd s
+in-range (Repeat b) x Absent s = record { first = in-number x (s .0); second = tt; third = tt; fourth = tt }
+in-range (Repeat b) x (Is c) s = absurd (s .1)
+in-range Fold x y s = absurd s
+
+pub short-worked : (f : Form) (x y a c : Setting) (g : Form) → a ≡ x → c ≡ y → g ≡ f → FormRight f → ShortIn f x y → Worked g (shortSettings a c)
+short-worked f x y a c g q w k b s = rw (q, w, k) (worked-in f (shortSettings x y) b (in-range f x y s))
+
+settled : (v : View) (c : Context) (f : Form) (x y : Setting) (p m : ℕ) (on : Settings → ℕ → Flow) → ShortIn f x y
+    → onSettled p m (settle v c (formPlaces f) (inOrder (shortParameters x y)) (c .next)) on ≡ on (shortSettings x y) (c .next)
+unfolding settle workOut
+settled v c (Object q) Absent Absent p m on s = refl
+settled v c (Object q) (Is n) Absent p m on s = refl
+settled v c (Object q) x (Is k) p m on s = absurd (s .1)
+settled v c (Numeral base) Absent Absent p m on s = refl
+settled v c (Numeral base) (Is n) Absent p m on s = refl
+settled v c (Numeral base) Absent (Is k) p m on s = refl
+settled v c (Numeral base) (Is n) (Is k) p m on s = refl
+settled v c Glyph x y p m on s = absurd s
+settled v c Plural x y p m on s = absurd s
+settled v c (Repeat b) Absent Absent p m on s = refl
+settled v c (Repeat b) (Is n) Absent p m on s = refl
+settled v c (Repeat b) x (Is k) p m on s = absurd (s .1)
+settled v c Fold x y p m on s = absurd s
+
+-- a short directive, once it is begun, at the place `here` of whatever gives the sequences
+pub short-begun : (s : ℕ → List Level) (n : ℕ) (v : View) (first count level here i left at : ℕ) (b : List ℕ) (f : Form) (x y : Setting) {p place : ℕ} → ShortIn f x y
+    → ActsAt s here p (Written (shortDirective f x y place)) place → Ahead n here place → (left ≡ 0 → ⊥)
+    → {b₂ : List ℕ} {r : Ran} (spot : Spot) → spot ≡ record { position = p; place = place; left = left - 1; at = at }
+    → ((d : Directive) → d .colon ≡ false → d .at ≡ false
+    → Performed (λ on. writeFrom v (spot .position) (spot .left) f d (hand first count 0) (shortSettings x y) i on (sourceOf f false (shortSettings x y))) count spot b b₂ r)
+    → Steps s n v (hand first count) level here i left at b b₂ r
+short-begun s n v first count level here i left at b f x y {p} {place} u a h z spot o w =
+    let d : Directive = shortDirective f x y place in
+    acts-begun s n v first count level here i left at b z h a spot o
+    (performed-as _
+    (λ on. acts-writes v (spot .position) (spot .left) d (hand first count i) on f refl
+    ∙ settings-well v (spot .position) (spot .left) d (hand first count i) _ (short-well f x y place u)
+    ∙ settled v (hand first count i) f x y (spot .position) (spot .left) _ u
+    ∙ write-anywhere v (spot .position) (spot .left) f d first count i (shortSettings x y) i on (sourceOf f false (shortSettings x y)))
+    (w d refl refl))
+
+-- the form g and the settings a and c are those that are read
+module _ (v : View) (k : Context) (i count : ℕ) (spot : Spot) (d : Directive) (b e : List ℕ) (r : Ran) where
+  abbrev FormWritten : Form → Setting → Setting → Type 0
+  FormWritten f x y = Performed (λ on. writeFrom v (spot .position) (spot .left) f d k (shortSettings x y) i on (sourceOf f false (shortSettings x y))) count spot b e r
+
+  pub writes-as : {f g : Form} {x y a c : Setting} → g ≡ f → a ≡ x → c ≡ y → FormWritten g a c → FormWritten f x y
+  writes-as {f} {g} {x} {y} {a} {c} q w z h =
+      subst (λ (y₂ : Setting). FormWritten f x y₂) z (subst (λ (x₂ : Setting). FormWritten f x₂ c) w (subst (λ (f₂ : Form). FormWritten f₂ a c) q h))
+
+-- the form by its kind
+pub repeat-form : (kind detail : ℕ) → 1 < kind → shortForm kind detail ≡ Repeat detail
+repeat-form kind detail h = rw (ne-eqb kind 0 (λ z. omega (arith, z)), ne-eqb kind 1 (λ z. omega (arith, z)))
+
+pub object-form : (kind detail : ℕ) → both (eqb kind 0) (eqb detail 0) ≡ true → shortForm kind detail ≡ Object false
+object-form kind detail e =
+    let h = both-true (eqb kind 0) (eqb detail 0) e in
+    rw (eqb-true kind 0 (h .0), eqb-true detail 0 (h .1))
+
+pub decimal-form : (kind detail : ℕ) → both (eqb kind 1) (eqb detail 10) ≡ true → shortForm kind detail ≡ Numeral 10
+decimal-form kind detail e =
+    let h = both-true (eqb kind 1) (eqb detail 10) e in
+    rw (eqb-true kind 1 (h .0), eqb-true detail 10 (h .1))
+
+-- a directive of the first two kinds takes the next argument
+pub own-source : (kind detail : ℕ) (s : Settings) → kind ≤ 1 → sourceOf (shortForm kind detail) false s ≡ own
+own-source kind detail s h = elim (decEq kind 0) [
+  | yes z ↦ rw (eq-eqb kind 0 z)
+  | no z ↦ let o : kind ≡ 1 = omega arith in rw (ne-eqb kind 0 z, eq-eqb kind 1 o)
+]
+
+pub own-none : (v : View) (k : Context) (i p m kind detail : ℕ) (s : Settings) (d : Directive) (on : ℕ → Flow) → kind ≤ 1 → k .count ≤ i
+    → writeFrom v p m (shortForm kind detail) d k s i on (sourceOf (shortForm kind detail) false s) ≡ refused 6 p m
+own-none v k i p m kind detail s d on h l =
+    ap (λ (x : Source). writeFrom v p m (shortForm kind detail) d k s i on x) (own-source kind detail s h) ∙ choose-no _ _ (le-ltb i (k .count) l)
+
+-- what suits a form
+none-absent : (y : Setting) → NoneIn y → y ≡ Absent
+none-absent Absent h = refl
+none-absent (Is c) h = absurd h
+
+pub object-alone : (kind detail : ℕ) (x y : Setting) → shortForm kind detail ≡ Object false → ShortIn (shortForm kind detail) x y → y ≡ Absent
+object-alone kind detail x y e s = none-absent y (subst (λ (f : Form). ShortIn f x y) e s .1)
+
+character-few : (byte : ℕ) → CharacterIn (settingOf 256 byte) → byte ≤ 256
+character-few byte h = elim (decEq byte 256) [
+  | yes z ↦ omega arith
+  | no z ↦ let k : byte < 256 = rw (ne-eqb byte 256 z) at h in omega arith
+]
+
+pub pad-few : (kind detail byte : ℕ) (x : Setting) → shortForm kind detail ≡ Numeral 10 → ShortIn (shortForm kind detail) x (settingOf 256 byte) → byte ≤ 256
+pad-few kind detail byte x e s = character-few byte (subst (λ (f : Form). ShortIn f x (settingOf 256 byte)) e s .1)

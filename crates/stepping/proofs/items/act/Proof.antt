@@ -1,0 +1,72 @@
+-- A directive that holds no clause acts as 01 has it. Assumes nothing.
+use Rattle.stepping.proofs.ItemLaws.{alone-none, acts-begun, escape-begun, only-escape}
+use Rattle.running.specs.Runs.{AloneAt}
+use Rattle.stepping.specs.Stepping.{ActsAlone}
+use Rattle.rules.specs.Table.{viewOf}
+use mathlib.Core.Path.{refl, subst}
+use borrow.Author.Needs.{needs}
+use Rattle.stepping.proofs.items.act.Statement.{statement}
+use Rattle.stepping.proofs.items.act.Tie as tie
+
+refuse-requires : tie.Need-refuse-requires
+refuse-requires c κs = search needs
+
+returns : tie.Need-returns
+returns c =
+    let a = (c .before .before .before .before .args) in
+    λ s n level here e _. alone-none s n (viewOf (a .table .now)) (a .hand .first .0) (a .hand .count) level here (a .next .0) (a .left) (a .at) (a .out .now) (a .p) (a .d) (c .before .before .before .before .pre .0) e _ (c .before .if1 .taken) (c .refuse .ensures) (c .before .before .before .before .pre .1 .1 .1) (c .before .before .before .before .pre .1 .1 .0)
+
+sub-t15 : tie.Need-sub-t15
+sub-t15 c = search needs
+
+enum-known-code : tie.Need-enum-known-code
+enum-known-code c = search needs
+
+act-form-requires : tie.Need-act-form-requires
+act-form-requires c κs =
+    let a = (c .before .before .before .before .before .before .before .args) in
+    ((c .before .before .code .given .1), (subst ActsAlone (c .before .before .code .given .1) (c .before .before .before .before .before .before .before .pre .0), ((c .before .before .before .before .before .before .before .pre .1 .0), ((c .before .before .before .before .before .before .before .pre .1 .1 .1), (c .before .before .before .before .before .before .before .pre .1 .1 .0)))))
+
+enum-told : tie.Need-enum-told
+enum-told c = search needs
+
+act-jump-requires : tie.Need-act-jump-requires
+act-jump-requires c κs = search needs
+
+escape-requires : tie.Need-escape-requires
+escape-requires c κs = search needs
+
+same-length : tie.Need-same-length
+same-length c = search needs
+
+returns-2 : tie.Need-returns-2
+returns-2 c =
+    let a = (c .before .before .before .before .before .before .before .before .before .before .args) in
+    λ s n level here e h. acts-begun s n (viewOf (a .table .now)) (a .hand .first .0) (a .hand .count) level here (a .next .0) (a .left) (a .at) (a .out .now) (c .before .before .before .before .before .before .before .if1 .left) h (subst (AloneAt s here (a .p) (a .d)) (c .before .before .before .before .before .code .given .1) e) _ refl (c .before .before .act-form .ensures)
+
+returns-3 : tie.Need-returns-3
+returns-3 c =
+    let a = (c .before .before .before .before .before .before .args) in
+    λ s n level here e h. acts-begun s n (viewOf (a .table .now)) (a .hand .first .0) (a .hand .count) level here (a .next .0) (a .left) (a .at) (a .out .now) (c .before .before .before .if1 .left) h (subst (AloneAt s here (a .p) (a .d)) (c .before .enum-told .given .1) e) _ refl ((c .act-jump .ensures) (a .out .now) (c .before .before .before .before .before .before .pre .1 .1 .1))
+
+returns-4 : tie.Need-returns-4
+returns-4 c =
+    let a = (c .before .before .before .before .before .args) in
+    λ s n level here e h. escape-begun s n (viewOf (a .table .now)) (a .hand .first .0) (a .hand .count) level here (a .next .0) (a .left) (a .at) (a .out .now) (c .before .before .if1 .left) h (subst (AloneAt s here (a .p) (a .d)) (only-escape _ (a .d .code) refl (c .before .before .before .before .before .pre .0) (c .before .match .keys3)) e) (c .escape .ensures) (c .before .before .before .before .before .pre .1 .1 .1) (c .before .before .before .before .before .pre .1 .1 .0)
+
+pub act-spec : {M : Type 1} → statement M
+act-spec =
+    tie.close
+    (tie.spec
+    refuse-requires
+    returns
+    sub-t15
+    enum-known-code
+    act-form-requires
+    enum-told
+    act-jump-requires
+    escape-requires
+    same-length
+    returns-2
+    returns-3
+    returns-4)

@@ -1,0 +1,120 @@
+-- `write_argument` meets its contract: what goes straight into the buffer is what the definition writes. Assumes nothing.
+use mir.ValLaws.{toZ-ofZ}
+use mir.Syntax.{w64}
+use borrow.Author.Needs.{needs}
+use Rattle.reader.specs.Shorts.{settingOf}
+use Rattle.working.specs.Settling.{handAt}
+use Rattle.acting.proofs.ActLaws.{performed-refused}
+use Rattle.rules.specs.Table.{viewOf}
+use Rattle.stepping.specs.Stepping.{shortSettings}
+use native.Mathlib.Omega.{arith}
+use Rattle.acting.proofs.DirectLaws.{text-written, decimal-written, string-held}
+use Rattle.stepping.proofs.ShortRuns.{writes-as, own-none, object-form, decimal-form, object-alone, pad-few}
+use mathlib.Core.Path.{refl, sym, _∙_}
+use Rattle.stepping.proofs.short.write_argument.Statement.{statement}
+use Rattle.stepping.proofs.short.write_argument.Tie as tie
+
+refuse-requires : tie.Need-refuse-requires
+refuse-requires c κs = search needs
+
+returns : tie.Need-returns
+returns c = let a = c .before .before .before .before .before .args in let s = shortSettings (settingOf 4097 (a .number)) (settingOf 256 (a .byte)) in λ d q w. performed-refused _ 6 (a .i .0) (c .refuse .ensures) (λ on. own-none (viewOf (a .table .now)) (handAt (a .hand) 0) (a .i .0) (a .spot .position) (a .spot .left) (a .kind) (a .detail) s d on (c .before .before .before .before .before .pre .1 .1 .0) (c .before .if1 .taken)) (c .before .before .before .before .before .pre .1 .1 .1 .1 .1) (c .before .before .before .before .before .pre .1 .1 .1 .1 .0)
+
+argument-at-requires : tie.Need-argument-at-requires
+argument-at-requires c κs = search needs
+
+add-t18 : tie.Need-add-t18
+add-t18 c = search needs
+
+number-or-requires : tie.Need-number-or-requires
+number-or-requires c κs = search needs
+
+enum-known-argument : tie.Need-enum-known-argument
+enum-known-argument c = search needs
+
+is-both-requires : tie.Need-is-both-requires
+is-both-requires c κs = search needs
+
+put-text-requires : tie.Need-put-text-requires
+put-text-requires c κs = (string-held (c .before .before .before .before .argument .given .1) (c .before .before .before .before .before .before .before .argument-at .ensures .0), c .before .before .before .before .before .before .before .before .before .before .before .before .pre .1 .1 .1 .1 .1)
+
+same-length : tie.Need-same-length
+same-length c = search needs
+
+returns-2 : tie.Need-returns-2
+returns-2 c = let a = c .before .before .before .before .before .before .before .before .before .before .before .before .before .before .before .args in let s = shortSettings (settingOf 4097 (a .number)) (settingOf 256 (a .byte)) in let x = c .before .before .before .before .before .before .before .argument .given .1 in let l = c .before .before .before .before .before .before .before .before .before .before .before .if1 .left in let e = object-form (a .kind) (a .detail) (sym (c .before .before .before .before .before .is-both .ensures) ∙ c .before .before .before .before .if2 .taken) in λ d q w. writes-as (viewOf (a .table .now)) (handAt (a .hand) 0) (a .i .0) (a .hand .count) (a .spot) d _ _ _ {x = settingOf 4097 (a .number)} {y = settingOf 256 (a .byte)} (sym e) refl refl (text-written (a .table .now) (a .hand) s (a .spot) (a .i .0) d (c .before .before .before .before .before .before .before .before .before .before .argument-at .result) l (c .before .before .before .before .before .before .before .before .before .before .argument-at .ensures .1) _ _ (c .before .before .before .before .before .before .before .before .before .number-or .result) x (string-held x (c .before .before .before .before .before .before .before .before .before .before .argument-at .ensures .0)) w (object-alone (a .kind) (a .detail) (settingOf 4097 (a .number)) (settingOf 256 (a .byte)) e (c .before .before .before .before .before .before .before .before .before .before .before .before .before .before .before .pre .1 .0)) refl refl (c .before .before .before .before .before .before .before .before .before .number-or .ensures) ((c .before .before .put-text .ensures) (a .hand .count) (omega (arith, l)) (omega (arith, l))))
+
+write-piece-requires : tie.Need-write-piece-requires
+write-piece-requires c κs = (c .before .before .before .before .before .before .before .before .before .before .before .before .pre .0, (c .before .before .before .before .before .before .before .before .before .before .before .before .pre .1 .0, (c .before .before .before .before .before .before .before .before .before .before .before .before .pre .1 .1 .1 .0, (c .before .before .before .before .before .before .before .before .before .before .before .before .pre .1 .1 .1 .1 .0, c .before .before .before .before .before .before .before .before .before .before .before .before .pre .1 .1 .1 .1 .1))))
+
+enum-known-argument-2 : tie.Need-enum-known-argument-2
+enum-known-argument-2 c = search needs
+
+is-both-requires-2 : tie.Need-is-both-requires-2
+is-both-requires-2 c κs = search needs
+
+pad-or-requires : tie.Need-pad-or-requires
+pad-or-requires c κs = let a = c .before .before .before .before .before .before .before .before .before .before .before .args in pad-few (a .kind) (a .detail) (a .byte) (settingOf 4097 (a .number)) (decimal-form (a .kind) (a .detail) (sym (c .before .is-both2 .ensures) ∙ c .if3 .taken)) (c .before .before .before .before .before .before .before .before .before .before .before .pre .1 .0)
+
+put-decimal-requires : tie.Need-put-decimal-requires
+put-decimal-requires c κs = search needs
+
+same-length-2 : tie.Need-same-length-2
+same-length-2 c = search needs
+
+returns-3 : tie.Need-returns-3
+returns-3 c = let a = c .before .before .before .before .before .before .before .before .before .before .before .before .before .before .before .before .args in let s = shortSettings (settingOf 4097 (a .number)) (settingOf 256 (a .byte)) in let l = c .before .before .before .before .before .before .before .before .before .before .before .before .if1 .left in let e = decimal-form (a .kind) (a .detail) (sym (c .before .before .before .before .before .before .is-both2 .ensures) ∙ c .before .before .before .before .before .if3 .taken) in let back = toZ-ofZ w64 (c .before .before .before .before .before .before .before .before .argument2 .given .0 .0) (record { sfits = c .before .before .before .before .before .before .before .known-told2 .given .0 .1 }) in λ d q w. writes-as (viewOf (a .table .now)) (handAt (a .hand) 0) (a .i .0) (a .hand .count) (a .spot) d _ _ _ {x = settingOf 4097 (a .number)} {y = settingOf 256 (a .byte)} (sym e) refl refl (decimal-written (a .table .now) (a .hand) s (a .spot) (a .i .0) d (c .before .before .before .before .before .before .before .before .before .before .before .argument-at .result) l (c .before .before .before .before .before .before .before .before .before .before .before .argument-at .ensures .1) _ _ (c .before .before .before .before .before .before .before .before .before .before .number-or .result) (c .before .before .before .before .pad-or .result) (c .before .before .before .before .before .before .before .before .argument2 .given .1) back q w (c .before .before .before .before .before .before .before .before .before .before .number-or .ensures) (c .before .before .before .before .pad-or .ensures) ((c .before .before .put-decimal .ensures) (a .hand .count) (omega (arith, l)) (omega (arith, l))))
+
+write-piece-requires-2 : tie.Need-write-piece-requires-2
+write-piece-requires-2 c κs = (c .before .before .before .before .before .before .before .before .before .before .before .before .pre .0, (c .before .before .before .before .before .before .before .before .before .before .before .before .pre .1 .0, (c .before .before .before .before .before .before .before .before .before .before .before .before .pre .1 .1 .1 .0, (c .before .before .before .before .before .before .before .before .before .before .before .before .pre .1 .1 .1 .1 .0, c .before .before .before .before .before .before .before .before .before .before .before .before .pre .1 .1 .1 .1 .1))))
+
+write-piece-requires-3 : tie.Need-write-piece-requires-3
+write-piece-requires-3 c κs = (c .before .before .before .before .before .before .before .before .pre .0, (c .before .before .before .before .before .before .before .before .pre .1 .0, (c .before .before .before .before .before .before .before .before .pre .1 .1 .1 .0, (c .before .before .before .before .before .before .before .before .pre .1 .1 .1 .1 .0, c .before .before .before .before .before .before .before .before .pre .1 .1 .1 .1 .1))))
+
+same-length-3 : tie.Need-same-length-3
+same-length-3 c = search needs
+
+returns-4 : tie.Need-returns-4
+returns-4 c = c .before .before .write-piece .ensures
+
+same-length-4 : tie.Need-same-length-4
+same-length-4 c = search needs
+
+returns-5 : tie.Need-returns-5
+returns-5 c = c .before .before .write-piece2 .ensures
+
+same-length-5 : tie.Need-same-length-5
+same-length-5 c = search needs
+
+returns-6 : tie.Need-returns-6
+returns-6 c = c .before .before .write-piece3 .ensures
+
+pub write-argument-spec : {M : Type 1} → statement M
+write-argument-spec =
+    tie.close
+    (tie.spec
+    refuse-requires
+    returns
+    argument-at-requires
+    add-t18
+    number-or-requires
+    enum-known-argument
+    is-both-requires
+    put-text-requires
+    same-length
+    returns-2
+    write-piece-requires
+    enum-known-argument-2
+    is-both-requires-2
+    pad-or-requires
+    put-decimal-requires
+    same-length-2
+    returns-3
+    write-piece-requires-2
+    write-piece-requires-3
+    same-length-3
+    returns-4
+    same-length-4
+    returns-5
+    same-length-5
+    returns-6)

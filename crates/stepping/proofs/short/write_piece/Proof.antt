@@ -1,0 +1,37 @@
+-- `write_piece` meets its contract: the settings and the form are those that were read. Assumes nothing.
+use Rattle.reader.specs.Shorts.{settingOf, shortForm}
+use borrow.Author.Needs.{needs}
+use Rattle.working.specs.Settling.{handAt}
+use Rattle.rules.specs.Table.{viewOf}
+use Rattle.stepping.proofs.ShortRuns.{short-worked, writes-as}
+use Rattle.stepping.proofs.short.write_piece.Statement.{statement}
+use Rattle.stepping.proofs.short.write_piece.Tie as tie
+
+setting-of-requires : tie.Need-setting-of-requires
+setting-of-requires c κs = search needs
+
+setting-of-requires-2 : tie.Need-setting-of-requires-2
+setting-of-requires-2 c κs = search needs
+
+short-form-requires : tie.Need-short-form-requires
+short-form-requires c κs = search needs
+
+write-form-requires : tie.Need-write-form-requires
+write-form-requires c κs = let a = c .before .before .before .before .before .before .args in (short-worked (shortForm (a .kind) (a .detail)) (settingOf 4097 (a .number)) (settingOf 256 (a .byte)) _ _ _ (c .before .before .before .setting-of .ensures) (c .before .before .setting-of2 .ensures) (c .before .short-form .ensures) (c .before .before .before .before .before .before .pre .0) (c .before .before .before .before .before .before .pre .1 .0), (c .before .before .before .before .before .before .pre .1 .1 .0, (c .before .before .before .before .before .before .pre .1 .1 .1 .1, c .before .before .before .before .before .before .pre .1 .1 .1 .0)))
+
+same-length : tie.Need-same-length
+same-length c = search needs
+
+returns : tie.Need-returns
+returns c = let a = c .before .before .before .before .before .before .before .before .before .args in λ d q w. writes-as (viewOf (a .table .now)) (handAt (a .hand) 0) (a .i .0) (a .hand .count) (a .spot) d _ _ _ (c .before .before .before .before .short-form .ensures) (c .before .before .before .before .before .before .setting-of .ensures) (c .before .before .before .before .before .setting-of2 .ensures) ((c .before .before .write-form .ensures) d q w)
+
+pub write-piece-spec : {M : Type 1} → statement M
+write-piece-spec =
+    tie.close
+    (tie.spec
+    setting-of-requires
+    setting-of-requires-2
+    short-form-requires
+    write-form-requires
+    same-length
+    returns)

@@ -1,0 +1,77 @@
+-- What the smaller parts of the runners answer. Assumes nothing: these are definitions.
+use Prim.Native.Nat.{ℕ, _+_, _-_, _≤_}
+use mathlib.Core.Path.{_≡_}
+use mathlib.Core.Bool.{Bool, true, false, cond}
+use mathlib.Core.List.{List}
+use lib.Dec.{leb}
+use lib.ListN.{length, getD}
+use Rattle.rules.specs.Directive.{FormRight}
+use Rattle.rules.specs.Run.{writeFrom}
+use Rattle.rules.specs.Table.{View, viewOf}
+use Rattle.rules.specs.Text.{levelsAt}
+use Rattle.rules.specs.declared.Code.{Code}
+use Rattle.rules.specs.declared.Code.the-variants.{Writes, Jump, Escape, Opens, Separator, Closes, Unknown}
+use Rattle.acting.specs.declared.state.Ran.{Ran}
+use Rattle.acting.specs.declared.state.Spot.{Spot}
+use Rattle.acting.specs.declared.state.Stop.{Stop}
+use Rattle.acting.specs.declared.state.Stop.the-variants.{Ended, Left, Refused}
+use Rattle.rules.specs.Working.{sourceOf}
+use Rattle.rules.specs.declared.Directive.{Directive}
+use Rattle.rules.specs.declared.Setting.{Setting}
+use Rattle.rules.specs.declared.Setting.the-variants.{Absent}
+use Rattle.rules.specs.declared.Settings.{Settings}
+use Rattle.reader.specs.Shorts.{settingOf, shortForm, shortAt}
+use Rattle.reader.specs.declared.short.Short.the-variants.{Other}
+use Rattle.working.specs.Settling.{handAt}
+use Rattle.working.specs.declared.Hand.{Hand}
+use Rattle.acting.specs.Acting.{Performed}
+use Rattle.acting.specs.Ran.{endedRan, hand}
+use Rattle.running.specs.Runs.{Strides}
+
+-- a directive that neither opens a block nor ends a sequence
+abbrev pub ActsAlone : Code → Type 0
+ActsAlone (Writes f) = FormRight f
+ActsAlone Jump = Unit {0}
+ActsAlone Escape = Unit {0}
+ActsAlone (Opens b) = ⊥
+ActsAlone Separator = ⊥
+ActsAlone (Closes b) = ⊥
+ActsAlone Unknown = ⊥
+
+-- k literal bytes of the text t from p on, put one after another: within the steps, the text and the buffer, and the
+-- same whatever arguments are in hand
+pub record PutsLiterals (t : List ℕ) (p left at : ℕ) (b e : List ℕ) (k : ℕ) : Type 0 where
+  pub steps : k ≤ left
+  pub inside : p + k ≤ length t
+  pub room : at + k ≤ length b
+  pub runs : (v : View) (first count level i : ℕ) → i ≤ count
+      → Strides (levelsAt t) (length t) v (hand first count) level p i left at b e (endedRan i (left - k) (at + k) (p + k))
+
+-- what an escape answers: it leaves its sequence where no argument remains, and else goes on
+abbrev pub leftRan : ℕ → ℕ → ℕ → ℕ → Ran
+leftRan i left at place = record { stop = Left; next = record { 0 = i }; left = left; at = at; place = place }
+
+abbrev pub escaped : Spot → ℕ → ℕ → Ran
+escaped spot count i =
+    cond (leb count i) (leftRan i (spot .left) (spot .at) (spot .place)) (endedRan i (spot .left) (spot .at) (spot .place))
+
+abbrev pub isEnded : Stop → Bool
+isEnded Ended = true
+isEnded Left = false
+isEnded (Refused code p) = false
+
+-- a number x and a character y as settings
+abbrev pub shortSettings : Setting → Setting → Settings
+shortSettings x y = record { first = x; second = y; third = Absent; fourth = Absent }
+
+-- what a short directive does once it is begun, where i is the next argument
+abbrev pub WritesShort : List ℕ → Hand → ℕ → ℕ → ℕ → ℕ → ℕ → Spot → List ℕ → List ℕ → Ran → Type 0
+WritesShort t hand i kind detail number byte spot b e r =
+    (d : Directive) → d .colon ≡ false → d .at ≡ false
+    → Performed (λ on. writeFrom (viewOf t) (spot .position) (spot .left) (shortForm kind detail) d (handAt hand 0)
+    (shortSettings (settingOf 4097 number) (settingOf 256 byte)) i on
+    (sourceOf (shortForm kind detail) false (shortSettings (settingOf 4097 number) (settingOf 256 byte)))) (hand .count) spot b e r
+
+-- a directive stands at p that is not short
+abbrev pub NotShort : List ℕ → ℕ → Type 0
+NotShort t p = (getD t p 0 ≡ 126) × (shortAt t p ≡ Other)

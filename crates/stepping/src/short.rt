@@ -1,0 +1,291 @@
+// Literal bytes and short directives, of which most texts are made, done one after another without an item for each.
+use crate::items::is_ended;
+use crate::items::put_literals;
+use acting::acting::write_form;
+use acting::direct::put_decimal;
+use acting::direct::put_run;
+use acting::direct::put_text;
+use acting::state::Ran;
+use acting::state::Spot;
+use acting::state::Stop;
+use acting::state::refuse;
+use reader::short::NO_BYTE;
+use reader::short::NO_NUMBER;
+use reader::short::NUMERAL;
+use reader::short::OBJECT;
+use reader::short::Short;
+use reader::short::read_short;
+use reader::short::short_form;
+use rules::Argument;
+use rules::ArgumentPosition;
+use rules::Setting;
+use rules::Settings;
+use working::Hand;
+use working::argument_at;
+ghost use mathlib.Core.Path.{_≡_};
+ghost use mathlib.Core.List.{List};
+ghost use Prim.Native.Nat.{ℕ, _≤_, _<_};
+ghost use lib.ListN.{length};
+ghost use lib.Dec.{eqb};
+ghost use Rattle.rules.specs.Choice.{both};
+ghost use Rattle.rules.specs.Piece.{orElse};
+ghost use Rattle.rules.specs.Table.{viewOf};
+ghost use Rattle.rules.specs.Text.{Level, levelsAt};
+ghost use Rattle.rules.specs.declared.Item.the-variants.{Written};
+ghost use Rattle.reader.specs.Shorts.{settingOf, shortForm, shortAt, shortDirective, ShortIn};
+ghost use Rattle.reader.specs.declared.short.Short.the-variants.{Other};
+ghost use Rattle.acting.specs.declared.state.Stop.the-variants.{Ended};
+ghost use Rattle.working.specs.Settling.{InHand, handAt};
+ghost use Rattle.rules.specs.Directive.{FormRight};
+ghost use Rattle.running.specs.Runs.{ActsAt, Ahead, Steps, Strides};
+ghost use Rattle.stepping.specs.Stepping.{WritesShort, NotShort};
+
+// A parameter as its setting, where none stands for one that is not written.
+fn setting_of(n: usize, none: usize) -> Setting
+    ensures { λ r. ⌜ r ≡ settingOf none n ⌝ }
+{
+    if n == none {
+        return Setting::Absent;
+    }
+    Setting::Is(n)
+}
+
+// The number of a parameter, or the default where none is written.
+fn number_or(number: usize, default: usize) -> usize
+    ensures { λ r. ⌜ r ≡ orElse (settingOf 4097 number) default ⌝ }
+{
+    if number == NO_NUMBER { default } else { number }
+}
+
+// The byte that pads.
+fn pad_or(byte: usize) -> u8
+    requires { ⌜ byte ≤ 256 ⌝ }
+    ensures { λ r. ⌜ r ≡ orElse (settingOf 256 byte) 32 ⌝ }
+{
+    if byte == NO_BYTE {
+        return b' ';
+    }
+    byte as u8
+}
+
+fn is_both(kind: u8, wanted: u8, detail: u8, exactly: u8) -> bool
+    ensures { λ r. ⌜ r ≡ both (eqb kind wanted) (eqb detail exactly) ⌝ }
+{
+    if kind == wanted {
+        detail == exactly
+    } else {
+        false
+    }
+}
+
+// A short directive that is begun, by way of its settings and its piece.
+fn write_piece(
+    spot: Spot,
+    kind: u8,
+    detail: u8,
+    number: usize,
+    byte: usize,
+    table: &[u8],
+    hand: Hand,
+    i: ArgumentPosition,
+    out: &mut [u8],
+) -> Ran
+    requires { ⌜ FormRight (shortForm kind detail) ⌝ }
+    requires { ⌜ ShortIn (shortForm kind detail) (settingOf 4097 number) (settingOf 256 byte) ⌝ }
+    requires { ⌜ InHand (now table) hand ⌝ }
+    requires { ⌜ i .0 ≤ hand .count ⌝ }
+    requires { ⌜ spot .at ≤ length (now out) ⌝ }
+    ensures { λ r. ⌜ WritesShort (now (table .entry)) hand (i .0) kind detail number byte spot (now (out .entry)) (now (out .exit)) r ⌝ }
+{
+    let first = setting_of(number, NO_NUMBER);
+    let second = setting_of(byte, NO_BYTE);
+    let settings = Settings {
+        first,
+        second,
+        third: Setting::Absent,
+        fourth: Setting::Absent,
+    };
+    let form = short_form(kind, detail);
+    write_form(spot, form, false, false, settings, table, hand, i, out)
+}
+
+// A short directive that is begun and writes its argument: a string under ~a and an integer under ~d go straight into
+// the buffer.
+fn write_argument(
+    spot: Spot,
+    kind: u8,
+    detail: u8,
+    number: usize,
+    byte: usize,
+    table: &[u8],
+    hand: Hand,
+    i: ArgumentPosition,
+    out: &mut [u8],
+) -> Ran
+    requires { ⌜ FormRight (shortForm kind detail) ⌝ }
+    requires { ⌜ ShortIn (shortForm kind detail) (settingOf 4097 number) (settingOf 256 byte) ⌝ }
+    requires { ⌜ kind ≤ 1 ⌝ }
+    requires { ⌜ InHand (now table) hand ⌝ }
+    requires { ⌜ i .0 ≤ hand .count ⌝ }
+    requires { ⌜ spot .at ≤ length (now out) ⌝ }
+    ensures { λ r. ⌜ WritesShort (now (table .entry)) hand (i .0) kind detail number byte spot (now (out .entry)) (now (out .exit)) r ⌝ }
+{
+    let k = i.0;
+    if hand.count <= k {
+        return refuse(spot, 6, i);
+    }
+    let argument = argument_at(table, hand, i);
+    let after = ArgumentPosition(k + 1);
+    let width = number_or(number, 0);
+    match argument {
+        Argument::Text { start, end } => {
+            if is_both(kind, OBJECT, detail, 0) {
+                return put_text(spot, width, start, end, table, i, after, out);
+            }
+            write_piece(spot, kind, detail, number, byte, table, hand, i, out)
+        }
+        Argument::Integer(x) => {
+            if is_both(kind, NUMERAL, detail, 10) {
+                return put_decimal(spot, width, pad_or(byte), x, i, after, out);
+            }
+            write_piece(spot, kind, detail, number, byte, table, hand, i, out)
+        }
+        _ => write_piece(spot, kind, detail, number, byte, table, hand, i, out),
+    }
+}
+
+// A short directive of the position p, wherever it stands, after which the run goes on at place.
+fn act_short(
+    p: usize,
+    kind: u8,
+    detail: u8,
+    number: usize,
+    byte: usize,
+    place: usize,
+    table: &[u8],
+    hand: Hand,
+    next: ArgumentPosition,
+    left: usize,
+    out: &mut [u8],
+    at: usize,
+) -> Ran
+    requires { ⌜ FormRight (shortForm kind detail) ⌝ }
+    requires { ⌜ ShortIn (shortForm kind detail) (settingOf 4097 number) (settingOf 256 byte) ⌝ }
+    requires { ⌜ InHand (now table) hand ⌝ }
+    requires { ⌜ next .0 ≤ hand .count ⌝ }
+    requires { ⌜ at ≤ length (now out) ⌝ }
+    ensures { λ r. ⌜ ((s : ℕ → List Level) (n level here : ℕ) → ActsAt s here p (Written (shortDirective (shortForm kind detail) (settingOf 4097 number) (settingOf 256 byte) place)) place → Ahead n here place → Steps s n (viewOf (now (table .entry))) (handAt hand) level here (next .0) left at (now (out .entry)) (now (out .exit)) r) ⌝ }
+{
+    if left == 0 {
+        return refuse(
+            Spot {
+                position: p,
+                place,
+                left,
+                at,
+            },
+            9,
+            next,
+        );
+    }
+    let spot = Spot {
+        position: p,
+        place,
+        left: left - 1,
+        at,
+    };
+    if NUMERAL < kind {
+        return put_run(spot, detail, number_or(number, 1), next, out);
+    }
+    write_argument(spot, kind, detail, number, byte, table, hand, next, out)
+}
+
+// The short directive at p; any other item is left for the general way.
+fn run_one(
+    text: &[u8],
+    table: &[u8],
+    p: usize,
+    hand: Hand,
+    next: ArgumentPosition,
+    left: usize,
+    out: &mut [u8],
+    at: usize,
+) -> Ran
+    requires { ⌜ InHand (now table) hand ⌝ }
+    requires { ⌜ next .0 ≤ hand .count ⌝ }
+    requires { ⌜ p ≤ length (now text) ⌝ }
+    requires { ⌜ at ≤ length (now out) ⌝ }
+    ensures strides { λ r. ⌜ ((level : ℕ) → Strides (levelsAt (now (text .entry))) (length (now (text .entry))) (viewOf (now (table .entry))) (handAt hand) level p (next .0) left at (now (out .entry)) (now (out .exit)) r) ⌝ }
+    ensures other { λ r. ⌜ (r .stop ≡ Ended → r .place ≡ p → (shortAt (now (text .entry)) p ≡ Other) × ((r .left ≡ left) × (r .at ≡ at))) ⌝ }
+{
+    let short = read_short(text, p);
+    match short {
+        Short::Other => Ran {
+            stop: Stop::Ended,
+            next,
+            left,
+            at,
+            place: p,
+        },
+        Short::Is {
+            kind,
+            detail,
+            number,
+            byte,
+            next: place,
+        } => act_short(
+            p,
+            kind,
+            detail,
+            number,
+            byte,
+            place,
+            table,
+            hand,
+            next,
+            left,
+            out,
+            at,
+        ),
+    }
+}
+
+// The literal bytes and the short directives that stand from start on, all of them unless steps or room run out.
+pub fn run_short(
+    text: &[u8],
+    table: &[u8],
+    start: usize,
+    hand: Hand,
+    first: ArgumentPosition,
+    most: usize,
+    out: &mut [u8],
+    from: usize,
+) -> Ran
+    requires { ⌜ InHand (now table) hand ⌝ }
+    requires { ⌜ first .0 ≤ hand .count ⌝ }
+    requires { ⌜ start ≤ length (now text) ⌝ }
+    requires { ⌜ from ≤ length (now out) ⌝ }
+    ensures strides { λ r. ⌜ ((level : ℕ) → Strides (levelsAt (now (text .entry))) (length (now (text .entry))) (viewOf (now (table .entry))) (handAt hand) level start (first .0) most from (now (out .entry)) (now (out .exit)) r) ⌝ }
+    ensures all { λ r. ⌜ (r .stop ≡ Ended → 0 < r .left → r .place < length (now (text .entry)) → r .at < length (now (out .entry)) → NotShort (now (text .entry)) (r .place)) ⌝ }
+{
+    let mut p = start;
+    let mut next = first;
+    let mut left = most;
+    let mut at = from;
+    loop {
+        let k = put_literals(text, p, left, out, at);
+        p += k;
+        let r = run_one(text, table, p, hand, next, left - k, out, at + k);
+        let stop = r.stop;
+        if !is_ended(stop) {
+            return r;
+        }
+        if r.place == p {
+            return r;
+        }
+        next = r.next;
+        left = r.left;
+        at = r.at;
+        p = r.place;
+    }
+}
