@@ -2,7 +2,7 @@
 -- Assumes nothing: these are definitions.
 use mathlib.Core.Path.{_≡_}
 use mathlib.Core.List.{List}
-use Prim.Native.Nat.{ℕ, _≤_}
+use Prim.Native.Nat.{ℕ, _-_, _≤_}
 use lib.ListN.{length, take, drop}
 use Rattle.rules.specs.Table.{View}
 use Rattle.rules.specs.Working.{Context}
@@ -12,6 +12,7 @@ use Rattle.rules.specs.declared.Item.{Item}
 use Rattle.acting.specs.declared.state.Stop.{Stop}
 use Rattle.acting.specs.declared.state.Stop.the-variants.{Ended, Left, Refused}
 use Rattle.acting.specs.declared.state.Ran.{Ran}
+use Rattle.acting.specs.declared.state.Spot.{Spot}
 
 -- a refusal, and an end after which the text goes on at a place
 abbrev pub refusedRan : ℕ → ℕ → ℕ → ℕ → ℕ → ℕ → Ran
@@ -19,6 +20,10 @@ refusedRan code x i left at place = record { stop = Refused code x; next = recor
 
 abbrev pub endedRan : ℕ → ℕ → ℕ → ℕ → Ran
 endedRan i left at place = record { stop = Ended; next = record { 0 = i }; left = left; at = at; place = place }
+
+-- a directive, begun: a step less is left
+abbrev pub begun : Spot → Spot
+begun spot = record { position = spot .position; place = spot .place; left = spot .left - 1; at = spot .at }
 
 -- what comes after a run that stopped so: `on` where it ended and `out` where it was left, by the steps that are left
 -- and the next argument

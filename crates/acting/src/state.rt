@@ -1,7 +1,8 @@
 // Where a run stands, and how it stops.
 use rules::ArgumentPosition;
 ghost use mathlib.Core.Path.{_≡_};
-ghost use Rattle.acting.specs.Ran.{refusedRan, endedRan};
+ghost use Prim.Native.Nat.{_<_};
+ghost use Rattle.acting.specs.Ran.{refusedRan, endedRan, begun};
 
 // How the run of a sequence stops: at its end, at an escape that leaves it, or refused.
 pub enum Stop {
@@ -20,7 +21,8 @@ pub struct Ran {
     pub place: usize,
 }
 
-// A directive that is begun: its position, the place after it, the steps that are left and the end of what is written.
+// A directive that is met or begun: its position, the place after it, the steps that are left and the end of what is
+// written.
 pub struct Spot {
     pub position: usize,
     pub place: usize,
@@ -40,6 +42,19 @@ pub fn refuse(spot: Spot, code: u32, next: ArgumentPosition) -> Ran
         left: spot.left,
         at: spot.at,
         place: spot.place,
+    }
+}
+
+// A directive for which a step is left, begun: that step is done.
+pub fn begin(spot: Spot) -> Spot
+    requires { ⌜ 0 < spot .left ⌝ }
+    ensures { λ r. ⌜ r ≡ begun spot ⌝ }
+{
+    Spot {
+        position: spot.position,
+        place: spot.place,
+        left: spot.left - 1,
+        at: spot.at,
     }
 }
 

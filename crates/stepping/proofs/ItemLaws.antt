@@ -27,7 +27,7 @@ use Rattle.acting.specs.declared.state.Stop.the-variants.{Ended, Left, Refused}
 use Rattle.acting.specs.declared.state.Ran.{Ran}
 use Rattle.acting.specs.declared.state.Spot.{Spot}
 use Rattle.acting.specs.Acting.{Performed}
-use Rattle.acting.specs.Ran.{refusedRan, endedRan, hand}
+use Rattle.acting.specs.Ran.{refusedRan, endedRan, begun, hand}
 use Rattle.running.specs.Runs.{ActsAt, EscapesAt, AloneAt, Ahead, Steps}
 use Rattle.stepping.specs.Stepping.{ActsAlone, PutsLiterals, leftRan, escaped, isEnded}
 use Rattle.running.proofs.Arms.{literal-acts, literal-full, steps-acts-none, steps-acts, steps-escape-none, steps-escape-left, steps-escape-on}
@@ -67,27 +67,33 @@ module _ (s : ℕ → List Level) (n : ℕ) (v : View) (first count level here i
         steps-acts s n v first count level here i left at b a₂ z (w .does) (omega (arith, w .place, h .least)) (omega (arith, w .place, h .most))
 
     -- a literal byte
-    module _ (byte : ℕ) (a : ActsAt s here p (Literal byte) q) (r : Ran) where
-      pub literal-no-room : length b ≤ at → r ≡ refusedRan 10 p i (left - 1) at q → at ≤ length b → i ≤ count → StepsHere b r
+    module _ (byte : ℕ) (a : ActsAt s here p (Literal byte) q) (r : Ran) (spot : Spot) (o : spot ≡ record { position = p; place = q; left = left - 1; at = at }) where
+      pub literal-no-room : length b ≤ at → r ≡ refusedRan 10 (spot .position) i (spot .left) (spot .at) (spot .place) → at ≤ length b → i ≤ count → StepsHere b r
       literal-no-room f e l k =
-          subst (StepsHere b) (sym e) (steps-acts s n v first count level here i left at b a z (literal-full v first count p byte i (left - 1) at q b k l f) (h .least) (h .most))
+          subst (StepsHere b) (sym (e ∙ ap (λ (y : Spot). refusedRan 10 (y .position) i (y .left) (y .at) (y .place)) o))
+          (steps-acts s n v first count level here i left at b a z (literal-full v first count p byte i (left - 1) at q b k l f) (h .least) (h .most))
 
-      pub literal-put : at < length b → r ≡ endedRan i (left - 1) (at + 1) q → i ≤ count → StepsHere (set b at byte) r
+      pub literal-put : at < length b → r ≡ endedRan i (spot .left) (at + 1) (spot .place) → i ≤ count → StepsHere (set b at byte) r
       literal-put f e k =
-          subst (StepsHere (set b at byte)) (sym e) (steps-acts s n v first count level here i left at b a z (literal-acts v first count p byte i (left - 1) at q b k f) (h .least) (h .most))
+          subst (StepsHere (set b at byte)) (sym (e ∙ ap (λ (y : Spot). endedRan i (y .left) (at + 1) (y .place)) o))
+          (steps-acts s n v first count level here i left at b a z (literal-acts v first count p byte i (left - 1) at q b k f) (h .least) (h .most))
 
     -- an escape, once it is begun
-    pub escape-begun : EscapesAt s here p q → {r : Ran} → r ≡ escaped (record { position = p; place = q; left = left - 1; at = at }) count i → at ≤ length b → i ≤ count → StepsHere b r
-    escape-begun a {r} e l k = by (decLe count i)
+    pub escape-begun : EscapesAt s here p q → {r : Ran} (spot : Spot) → spot ≡ record { position = p; place = q; left = left - 1; at = at } → r ≡ escaped spot count i → at ≤ length b → i ≤ count → StepsHere b r
+    escape-begun a {r} spot o e l k = by (decLe count i)
       where
         told : {y : Bool} → leb count i ≡ y → r ≡ cond y (leftRan i (left - 1) at q) (endedRan i (left - 1) at q)
-        told g = e ∙ ap (λ (y : Bool). cond y (leftRan i (left - 1) at q) (endedRan i (left - 1) at q)) g
+        told g = e ∙ ap (λ (y : Spot). escaped y count i) o ∙ ap (λ (y : Bool). cond y (leftRan i (left - 1) at q) (endedRan i (left - 1) at q)) g
 
         by : Dec (count ≤ i) → StepsHere b r
         by (yes g) = subst (StepsHere b) (sym (told (le-leb count i g))) (steps-escape-left s n v first count level here i left at b a z g q l k)
         by (no g) =
             let f : i < count = omega arith in
             subst (StepsHere b) (sym (told (lt-leb count i f))) (steps-escape-on s n v first count level here i left at b a z f (h .least) (h .most) l k)
+
+-- a directive that begins has written nothing yet: the end is in the buffer as before
+pub begun-inside : (spot met : Spot) (b : List ℕ) → spot ≡ begun met → met .at ≤ length b → spot .at ≤ length b
+begun-inside spot met b o l = subst (λ (y : Spot). y .at ≤ length b) (sym o) l
 
 -- literal bytes one after another
 pub one-nearer : (most k : ℕ) → k < most → most - (k + 1) < most - k
@@ -120,7 +126,7 @@ module _ (t : List ℕ) (p left at : ℕ) (b : List ℕ) where
             let m : itemAt t (p + k) ≡ Literal byte = item-literal t (p + k) h n in
             strides-on (levelsAt t) (length t) v first count level p i left at b w refl
             (strides (levelsAt t) (length t) v first count level (p + k) i (left - k) (at + k) e
-            (literal-put (levelsAt t) (length t) v first count level (p + k) i (left - k) (at + k) e (λ z. omega arith) (literal-ahead t (p + k) byte m) byte (literal-at t (p + k) byte m) _ (omega (arith, w .does .size))
+            (literal-put (levelsAt t) (length t) v first count level (p + k) i (left - k) (at + k) e (λ z. omega arith) (literal-ahead t (p + k) byte m) byte (literal-at t (p + k) byte m) _ _ refl (omega (arith, w .does .size))
             (ended-is (omega arith) (omega arith) (omega arith)) c));
       }
 

@@ -4,6 +4,7 @@ use acting::acting::act_jump;
 use acting::state::Ran;
 use acting::state::Spot;
 use acting::state::Stop;
+use acting::state::begin;
 use acting::state::go_on;
 use acting::state::refuse;
 use rules::ArgumentPosition;
@@ -37,24 +38,16 @@ pub fn put_literal(
     ensures { λ r. ⌜ ((s : ℕ → List Level) (n : ℕ) (v : View) (level here : ℕ) → ActsAt s here p (Literal byte) (p + 1) → Ahead n here (p + 1) → Steps s n v (handAt hand) level here (next .0) left at (now (out .entry)) (now (out .exit)) r) ⌝ }
 {
     let place = p + 1;
-    if left == 0 {
-        return refuse(
-            Spot {
-                position: p,
-                place,
-                left,
-                at,
-            },
-            9,
-            next,
-        );
-    }
-    let spot = Spot {
+    let met = Spot {
         position: p,
         place,
-        left: left - 1,
+        left,
         at,
     };
+    if left == 0 {
+        return refuse(met, 9, next);
+    }
+    let spot = begin(met);
     if out.len() <= at {
         return refuse(spot, 10, next);
     }
@@ -127,24 +120,16 @@ pub fn act(
 {
     let code = d.code;
     let place = d.next;
-    if left == 0 {
-        return refuse(
-            Spot {
-                position: p,
-                place,
-                left,
-                at,
-            },
-            9,
-            next,
-        );
-    }
-    let spot = Spot {
+    let met = Spot {
         position: p,
         place,
-        left: left - 1,
+        left,
         at,
     };
+    if left == 0 {
+        return refuse(met, 9, next);
+    }
+    let spot = begin(met);
     match code {
         Code::Writes(form) => act_form(spot, form, d, table, hand, next, out),
         Code::Jump => act_jump(spot, d, table, hand, next),

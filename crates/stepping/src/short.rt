@@ -8,6 +8,7 @@ use acting::direct::put_text;
 use acting::state::Ran;
 use acting::state::Spot;
 use acting::state::Stop;
+use acting::state::begin;
 use acting::state::refuse;
 use reader::short::NO_BYTE;
 use reader::short::NO_NUMBER;
@@ -176,24 +177,16 @@ fn act_short(
     requires { ⌜ at ≤ length (now out) ⌝ }
     ensures { λ r. ⌜ ((s : ℕ → List Level) (n level here : ℕ) → ActsAt s here p (Written (shortDirective (shortForm kind detail) (settingOf 4097 number) (settingOf 256 byte) place)) place → Ahead n here place → Steps s n (viewOf (now (table .entry))) (handAt hand) level here (next .0) left at (now (out .entry)) (now (out .exit)) r) ⌝ }
 {
-    if left == 0 {
-        return refuse(
-            Spot {
-                position: p,
-                place,
-                left,
-                at,
-            },
-            9,
-            next,
-        );
-    }
-    let spot = Spot {
+    let met = Spot {
         position: p,
         place,
-        left: left - 1,
+        left,
         at,
     };
+    if left == 0 {
+        return refuse(met, 9, next);
+    }
+    let spot = begin(met);
     if NUMERAL < kind {
         return put_run(spot, detail, number_or(number, 1), next, out);
     }

@@ -6,7 +6,7 @@ use Rattle.working.specs.Settling.{handAt}
 use Rattle.stepping.specs.Stepping.{shortSettings}
 use Rattle.rules.specs.Table.{viewOf}
 use Rattle.acting.proofs.DirectLaws.{run-written}
-use Rattle.stepping.proofs.ItemLaws.{acts-none}
+use Rattle.stepping.proofs.ItemLaws.{acts-none, begun-inside}
 use Rattle.stepping.proofs.ShortRuns.{writes-as, short-begun, repeat-form}
 use native.Mathlib.Omega.{arith}
 use Rattle.stepping.proofs.short.act_short.Statement.{statement}
@@ -18,29 +18,29 @@ refuse-requires c κs = search needs
 returns : tie.Need-returns
 returns c = let a = c .before .before .before .before .args in λ s n level here e _. acts-none s n (viewOf (a .table .now)) (a .hand .first .0) (a .hand .count) level here (a .next .0) (a .left) (a .at) (a .out .now) e _ (c .before .if1 .taken) (c .refuse .ensures) (c .before .before .before .before .pre .1 .1 .1 .1) (c .before .before .before .before .pre .1 .1 .1 .0)
 
-sub-t16 : tie.Need-sub-t16
-sub-t16 c = search needs
+begin-requires : tie.Need-begin-requires
+begin-requires c κs = search needs
 
 number-or-requires : tie.Need-number-or-requires
 number-or-requires c κs = search needs
 
 put-run-requires : tie.Need-put-run-requires
-put-run-requires c κs = c .before .before .before .before .before .before .pre .1 .1 .1 .1
+put-run-requires c κs = begun-inside _ _ (c .before .before .before .before .before .before .before .args .out .now) (c .before .before .before .begin .ensures) (c .before .before .before .before .before .before .before .pre .1 .1 .1 .1)
 
 same-length : tie.Need-same-length
 same-length c = search needs
 
 returns-2 : tie.Need-returns-2
-returns-2 c = let a = c .before .before .before .before .before .before .before .before .before .args in let st = shortSettings (settingOf 4097 (a .number)) (settingOf 256 (a .byte)) in λ s n level here e h. short-begun s n (viewOf (a .table .now)) (a .hand .first .0) (a .hand .count) level here (a .next .0) (a .left) (a .at) (a .out .now) (shortForm (a .kind) (a .detail)) (settingOf 4097 (a .number)) (settingOf 256 (a .byte)) (c .before .before .before .before .before .before .before .before .before .pre .1 .0) e h (c .before .before .before .before .before .before .if1 .left) _ refl (λ d q w. writes-as (viewOf (a .table .now)) (handAt (a .hand) 0) (a .next .0) (a .hand .count) _ d _ _ _ {x = settingOf 4097 (a .number)} {y = settingOf 256 (a .byte)} (sym (repeat-form (a .kind) (a .detail) (omega (arith, c .before .before .before .before .before .if2 .taken)))) refl refl (run-written (a .table .now) (a .hand) st _ (a .next .0) d (a .detail) _ (c .before .before .before .before .number-or .ensures) ((c .before .before .put-run .ensures) (a .hand .count) (c .before .before .before .before .before .before .before .before .before .pre .1 .1 .1 .0))))
+returns-2 c = let a = c .before .before .before .before .before .before .before .before .before .before .args in let st = shortSettings (settingOf 4097 (a .number)) (settingOf 256 (a .byte)) in λ s n level here e h. short-begun s n (viewOf (a .table .now)) (a .hand .first .0) (a .hand .count) level here (a .next .0) (a .left) (a .at) (a .out .now) (shortForm (a .kind) (a .detail)) (settingOf 4097 (a .number)) (settingOf 256 (a .byte)) (c .before .before .before .before .before .before .before .before .before .before .pre .1 .0) e h (c .before .before .before .before .before .before .before .if1 .left) _ (c .before .before .before .before .before .before .begin .ensures) (λ d q w. writes-as (viewOf (a .table .now)) (handAt (a .hand) 0) (a .next .0) (a .hand .count) _ d _ _ _ {x = settingOf 4097 (a .number)} {y = settingOf 256 (a .byte)} (sym (repeat-form (a .kind) (a .detail) (omega (arith, c .before .before .before .before .before .if2 .taken)))) refl refl (run-written (a .table .now) (a .hand) st _ (a .next .0) d (a .detail) _ (c .before .before .before .before .number-or .ensures) ((c .before .before .put-run .ensures) (a .hand .count) (c .before .before .before .before .before .before .before .before .before .before .pre .1 .1 .1 .0))))
 
 write-argument-requires : tie.Need-write-argument-requires
-write-argument-requires c κs = (c .before .before .before .before .before .pre .0, (c .before .before .before .before .before .pre .1 .0, (omega (arith, c .before .if2 .left), (c .before .before .before .before .before .pre .1 .1 .0, (c .before .before .before .before .before .pre .1 .1 .1 .0, c .before .before .before .before .before .pre .1 .1 .1 .1)))))
+write-argument-requires c κs = let pre = c .before .before .before .before .before .before .pre in (pre .0, (pre .1 .0, (omega (arith, c .before .if2 .left), (pre .1 .1 .0, (pre .1 .1 .1 .0, begun-inside _ _ (c .before .before .before .before .before .before .args .out .now) (c .before .before .begin .ensures) (pre .1 .1 .1 .1))))))
 
 same-length-2 : tie.Need-same-length-2
 same-length-2 c = search needs
 
 returns-3 : tie.Need-returns-3
-returns-3 c = let a = c .before .before .before .before .before .before .before .before .args in λ s n level here e h. short-begun s n (viewOf (a .table .now)) (a .hand .first .0) (a .hand .count) level here (a .next .0) (a .left) (a .at) (a .out .now) (shortForm (a .kind) (a .detail)) (settingOf 4097 (a .number)) (settingOf 256 (a .byte)) (c .before .before .before .before .before .before .before .before .pre .1 .0) e h (c .before .before .before .before .before .if1 .left) _ refl (c .before .before .write-argument .ensures)
+returns-3 c = let a = c .before .before .before .before .before .before .before .before .before .args in λ s n level here e h. short-begun s n (viewOf (a .table .now)) (a .hand .first .0) (a .hand .count) level here (a .next .0) (a .left) (a .at) (a .out .now) (shortForm (a .kind) (a .detail)) (settingOf 4097 (a .number)) (settingOf 256 (a .byte)) (c .before .before .before .before .before .before .before .before .before .pre .1 .0) e h (c .before .before .before .before .before .before .if1 .left) _ (c .before .before .before .before .before .begin .ensures) (c .before .before .write-argument .ensures)
 
 pub act-short-spec : {M : Type 1} → statement M
 act-short-spec =
@@ -48,7 +48,7 @@ act-short-spec =
     (tie.spec
     refuse-requires
     returns
-    sub-t16
+    begin-requires
     number-or-requires
     put-run-requires
     same-length
