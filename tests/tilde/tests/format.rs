@@ -10,6 +10,7 @@ use reference::{hex, Answer, Value};
 const SEED: u64 = 3;
 /// So many calls, unless the environment's TILDE_CALLS asks for another number of them.
 const CALLS: usize = 250_000;
+const LONG_FORMATS: usize = 25_000;
 /// Untouched bytes before and after the buffer that is lent.
 const MARGIN: usize = 16;
 /// More than most texts need; a run that never ends goes on until a buffer of this size is full, or its steps are done.
@@ -38,6 +39,29 @@ fn calls() -> usize {
         Ok(given) => given.parse().expect("TILDE_CALLS is a number of calls"),
         Err(_) => CALLS,
     }
+}
+
+/// Formats with long blocks, which are run by landmarks.
+#[test]
+fn long_formats() {
+    let random = Random::new(SEED + 2);
+    let mut field = Field::new();
+    let mut tally = Tally::default();
+    let (mut whole, mut longer) = (0, 0);
+    for _ in 0..LONG_FORMATS {
+        let (mut format, arguments) = texts::long(&random);
+        if random.once_in(10) {
+            damage::damage(&random, &mut format);
+        }
+        let table = tables::table(&random, &arguments);
+        let code = compare(&mut field, &format, &table, VAST);
+        tally.add(code);
+        whole += usize::from(code == 0);
+        longer += usize::from(format.len() > 256);
+    }
+    println!("{LONG_FORMATS} long formats agree, {longer} of more than 256 bytes:{tally}");
+    assert!(whole > LONG_FORMATS / 3, "too few end: {whole}");
+    assert!(longer > LONG_FORMATS / 2, "too few are long: {longer}");
 }
 
 /// Every length of the buffer, up to one more than the text needs.

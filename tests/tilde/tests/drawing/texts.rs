@@ -1,8 +1,10 @@
 //! Sound formats drawn at random, each with arguments that suit it as long as no jump goes astray.
 
 mod blocks;
+mod long;
 
 use super::values;
+pub use long::long;
 use random::Random;
 use reference::Value;
 
