@@ -12,12 +12,13 @@ const LEAST: &[Value] = &[Value::Int(i64::MIN)];
 const EMPTY_STRING: &[Value] = &[Value::Str(Vec::new())];
 const EMPTY_LIST: &[Value] = &[Value::List(Vec::new())];
 
-pub const GROUPS: [fn(&mut Slowest); 10] = [
+pub const GROUPS: [fn(&mut Slowest); 11] = [
     skipped_items,
     ways_to_skip,
     far_clauses,
     many_blocks,
     lengths,
+    unmarked,
     long_directives,
     short_directives,
     nests,
@@ -174,6 +175,35 @@ fn lengths(slowest: &mut Slowest) {
     for most in [250, 256, 262, 506, 512, 518, 1_018, 1_024, 1_030, 2_048] {
         let (name, format) = filled(most, "~@{~0[~;", "~a", "~]~}");
         slowest.format(&format!("{name}, {most} bytes"), &format, ONE);
+    }
+}
+
+/// What just falls short of a landmark, of items that are dear to read: a clause that fills the longest format without
+/// any, and blocks whose clause is chosen nearly as far from their start, and from their end, as a landmark would be.
+fn unmarked(slowest: &mut Slowest) {
+    for unit in [
+        "x",
+        "~a",
+        "~p",
+        "~\n",
+        "~@c",
+        "~,9a",
+        "~00a",
+        "~-0d",
+        "~1,1,1,'x@a",
+        "~[~]",
+        "~0{x~}",
+    ] {
+        let (name, format) = filled(256, "~@{~0[~;", unit, "~]~}");
+        slowest.format(&format!("{name}, 256 bytes"), &format, ONE);
+        let clause = format!("~;{unit}");
+        let half = clause.repeat(92 / clause.len());
+        let chosen = half.len() / clause.len() + 1;
+        let block = format!("~{chosen}[{half}~;{half}~]");
+        let times = 4_000 / block.len();
+        let name = format!("{times} times ~{chosen}[{clause}..~;{clause}..~] in a loop");
+        let format = format!("~@{{{}~}}", block.repeat(times));
+        slowest.format(&name.replace('\n', "\\n"), format.as_bytes(), ONE);
     }
 }
 

@@ -9,7 +9,7 @@ use Rattle.blocks.proofs.landmarks.is_behind.Reads as is-behind-reads
 use Rattle.blocks.proofs.landmarks.middle.Reads as middle-reads
 
 abbrev Inv-loop : tie.InvT-loop
-Inv-loop marks start n low₀ high₀ low high = (low < high) × (high ≤ 256)
+Inv-loop marks start n low₀ high₀ low high = (low < high) × (high ≤ 342)
 
 abbrev μ-loop : tie.MeasureT-loop
 μ-loop marks start n low₀ high₀ low high = high - low

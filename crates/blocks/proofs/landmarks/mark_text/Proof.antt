@@ -15,7 +15,7 @@ use Rattle.checking.proofs.text.shape_at.Reads as shape-at-reads
 use Rattle.reader.proofs.short.skip_short.Reads as skip-short-reads
 
 abbrev Inv-loop : tie.InvT-loop
-Inv-loop text marks₀ p₀ k₀ marks p k = Marks text marks₀ marks × ((p ≤ length text) × (k ≤ 256))
+Inv-loop text marks₀ p₀ k₀ marks p k = Marks text marks₀ marks × ((p ≤ length text) × (k ≤ 342))
 
 abbrev μ-loop : tie.MeasureT-loop
 μ-loop text marks₀ p₀ k₀ marks p k = length text - p
