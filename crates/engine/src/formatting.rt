@@ -66,8 +66,7 @@ fn outcome_of(r: Ran) -> Outcome
     }
 }
 
-// The run of a text over a table, both of which are accepted, by way of landmarks. The array for them is a part of this
-// call alone, so that short texts take no stack for it.
+// The run of a text over a table, both of which are accepted, by landmarks.
 fn run_long(format: &[u8], table: &[u8], out: &mut [u8]) -> Outcome
     requires { ⌜ tableVerdict (now table) ≡ Accepted ⌝ }
     requires { ⌜ textVerdict (now format) ≡ Accepted ⌝ }
