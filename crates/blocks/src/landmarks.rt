@@ -2,10 +2,10 @@
 // end would be looked for through all that lies before them. So where clauses stand that are far from the one before,
 // and where long blocks end, is written down once. Landmarks are sound and no more: what has none is looked for in the
 // text, so they cost or save time and decide nothing.
-use checking::text::ClauseEnd;
-use checking::text::Shape;
-use checking::text::next_clause;
-use checking::text::shape_at;
+use checking::ends::ClauseEnd;
+use checking::ends::Shape;
+use checking::ends::next_clause;
+use checking::ends::shape_at;
 use fitting::places::both;
 use reader::short::skip_short;
 use working::widened;

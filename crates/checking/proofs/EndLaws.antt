@@ -19,8 +19,8 @@ use Rattle.rules.specs.declared.Directive.{Directive}
 use Rattle.rules.specs.declared.Item.{Item}
 use Rattle.rules.specs.declared.Item.the-variants.{End, Literal, Written, BadNumber, Unfinished}
 use Rattle.rules.proofs.TextLaws.{Within, stands, next-inside, levels-end, levels-literal, levels-bad, levels-unfinished, levels-written}
-use Rattle.checking.specs.declared.text.Shape.{Shape}
-use Rattle.checking.specs.declared.text.Shape.the-variants.{Stops, Passes, Begins, Splits, Finishes}
+use Rattle.checking.specs.declared.ends.Shape.{Shape}
+use Rattle.checking.specs.declared.ends.Shape.the-variants.{Stops, Passes, Begins, Splits, Finishes}
 use Rattle.reader.specs.Marks.{markCode}
 use Rattle.reader.specs.Shorts.{Skips}
 use Rattle.checking.specs.Ends.{shapeOfCode, shapeOf, AfterBlock, ClauseAt, LastClause, AnotherClause}

@@ -10,10 +10,10 @@ use Rattle.rules.specs.declared.Code.{Code}
 use Rattle.rules.specs.declared.Code.the-variants.{Writes, Jump, Escape, Opens, Separator, Closes, Unknown}
 use Rattle.rules.specs.declared.Item.{Item}
 use Rattle.rules.specs.declared.Item.the-variants.{End, Literal, Written, BadNumber, Unfinished}
-use Rattle.checking.specs.declared.text.Shape.{Shape}
-use Rattle.checking.specs.declared.text.Shape.the-variants.{Stops, Passes, Begins, Splits, Finishes}
-use Rattle.checking.specs.declared.text.ClauseEnd.{ClauseEnd}
-use Rattle.checking.specs.declared.text.ClauseEnd.the-variants.{Last, Another}
+use Rattle.checking.specs.declared.ends.Shape.{Shape}
+use Rattle.checking.specs.declared.ends.Shape.the-variants.{Stops, Passes, Begins, Splits, Finishes}
+use Rattle.checking.specs.declared.ends.ClauseEnd.{ClauseEnd}
+use Rattle.checking.specs.declared.ends.ClauseEnd.the-variants.{Last, Another}
 
 abbrev pub shapeOfCode : Code → Bool → ℕ → Shape
 shapeOfCode (Writes f) colon next = Passes next

@@ -14,7 +14,7 @@ use Rattle.blocks.proofs.clauses.seek_clause.Reads as reads
 use Rattle.blocks.proofs.clauses.seek_clause.Lts as lts
 use Rattle.blocks.proofs.clauses.fall_back.Reads as fall-back-reads
 use Rattle.blocks.proofs.clauses.less.Reads as less-reads
-use Rattle.checking.proofs.text.next_clause.Reads as next-clause-reads
+use Rattle.checking.proofs.ends.next_clause.Reads as next-clause-reads
 use Rattle.fitting.proofs.places.both.Reads as both-reads
 
 abbrev Inv-loop : tie.InvT-loop

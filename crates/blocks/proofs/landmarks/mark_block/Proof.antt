@@ -14,7 +14,7 @@ use Rattle.blocks.proofs.landmarks.another.Reads as another-reads
 use Rattle.blocks.proofs.landmarks.ending.Reads as ending-reads
 use Rattle.blocks.proofs.landmarks.later.Reads as later-reads
 use Rattle.blocks.proofs.landmarks.lay_far.Reads as lay-far-reads
-use Rattle.checking.proofs.text.next_clause.Reads as next-clause-reads
+use Rattle.checking.proofs.ends.next_clause.Reads as next-clause-reads
 
 abbrev Inv-loop : tie.InvT-loop
 Inv-loop text start marks₀ first k₀ from₀ l₀ marks k from l = Marking text marks₀ marks k l

@@ -11,7 +11,7 @@ use Rattle.blocks.proofs.landmarks.mark_text.Tie as tie
 use Rattle.blocks.proofs.landmarks.mark_text.Reads as reads
 use Rattle.blocks.proofs.landmarks.mark_text.Lts as lts
 use Rattle.blocks.proofs.landmarks.mark_block.Reads as mark-block-reads
-use Rattle.checking.proofs.text.shape_at.Reads as shape-at-reads
+use Rattle.checking.proofs.ends.shape_at.Reads as shape-at-reads
 use Rattle.reader.proofs.short.skip_short.Reads as skip-short-reads
 
 abbrev Inv-loop : tie.InvT-loop

@@ -11,7 +11,7 @@ use Rattle.checking.proofs.CheckLaws.{Checking, check-start, check-skip
 use Rattle.checking.proofs.text.check_from.Reads as check-from
 use Rattle.checking.proofs.text.check_from.Kinds as check-from-kinds
 use Rattle.checking.proofs.text.+check_from.Lts-check_from as check-from-lts
-use Rattle.checking.proofs.text.meet.Reads as meet-reads
+use Rattle.checking.proofs.meeting.meet.Reads as meet-reads
 use Rattle.reader.proofs.short.skip_short.Reads as skip-short-reads
 use Rattle.checking.proofs.text.+check_from.{statement}
 use Rattle.checking.proofs.text.+check_from.Tie.{close}
