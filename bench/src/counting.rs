@@ -71,7 +71,7 @@ fn rows() -> Result<(), String> {
         let ratio = ours / theirs;
         println!(
             "  {:<48} {ours:>11.0} {theirs:>11.0} {ratio:>6.2}",
-            line.format
+            line.name()
         );
     }
     Ok(())

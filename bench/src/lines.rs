@@ -20,16 +20,20 @@ pub struct Station {
     heights: [i64; 8],
 }
 
-/// A format, the values that it takes from a station, and the same line printed by snprintf.
+/// A format, the values that it takes from a station, and the same line printed by snprintf, in how many calls of it.
 pub struct Line {
     pub format: &'static str,
+    pub peer: &'static str,
     values: fn(&Station) -> Vec<Value>,
     print: fn(&Station, &mut [u8]) -> usize,
 }
 
-pub const LINES: [Line; 4] = [
+const ONE_CALL: &str = "one call";
+
+pub const LINES: [Line; 5] = [
     Line {
         format: "~8a ~3d ~5,'0d ~a~%",
+        peer: ONE_CALL,
         values: |s| {
             vec![
                 text(&s.name),
@@ -42,6 +46,7 @@ pub const LINES: [Line; 4] = [
     },
     Line {
         format: "~a ~:[missing~;ok~] ~d~%",
+        peer: ONE_CALL,
         values: |s| {
             vec![
                 text(&s.name),
@@ -53,11 +58,19 @@ pub const LINES: [Line; 4] = [
     },
     Line {
         format: "~a ~d report~:p ~8:d~%",
-        values: |s| vec![text(&s.name), Value::Int(s.wind), Value::Int(s.pressure)],
+        peer: ONE_CALL,
+        values: reports,
         print: print_reports,
     },
     Line {
+        format: "~a ~d report~:p ~8:d~%",
+        peer: "five calls",
+        values: reports,
+        print: print_parts,
+    },
+    Line {
         format: "~a:~{ ~d~}~%",
+        peer: ONE_CALL,
         values: |s| {
             vec![
                 text(&s.name),
@@ -67,6 +80,10 @@ pub const LINES: [Line; 4] = [
         print: print_heights,
     },
 ];
+
+fn reports(s: &Station) -> Vec<Value> {
+    vec![text(&s.name), Value::Int(s.wind), Value::Int(s.pressure)]
+}
 
 fn text(text: &CString) -> Value {
     Value::Str(text.as_bytes().to_vec())
@@ -106,6 +123,16 @@ fn print_reports(s: &Station, out: &mut [u8]) -> usize {
         plural.as_ptr(),
         pressure.text()
     )
+}
+
+/// Each part by a call of its own, as a program does that puts a line together from parts that a site chooses.
+fn print_parts(s: &Station, out: &mut [u8]) -> usize {
+    let mut at = printed!(&mut out[..], c"%s ", s.name.as_ptr());
+    at += printed!(&mut out[at..], c"%lld", s.wind);
+    let plural = if s.wind == 1 { c"" } else { c"s" };
+    at += printed!(&mut out[at..], c" report%s ", plural.as_ptr());
+    at += printed!(&mut out[at..], c"%8s", grouped(s.pressure).text());
+    at + printed!(&mut out[at..], c"\n")
 }
 
 fn print_heights(s: &Station, out: &mut [u8]) -> usize {
@@ -175,6 +202,10 @@ pub struct Given {
 }
 
 impl Line {
+    pub fn name(&self) -> String {
+        format!("{}, {}", self.format, self.peer)
+    }
+
     /// Values of a fixed seed, for which both sides write the same bytes.
     pub fn given(&self, count: usize) -> Given {
         let random = Random::new(SEED);
@@ -210,7 +241,7 @@ pub fn measure() {
         let Given { stations, tables } = line.given(STATIONS);
         let (mut one, mut other) = ([0; ROOM], [0; ROOM]);
         race(
-            line.format,
+            &line.name(),
             STATIONS,
             || tables.iter().map(|t| line.formatted(t, &mut one)).sum(),
             || stations.iter().map(|s| line.printed(s, &mut other)).sum(),

@@ -26,7 +26,7 @@ const MOST_STEPS: usize = 65536;
 // How deep blocks nest at most.
 const DEEPEST: usize = 8;
 
-// How long a text is at most that is run without landmarks: to lay them costs more than they save.
+// How long a text is at most that is run without landmarks in any case.
 const LONG: usize = 256;
 
 // The answer of a call beside the text: 01's code, the position, the steps done and the bytes written.
@@ -66,6 +66,22 @@ fn outcome_of(r: Ran) -> Outcome
     }
 }
 
+// Whether landmarks may save more than they cost: in a long text with a brace, which a loop opens with. Without a loop a
+// block is met once. What is answered decides nothing but the time of a call.
+fn is_worth_landmarks(text: &[u8]) -> bool {
+    if text.len() <= LONG {
+        return false;
+    }
+    let mut i: usize = 0;
+    while i < text.len() {
+        if text[i] == b'{' {
+            return true;
+        }
+        i += 1;
+    }
+    false
+}
+
 // The run of a text over a table, both of which are accepted, by landmarks.
 fn run_long(format: &[u8], table: &[u8], out: &mut [u8]) -> Outcome
     requires { ⌜ tableVerdict (now table) ≡ Accepted ⌝ }
@@ -99,7 +115,7 @@ fn run_text(format: &[u8], table: &[u8], out: &mut [u8]) -> Outcome
     requires { ⌜ textVerdict (now format) ≡ Accepted ⌝ }
     ensures { λ r. ⌜ Answers (now (format .entry)) (now (table .entry)) (now (out .entry)) (now (out .exit)) (r .code) (r .position) (r .steps) (r .written) ⌝ }
 {
-    if LONG < format.len() {
+    if is_worth_landmarks(format) {
         return run_long(format, table, out);
     }
     let hand = Hand {

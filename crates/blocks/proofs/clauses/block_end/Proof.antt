@@ -3,11 +3,6 @@ use Rattle.blocks.proofs.LandmarkLaws.{inside-end, end-known, farther-i
 use borrow.Author.Needs.{needs}
 use Rattle.blocks.proofs.clauses.block_end.Statement.{statement}
 use Rattle.blocks.proofs.clauses.block_end.Tie as tie
-use Rattle.blocks.proofs.clauses.block_end.Reads as reads
-use Rattle.blocks.proofs.clauses.block_end.Lts as lts
-use Rattle.blocks.proofs.clauses.farther.Reads as farther-reads
-use Rattle.blocks.proofs.landmarks.nearest.Reads as nearest-reads
-use Rattle.checking.proofs.ends.after_block.Reads as after-block-reads
 
 nearest-requires : tie.Need-nearest-requires
 nearest-requires c κs = search needs

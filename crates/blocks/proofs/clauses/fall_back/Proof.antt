@@ -5,9 +5,6 @@ use Rattle.blocks.specs.declared.clauses.Found.the-variants.{At, Nothing
 use borrow.Author.Needs.{needs}
 use Rattle.blocks.proofs.clauses.fall_back.Statement.{statement}
 use Rattle.blocks.proofs.clauses.fall_back.Tie as tie
-use Rattle.blocks.proofs.clauses.fall_back.Reads as reads
-use Rattle.blocks.proofs.clauses.fall_back.Lts as lts
-use Rattle.fitting.proofs.places.both.Reads as both-reads
 
 both-requires : tie.Need-both-requires
 both-requires c κs = search needs

@@ -4,8 +4,6 @@ use mathlib.Core.Bool.{Bool, cond}
 use borrow.Author.Tests.{le-leb, lt-leb}
 use Rattle.blocks.proofs.clauses.farther.Statement.{statement}
 use Rattle.blocks.proofs.clauses.farther.Tie as tie
-use Rattle.blocks.proofs.clauses.farther.Reads as reads
-use Rattle.blocks.proofs.clauses.farther.Lts as lts
 
 returns : tie.Need-returns
 returns c = sym (ap (λ (x : Bool). cond x ((c .before) .args .b) ((c .before) .args .a)) (le-leb _ _ (c .if1 .taken)))

@@ -5,14 +5,6 @@ use Rattle.blocks.proofs.ClauseLaws.{seek-start}
 use borrow.Author.Needs.{needs}
 use Rattle.blocks.proofs.clauses.find_clause.Statement.{statement}
 use Rattle.blocks.proofs.clauses.find_clause.Tie as tie
-use Rattle.blocks.proofs.clauses.find_clause.Reads as reads
-use Rattle.blocks.proofs.clauses.find_clause.Lts as lts
-use Rattle.blocks.proofs.clauses.less.Reads as less-reads
-use Rattle.blocks.proofs.clauses.number_or_last.Reads as number-or-last-reads
-use Rattle.blocks.proofs.clauses.seek_clause.Reads as seek-clause-reads
-use Rattle.blocks.proofs.clauses.seek_from.Reads as seek-from-reads
-use Rattle.blocks.proofs.landmarks.leads.Reads as leads-reads
-use Rattle.blocks.proofs.landmarks.nearest.Reads as nearest-reads
 
 number-or-last-requires : tie.Need-number-or-last-requires
 number-or-last-requires c κs = search needs

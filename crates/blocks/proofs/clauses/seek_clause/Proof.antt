@@ -10,12 +10,6 @@ use lib.ListN.{length}
 use mathlib.Core.Path.{sym, subst, _∙_}
 use Rattle.blocks.proofs.clauses.seek_clause.Statement.{statement}
 use Rattle.blocks.proofs.clauses.seek_clause.Tie as tie
-use Rattle.blocks.proofs.clauses.seek_clause.Reads as reads
-use Rattle.blocks.proofs.clauses.seek_clause.Lts as lts
-use Rattle.blocks.proofs.clauses.fall_back.Reads as fall-back-reads
-use Rattle.blocks.proofs.clauses.less.Reads as less-reads
-use Rattle.checking.proofs.ends.next_clause.Reads as next-clause-reads
-use Rattle.fitting.proofs.places.both.Reads as both-reads
 
 abbrev Inv-loop : tie.InvT-loop
 Inv-loop text start colon others counted fallback z₀ marked₀ skip₀ z marked skip =

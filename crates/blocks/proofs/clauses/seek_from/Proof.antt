@@ -4,11 +4,6 @@ use Rattle.blocks.proofs.ClauseLaws.{seek-here, seek-last}
 use borrow.Author.Needs.{needs}
 use Rattle.blocks.proofs.clauses.seek_from.Statement.{statement}
 use Rattle.blocks.proofs.clauses.seek_from.Tie as tie
-use Rattle.blocks.proofs.clauses.seek_from.Reads as reads
-use Rattle.blocks.proofs.clauses.seek_from.Lts as lts
-use Rattle.blocks.proofs.clauses.fall_back.Reads as fall-back-reads
-use Rattle.blocks.proofs.clauses.seek_clause.Reads as seek-clause-reads
-use Rattle.fitting.proofs.places.both.Reads as both-reads
 
 both-requires : tie.Need-both-requires
 both-requires c κs = search needs

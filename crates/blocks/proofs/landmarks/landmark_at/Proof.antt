@@ -6,9 +6,6 @@ use Rattle.blocks.proofs.LandmarkLaws.{mark-eq}
 use borrow.Author.Needs.{needs}
 use Rattle.blocks.proofs.landmarks.landmark_at.Statement.{statement}
 use Rattle.blocks.proofs.landmarks.landmark_at.Tie as tie
-use Rattle.blocks.proofs.landmarks.landmark_at.Reads as reads
-use Rattle.blocks.proofs.landmarks.landmark_at.Lts as lts
-use Rattle.blocks.proofs.landmarks.cell.Reads as cell-reads
 
 mul-i : tie.Need-mul-i
 mul-i c = search needs

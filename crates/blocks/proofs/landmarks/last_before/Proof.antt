@@ -3,10 +3,6 @@ use Prim.Native.Nat.{_-_, _<_, _≤_}
 use native.Mathlib.Omega.{arith}
 use Rattle.blocks.proofs.landmarks.last_before.Statement.{statement}
 use Rattle.blocks.proofs.landmarks.last_before.Tie as tie
-use Rattle.blocks.proofs.landmarks.last_before.Reads as reads
-use Rattle.blocks.proofs.landmarks.last_before.Lts as lts
-use Rattle.blocks.proofs.landmarks.is_behind.Reads as is-behind-reads
-use Rattle.blocks.proofs.landmarks.middle.Reads as middle-reads
 
 abbrev Inv-loop : tie.InvT-loop
 Inv-loop marks start n low₀ high₀ low high = (low < high) × (high ≤ 342)

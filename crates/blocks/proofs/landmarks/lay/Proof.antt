@@ -1,13 +1,10 @@
 -- `lay` meets its contract: five stores. Assumes nothing.
 use lib.ListN.{length-set}
 use native.Mathlib.Omega.{arith}
-use mathlib.Core.Path.{_≡_}
 use Rattle.blocks.proofs.LandmarkLaws.{lays, lays-none, bit-is}
 use borrow.Author.Needs.{needs}
 use Rattle.blocks.proofs.landmarks.lay.Statement.{statement}
 use Rattle.blocks.proofs.landmarks.lay.Tie as tie
-use Rattle.blocks.proofs.landmarks.lay.Reads as reads
-use Rattle.blocks.proofs.landmarks.lay.Lts as lts
 
 mul-i : tie.Need-mul-i
 mul-i c = search needs

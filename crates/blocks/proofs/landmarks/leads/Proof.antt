@@ -3,8 +3,6 @@ use mathlib.Core.Path.{refl}
 use Rattle.blocks.proofs.LandmarkLaws.{leads-counted, leads-any, leads-other}
 use Rattle.blocks.proofs.landmarks.leads.Statement.{statement}
 use Rattle.blocks.proofs.landmarks.leads.Tie as tie
-use Rattle.blocks.proofs.landmarks.leads.Reads as reads
-use Rattle.blocks.proofs.landmarks.leads.Lts as lts
 
 returns : tie.Need-returns
 returns c = leads-counted (c .before .before .before .before .args .l) (c .before .before .before .before .args .start) (c .before .before .before .before .args .n) (c .before .before .if1 .taken) (c .before .if2 .taken) refl

@@ -4,17 +4,10 @@ use Rattle.blocks.proofs.LandmarkLaws.{Marking, marking-first, another-
 use Rattle.checking.specs.Ends.{EndsClause}
 use Prim.Native.Nat.{_-_}
 use lib.ListN.{length}
-use mathlib.Core.Path.{sym, subst, ap, _∙_}
+use mathlib.Core.Path.{subst, ap, _∙_}
 use native.Mathlib.Omega.{arith}
 use Rattle.blocks.proofs.landmarks.mark_block.Statement.{statement}
 use Rattle.blocks.proofs.landmarks.mark_block.Tie as tie
-use Rattle.blocks.proofs.landmarks.mark_block.Reads as reads
-use Rattle.blocks.proofs.landmarks.mark_block.Lts as lts
-use Rattle.blocks.proofs.landmarks.another.Reads as another-reads
-use Rattle.blocks.proofs.landmarks.ending.Reads as ending-reads
-use Rattle.blocks.proofs.landmarks.later.Reads as later-reads
-use Rattle.blocks.proofs.landmarks.lay_far.Reads as lay-far-reads
-use Rattle.checking.proofs.ends.next_clause.Reads as next-clause-reads
 
 abbrev Inv-loop : tie.InvT-loop
 Inv-loop text start marks₀ first k₀ from₀ l₀ marks k from l = Marking text marks₀ marks k l

@@ -8,11 +8,6 @@ use Rattle.blocks.specs.Landmarks.{Marks}
 use Rattle.checking.proofs.EndLaws.{shaped}
 use Rattle.blocks.proofs.landmarks.mark_text.Statement.{statement}
 use Rattle.blocks.proofs.landmarks.mark_text.Tie as tie
-use Rattle.blocks.proofs.landmarks.mark_text.Reads as reads
-use Rattle.blocks.proofs.landmarks.mark_text.Lts as lts
-use Rattle.blocks.proofs.landmarks.mark_block.Reads as mark-block-reads
-use Rattle.checking.proofs.ends.shape_at.Reads as shape-at-reads
-use Rattle.reader.proofs.short.skip_short.Reads as skip-short-reads
 
 abbrev Inv-loop : tie.InvT-loop
 Inv-loop text marks₀ p₀ k₀ marks p k = Marks text marks₀ marks × ((p ≤ length text) × (k ≤ 342))

@@ -3,10 +3,6 @@ use Rattle.blocks.proofs.LandmarkLaws.{near-sound}
 use borrow.Author.Needs.{needs}
 use Rattle.blocks.proofs.landmarks.nearest.Statement.{statement}
 use Rattle.blocks.proofs.landmarks.nearest.Tie as tie
-use Rattle.blocks.proofs.landmarks.nearest.Reads as reads
-use Rattle.blocks.proofs.landmarks.nearest.Lts as lts
-use Rattle.blocks.proofs.landmarks.landmark_at.Reads as landmark-at-reads
-use Rattle.blocks.proofs.landmarks.last_before.Reads as last-before-reads
 
 landmark-at-requires : tie.Need-landmark-at-requires
 landmark-at-requires c κs = search needs

@@ -2,7 +2,6 @@
 use Rattle.blocks.specs.Parts.{ListsTo}
 use Prim.Native.Nat.{_+_}
 use Rattle.rules.specs.Table.{meant}
-use native.Mathlib.Omega.{arith}
 use Rattle.blocks.proofs.PassLaws.{over-same, over-lacks, over-not, over-entries}
 use mathlib.Core.Path.{refl, subst}
 use borrow.Author.Needs.{needs}

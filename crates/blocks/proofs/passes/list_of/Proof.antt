@@ -3,8 +3,7 @@ use Rattle.blocks.specs.Parts.{isListValue}
 use Rattle.rules.proofs.AnswerLaws.{list-fits}
 use Rattle.rules.specs.Table.{meant}
 use Rattle.rules.specs.declared.Argument.{Argument}
-use mathlib.Core.Bool.{Bool}
-use mathlib.Core.Path.{_≡_, refl, sym, ap}
+use mathlib.Core.Path.{ap}
 use borrow.Author.Needs.{needs}
 use Rattle.blocks.proofs.passes.list_of.Statement.{statement}
 use Rattle.blocks.proofs.passes.list_of.Tie as tie

@@ -6,12 +6,6 @@ use Rattle.blocks.proofs.LandmarkLaws.{none-laid-in}
 use borrow.Author.Needs.{needs}
 use Rattle.engine.proofs.formatting.run_long.Statement.{statement}
 use Rattle.engine.proofs.formatting.run_long.Tie as tie
-use Rattle.engine.proofs.formatting.run_long.Reads as reads
-use Rattle.engine.proofs.formatting.run_long.Lts as lts
-use Rattle.blocks.proofs.landmarks.mark_text.Reads as mark-text-reads
-use Rattle.engine.proofs.formatting.outcome_of.Reads as outcome-of-reads
-use Rattle.engine.proofs.runners.run_sequence.Reads as run-sequence-reads
-use Rattle.table.proofs.argument_count.Reads as argument-count-reads
 
 slice-aggregate-mark-text : tie.Need-slice-aggregate-mark-text
 slice-aggregate-mark-text c = search needs

@@ -6,12 +6,9 @@ use Rattle.blocks.proofs.LandmarkLaws.{none-laid}
 use borrow.Author.Needs.{needs}
 use Rattle.engine.proofs.formatting.run_text.Statement.{statement}
 use Rattle.engine.proofs.formatting.run_text.Tie as tie
-use Rattle.engine.proofs.formatting.run_text.Reads as reads
-use Rattle.engine.proofs.formatting.run_text.Lts as lts
-use Rattle.engine.proofs.formatting.outcome_of.Reads as outcome-of-reads
-use Rattle.engine.proofs.formatting.run_long.Reads as run-long-reads
-use Rattle.engine.proofs.runners.run_sequence.Reads as run-sequence-reads
-use Rattle.table.proofs.argument_count.Reads as argument-count-reads
+
+is-worth-landmarks-requires : tie.Need-is-worth-landmarks-requires
+is-worth-landmarks-requires c κs = search needs
 
 run-long-requires : tie.Need-run-long-requires
 run-long-requires c κs = search needs
@@ -23,13 +20,13 @@ returns : tie.Need-returns
 returns c = search needs
 
 argument-count-requires : tie.Need-argument-count-requires
-argument-count-requires c κs = has-header (c .before .before .before .before .args .table .now) (c .before .before .before .before .pre .0)
+argument-count-requires c κs = has-header (c .before .before .before .before .before .args .table .now) (c .before .before .before .before .before .pre .0)
 
 slice-aggregate-run-sequence : tie.Need-slice-aggregate-run-sequence
 slice-aggregate-run-sequence c = search needs
 
 run-sequence-requires : tie.Need-run-sequence-requires
-run-sequence-requires c κs = (none-laid (c .before .before .before .before .before .before .before .args .format .now) (sound-start (c .before .before .before .before .before .before .before .args .format .now) (c .before .before .before .before .before .before .before .pre .1) .0), (all-in-hand (c .before .before .before .before .before .before .before .args .table .now) _ (c .before .before .before .before .before .before .before .pre .0) (c .before .before .argument-count .ensures .0), (omega arith, (omega arith, omega arith))))
+run-sequence-requires c κs = (none-laid (c .before .before .before .before .before .before .before .before .args .format .now) (sound-start (c .before .before .before .before .before .before .before .before .args .format .now) (c .before .before .before .before .before .before .before .before .pre .1) .0), (all-in-hand (c .before .before .before .before .before .before .before .before .args .table .now) _ (c .before .before .before .before .before .before .before .before .pre .0) (c .before .before .argument-count .ensures .0), (omega arith, (omega arith, omega arith))))
 
 outcome-of-requires : tie.Need-outcome-of-requires
 outcome-of-requires c κs = c .before .before .run-sequence .ensures .does .falls
@@ -39,13 +36,14 @@ same-length-2 c = c .before .before .before .run-sequence .ensures .does .size
 
 returns-2 : tie.Need-returns-2
 returns-2 c =
-    let a = c .before .before .before .before .before .before .before .before .before .before .before .args in
-    whole-told (a .format .now) (a .table .now) (a .out .now) _ _ (c .before .before .before .before .before .before .argument-count .ensures .0) (c .before .before .before .before .before .before .before .before .before .before .before .pre .0) (c .before .before .before .before .before .before .before .before .before .before .before .pre .1) (c .before .before .before .run-sequence .ensures) (c .outcome-of .ensures)
+    let a = c .before .before .before .before .before .before .before .before .before .before .before .before .args in
+    whole-told (a .format .now) (a .table .now) (a .out .now) _ _ (c .before .before .before .before .before .before .argument-count .ensures .0) (c .before .before .before .before .before .before .before .before .before .before .before .before .pre .0) (c .before .before .before .before .before .before .before .before .before .before .before .before .pre .1) (c .before .before .before .run-sequence .ensures) (c .outcome-of .ensures)
 
 pub run-text-spec : {M : Type 1} → statement M
 run-text-spec =
     tie.close
     (tie.spec
+    is-worth-landmarks-requires
     run-long-requires
     same-length
     returns
