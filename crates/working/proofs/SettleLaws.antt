@@ -5,6 +5,7 @@ use mathlib.Core.Bool.{Bool, true, false, cond, not}
 use mathlib.Core.List.{List, [], _∷_}
 use lib.Dec.{leb}
 use lib.ListN.{length}
+use Rattle.rules.specs.Choice.{both}
 use Rattle.rules.specs.Table.{View, viewOf}
 use Rattle.rules.specs.Directive.{Place, anyNumber, placesOf, either, takes, suits, inOrder, eachSuits, fitInto, wellWritten}
 use Rattle.rules.specs.Working.{worked, wrong, workOut, settle}
@@ -18,7 +19,8 @@ use Rattle.rules.specs.declared.Parameters.{Parameters}
 use Rattle.rules.specs.declared.Setting.{Setting}
 use Rattle.rules.specs.declared.Setting.the-variants.{Absent}
 use Rattle.rules.proofs.Tests.{both-true}
-use Rattle.working.specs.Settling.{handAt, InPlace, Works, noneSettled, Settles, placesIn, SettlesDirective}
+use Rattle.working.proofs.WorkLaws.{work-written}
+use Rattle.working.specs.Settling.{handAt, InPlace, Works, isWritten, allWritten, WrittenAs, noneSettled, Settles, SettlesLast, SettlesWritten, placesIn, SettlesDirective}
 use Rattle.working.specs.declared.Hand.{Hand}
 use Rattle.working.specs.declared.WorkedOut.{WorkedOut}
 use Rattle.working.specs.declared.WorkedOut.the-variants.{Is as workedIs, Wrong as workedWrong}
@@ -62,7 +64,7 @@ none-settled h e = rw e (record {
 })
 
 module _ {t : List ℕ} {hand : Hand} {ps : Parameters} {n : ℕ} where
-  -- the first parameter is refused, the second, the third, the fourth
+  -- the first parameter is refused, the second
   pub first-wrong : {y : Place} {ys : List Place} {r : WorkedOut} {code : ℕ} → Works t hand y (ps .first) n r → r ≡ workedWrong code
       → Settles t hand (y ∷ ys) ps n (settledWrong code)
   unfolding settle
@@ -83,38 +85,67 @@ module _ {t : List ℕ} {hand : Hand} {ps : Parameters} {n : ℕ} where
     second-wrong w e = record { as-defined = λ i p m on. rw (gives w₁ e₁ i, refuses w e i); reaches = tt; lies = λ _. tt }
 
     module _ {y₂ : Place} {r₂ : WorkedOut} {s₂ : Setting} {n₂ : ArgumentPosition} (w₂ : Works t hand y₂ (ps .second) (n₁ .0) r₂) (e₂ : r₂ ≡ workedIs s₂ n₂) where
-      pub third-wrong : {y₃ : Place} {ys : List Place} {r : WorkedOut} {code : ℕ} → Works t hand y₃ (ps .third) (n₂ .0) r → r ≡ workedWrong code
-          → Settles t hand (y₁ ∷ y₂ ∷ y₃ ∷ ys) ps n (settledWrong code)
+      -- the third and the fourth
+      pub four-settled : {y₃ y₄ : Place} {r : SettledOut} → SettlesLast t hand y₃ y₄ ps s₁ s₂ (n₂ .0) r → Settles t hand (y₁ ∷ y₂ ∷ y₃ ∷ y₄ ∷ []) ps n r
       unfolding settle
-      third-wrong w e = record { as-defined = λ i p m on. rw (gives w₁ e₁ i, gives w₂ e₂ i, refuses w e i); reaches = tt; lies = λ _. tt }
+      four-settled {y₃} {y₄} l = record {
+        as-defined = λ i p m on. rw (gives w₁ e₁ i, gives w₂ e₂ i) (l .as-defined i p m on);
+        reaches = l .reaches;
+        lies = λ e.
+            let from₂ = both-true (suits y₁ (ps .first)) (eachSuits (y₂ ∷ y₃ ∷ y₄ ∷ []) (ps .second ∷ ps .third ∷ ps .fourth ∷ [])) e in
+            let from₃ = both-true (suits y₂ (ps .second)) (eachSuits (y₃ ∷ y₄ ∷ []) (ps .third ∷ ps .fourth ∷ [])) (from₂ .1) in
+            l .lies y₁ y₂ (still-lies w₁ e₁ (from₂ .0)) (still-lies w₂ e₂ (from₃ .0)) (from₃ .1);
+      }
 
-      module _ {y₃ : Place} {r₃ : WorkedOut} {s₃ : Setting} {n₃ : ArgumentPosition} (w₃ : Works t hand y₃ (ps .third) (n₂ .0) r₃) (e₃ : r₃ ≡ workedIs s₃ n₃) where
-        pub fourth-wrong : {y₄ : Place} {ys : List Place} {r : WorkedOut} {code : ℕ} → Works t hand y₄ (ps .fourth) (n₃ .0) r → r ≡ workedWrong code
-            → Settles t hand (y₁ ∷ y₂ ∷ y₃ ∷ y₄ ∷ ys) ps n (settledWrong code)
-        unfolding settle
-        fourth-wrong w e = record {
-          as-defined = λ i p m on. rw (gives w₁ e₁ i, gives w₂ e₂ i, gives w₃ e₃ i, refuses w e i);
-          reaches = tt;
-          lies = λ _. tt;
-        }
+-- the last two of four
+module _ {t : List ℕ} {hand : Hand} {ps : Parameters} {s₁ s₂ : Setting} {n : ℕ} where
+  pub third-wrong : {y₃ y₄ : Place} {r : WorkedOut} {code : ℕ} → Works t hand y₃ (ps .third) n r → r ≡ workedWrong code
+      → SettlesLast t hand y₃ y₄ ps s₁ s₂ n (settledWrong code)
+  unfolding settle
+  third-wrong w e = record { as-defined = λ i p m on. rw (refuses w e i); reaches = tt; lies = λ _ _ _ _ _. tt }
 
-        pub four-settled : {y₄ : Place} {r₄ : WorkedOut} {s₄ : Setting} {n₄ : ArgumentPosition} → Works t hand y₄ (ps .fourth) (n₃ .0) r₄ → r₄ ≡ workedIs s₄ n₄
-            → Settles t hand (y₁ ∷ y₂ ∷ y₃ ∷ y₄ ∷ []) ps n (settledIs (record { first = s₁; second = s₂; third = s₃; fourth = s₄ }) n₄)
-        unfolding settle
-        four-settled {y₄} w₄ e₄ = record {
-          as-defined = λ i p m on. rw (gives w₁ e₁ i, gives w₂ e₂ i, gives w₃ e₃ i, gives w₄ e₄ i);
-          reaches = still-reaches w₄ e₄;
-          lies = λ e.
-              let from₂ = both-true (suits y₁ (ps .first)) (eachSuits (y₂ ∷ y₃ ∷ y₄ ∷ []) (ps .second ∷ ps .third ∷ ps .fourth ∷ [])) e in
-              let from₃ = both-true (suits y₂ (ps .second)) (eachSuits (y₃ ∷ y₄ ∷ []) (ps .third ∷ ps .fourth ∷ [])) (from₂ .1) in
-              let from₄ = both-true (suits y₃ (ps .third)) (eachSuits (y₄ ∷ []) (ps .fourth ∷ [])) (from₃ .1) in
-              record {
-                first = still-lies w₁ e₁ (from₂ .0);
-                second = still-lies w₂ e₂ (from₃ .0);
-                third = still-lies w₃ e₃ (from₄ .0);
-                fourth = still-lies w₄ e₄ (both-true (suits y₄ (ps .fourth)) true (from₄ .1) .0);
-              };
-        }
+  module _ {y₃ : Place} {r₃ : WorkedOut} {s₃ : Setting} {n₃ : ArgumentPosition} (w₃ : Works t hand y₃ (ps .third) n r₃) (e₃ : r₃ ≡ workedIs s₃ n₃) where
+    pub fourth-wrong : {y₄ : Place} {r : WorkedOut} {code : ℕ} → Works t hand y₄ (ps .fourth) (n₃ .0) r → r ≡ workedWrong code
+        → SettlesLast t hand y₃ y₄ ps s₁ s₂ n (settledWrong code)
+    unfolding settle
+    fourth-wrong w e = record { as-defined = λ i p m on. rw (gives w₃ e₃ i, refuses w e i); reaches = tt; lies = λ _ _ _ _ _. tt }
+
+    pub last-settled : {y₄ : Place} {r₄ : WorkedOut} {s₄ : Setting} {n₄ : ArgumentPosition} → Works t hand y₄ (ps .fourth) (n₃ .0) r₄ → r₄ ≡ workedIs s₄ n₄
+        → SettlesLast t hand y₃ y₄ ps s₁ s₂ n (settledIs (record { first = s₁; second = s₂; third = s₃; fourth = s₄ }) n₄)
+    unfolding settle
+    last-settled {y₄} w₄ e₄ = record {
+      as-defined = λ i p m on. rw (gives w₃ e₃ i, gives w₄ e₄ i);
+      reaches = still-reaches w₄ e₄;
+      lies = λ y₁ y₂ h₁ h₂ e.
+          let from₄ = both-true (suits y₃ (ps .third)) (eachSuits (y₄ ∷ []) (ps .fourth ∷ [])) e in
+          record {
+            first = h₁;
+            second = h₂;
+            third = still-lies w₃ e₃ (from₄ .0);
+            fourth = still-lies w₄ e₄ (both-true (suits y₄ (ps .fourth)) true (from₄ .1) .0);
+          };
+    }
+
+-- four that are all written out
+pub all-settled : {ps : Parameters} {next : ArgumentPosition} {s₁ s₂ s₃ s₄ : Setting} → WrittenAs (ps .first) s₁ → WrittenAs (ps .second) s₂ → WrittenAs (ps .third) s₃ → WrittenAs (ps .fourth) s₄
+    → SettlesWritten ps next (settledIs (record { first = s₁; second = s₂; third = s₃; fourth = s₄ }) next)
+all-settled w₁ w₂ w₃ w₄ = record {
+  is = λ t hand y₁ y₂ y₃ y₄ h.
+      four-settled (work-written h w₁) refl (work-written h w₂) refl (last-settled (work-written h w₃) refl (work-written h w₄) refl);
+}
+
+pub record EachWritten (ps : Parameters) : Type 0 where
+  pub first : isWritten (ps .first) ≡ true
+  pub second : isWritten (ps .second) ≡ true
+  pub third : isWritten (ps .third) ≡ true
+  pub fourth : isWritten (ps .fourth) ≡ true
+
+pub each-written : (ps : Parameters) → allWritten ps ≡ true → EachWritten ps
+each-written ps e =
+    let from₂ = both-true (isWritten (ps .first)) (both (isWritten (ps .second)) (both (isWritten (ps .third)) (isWritten (ps .fourth)))) e in
+    let from₃ = both-true (isWritten (ps .second)) (both (isWritten (ps .third)) (isWritten (ps .fourth))) (from₂ .1) in
+    let from₄ = both-true (isWritten (ps .third)) (isWritten (ps .fourth)) (from₃ .1) in
+    record { first = from₂ .0; second = from₃ .0; third = from₄ .0; fourth = from₄ .1 }
 
 -- a directive that is well written has parameters that suit its places
 written-suits : (d : Directive) → wellWritten d ≡ true → eachSuits (placesIn d) (inOrder (d .parameters)) ≡ true

@@ -14,7 +14,7 @@ use Rattle.rules.specs.Choice.{both}
 use Rattle.rules.specs.Number.{isNegative, magnitudeOf}
 use Rattle.rules.specs.Table.{integer, meant, viewOf}
 use Rattle.rules.specs.Directive.{Place, number, character, suits}
-use Rattle.rules.specs.Working.{worked, wrong, argumentIn, inRange, fromValue, workOut}
+use Rattle.rules.specs.Working.{worked, wrong, argumentIn, inRange, fromValue, fromCount, workOut}
 use Rattle.rules.specs.declared.Argument.{Argument}
 use Rattle.rules.specs.declared.Argument.the-variants.{Boolean, Integer, Character as CharacterArgument, Text, Entries}
 use Rattle.rules.specs.declared.ArgumentPosition.{ArgumentPosition}
@@ -23,9 +23,10 @@ use Rattle.rules.specs.declared.Parameter.the-variants.{Default, Number, Charac
 use Rattle.rules.specs.declared.Setting.{Setting}
 use Rattle.rules.specs.declared.Setting.the-variants.{Absent, Is}
 use Rattle.rules.proofs.Argument.{the-type}
+use Rattle.rules.proofs.Parameter.{the-type as parameter-type}
 use Rattle.rules.proofs.Tests.{both-true, not-both-ways}
 use Rattle.rules.proofs.TableLaws.{accepted-sound}
-use Rattle.working.specs.Settling.{handAt, InHand, InPlace, workedAs, Reaches, Lies, Works}
+use Rattle.working.specs.Settling.{handAt, InHand, InPlace, workedAs, Reaches, Lies, Works, isWritten, WrittenAs}
 use Rattle.working.specs.declared.Hand.{Hand}
 use Rattle.working.specs.declared.WorkedOut.{WorkedOut}
 use Rattle.working.specs.declared.WorkedOut.the-variants.{Is as workedIs, Wrong as workedWrong}
@@ -63,6 +64,14 @@ range-lies least most n next =
     tested-lies least most n next (both (leb least n) (leb n most))
     (λ e. let parts = both-true (leb least n) (leb n most) e in (leb-true least n (parts .0), leb-true n most (parts .1)))
 
+count-reaches : (count : ℕ) (y : Place) (n next : ℕ) → next ≤ count → Reaches count (fromCount y n next)
+count-reaches count (number least most) n next h = tested-reaches count next (both (leb least n) (leb n most)) (Is n) h
+count-reaches count character n next h = tt
+
+count-lies : (y : Place) (n next : ℕ) → Lies y (fromCount y n next)
+count-lies (number least most) n next = range-lies least most n next
+count-lies character n next = tt
+
 -- an integer argument in a number place, by what the code has at hand: its sign and its magnitude
 from-negative : (least most n : ℕ) (z : ℤ) → isNegative z ≡ true → fromValue (number least most) (integer z) n ≡ wrong 8
 from-negative least most n (pos m) e = absurd (not-both-ways e refl)
@@ -89,34 +98,48 @@ from-no-character t n (CharacterArgument b) k =
 from-no-character t n (Text start end) k = refl
 from-no-character t n (Entries first count) k = refl
 
+-- a parameter that is written out
+pub default-written : {x : Parameter} → x ≡ Default → WrittenAs x Absent
+unfolding workOut
+default-written e = rw e (record { is = λ v c y n. refl; lies = λ y _. absent-lies y })
+
+pub number-written : {x : Parameter} {n w : ℕ} → x ≡ Number n → w ≡ n → WrittenAs x (Is w)
+unfolding workOut
+number-written {x} {n} e same = rw (e, same) (record { is = λ v c y next. refl; lies = λ y. number-lies y n })
+
+pub byte-written : {x : Parameter} {b w : ℕ} → x ≡ Character b → (w ≡ b) × (w < 256) → WrittenAs x (Is w)
+unfolding workOut
+byte-written {x} {b} {w} e same = rw e (record { is = λ v c y next. rw (same .0); lies = λ y. byte-lies y b w (same .1) })
+
+-- .. and one that is not
+pub next-not-written : {x : Parameter} {A : Type 0} → x ≡ Next → isWritten x ≡ true → A
+next-not-written e h = absurd (not-both-ways (rw e at h) refl)
+
+pub remaining-not-written : {x : Parameter} {A : Type 0} → x ≡ Remaining → isWritten x ≡ true → A
+remaining-not-written e h = absurd (not-both-ways (rw e at h) refl)
+
+-- `k` says that the tag is one of those that are written out
+pub tag-written : (x : Parameter) → OneOf (0 ∷ 1 ∷ 2 ∷ []) (tagOf parameter-type x) → isWritten x ≡ true
+tag-written Default k = refl
+tag-written (Number n) k = refl
+tag-written (Character b) k = refl
+tag-written Next k = absurd (⊎-elim (λ a. omega arith) (λ b. ⊎-elim (λ a. omega arith) (λ a. omega arith) b) k)
+tag-written Remaining k = absurd (⊎-elim (λ a. omega arith) (λ b. ⊎-elim (λ a. omega arith) (λ a. omega arith) b) k)
+
 module _ {t : List ℕ} {hand : Hand} {next : ArgumentPosition} (h : next .0 ≤ hand .count) where
-  -- a parameter that is written out
-  pub work-default : {y : Place} {x : Parameter} → x ≡ Default → Works t hand y x (next .0) (workedIs Absent next)
-  unfolding workOut
-  work-default {y} e = rw e (record { as-defined = refl; reaches = h; lies = λ _. absent-lies y })
-
-  pub work-written : {y : Place} {x : Parameter} {n w : ℕ} → x ≡ Number n → w ≡ n → Works t hand y x (next .0) (workedIs (Is w) next)
-  unfolding workOut
-  work-written {y} {x} {n} e same = rw (e, same) (record { as-defined = refl; reaches = h; lies = number-lies y n })
-
-  pub work-byte : {y : Place} {x : Parameter} {b w : ℕ} → x ≡ Character b → (w ≡ b) × (w < 256) → Works t hand y x (next .0) (workedIs (Is w) next)
-  unfolding workOut
-  work-byte {y} {x} {b} {w} e same = rw e (record { as-defined = rw (same .0); reaches = h; lies = byte-lies y b w (same .1) })
+  pub work-written : {y : Place} {x : Parameter} {s : Setting} → WrittenAs x s → Works t hand y x (next .0) (workedIs s next)
+  work-written {y} w = record { as-defined = sym (w .is (viewOf t) (handAt hand 0) y (next .0)); reaches = h; lies = w .lies y }
 
   -- `#`
-  pub work-remaining : {least most n : ℕ} {x : Parameter} {r : WorkedOut} → x ≡ Remaining → n ≡ hand .count - next .0
-      → workedAs r ≡ inRange least most n (next .0) → Works t hand (number least most) x (next .0) r
+  pub work-count : {y : Place} {x : Parameter} {r : WorkedOut} → x ≡ Remaining → workedAs r ≡ fromCount y (hand .count - next .0) (next .0)
+      → Works t hand y x (next .0) r
   unfolding workOut
-  work-remaining {least} {most} {n} e left is =
+  work-count {y} e is =
       rw e (record {
-        as-defined = rw left at is;
-        reaches = rw is (tested-reaches (hand .count) (next .0) (both (leb least n) (leb n most)) (Is n) h);
-        lies = λ _. rw is (range-lies least most n (next .0));
+        as-defined = is;
+        reaches = rw is (count-reaches (hand .count) y (hand .count - next .0) (next .0) h);
+        lies = λ _. rw is (count-lies y (hand .count - next .0) (next .0));
       })
-
-  pub no-remaining : {x : Parameter} → x ≡ Remaining → Works t hand character x (next .0) (workedWrong 8)
-  unfolding workOut
-  no-remaining e = rw e (record { as-defined = refl; reaches = tt; lies = λ _. tt })
 
 -- `v`, where no argument is left
 pub none-left : {t : List ℕ} {hand : Hand} {y : Place} {next : ArgumentPosition} → hand .count ≤ next .0 → Works t hand y Next (next .0) (workedWrong 6)

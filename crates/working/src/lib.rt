@@ -15,13 +15,13 @@ use rules::Settings;
 use table::entry_of;
 use table::read_argument;
 ghost use mathlib.Core.Path.{_≡_};
-ghost use mathlib.Core.Bool.{cond};
+ghost use mathlib.Core.Bool.{true, cond};
 ghost use mathlib.Core.List.{[], _∷_};
 ghost use Prim.Native.Nat.{_+_, _-_, _≤_, _<_};
 ghost use Rattle.rules.specs.Table.{Holds, meant, viewOf};
 ghost use Rattle.rules.specs.Directive.{either, number, character, anyNumber, countingNumber, formPlaces, placesOf};
-ghost use Rattle.rules.specs.Working.{argumentIn, inRange};
-ghost use Rattle.working.specs.Settling.{InHand, handAt, workedAs, Works, noneSettled, Settles, SettlesDirective};
+ghost use Rattle.rules.specs.Working.{argumentIn, inRange, fromCount};
+ghost use Rattle.working.specs.Settling.{InHand, handAt, placeOf, workedAs, Works, isWritten, allWritten, WrittenAs, noneSettled, Settles, SettlesLast, SettlesWritten, SettlesDirective};
 ghost use Rattle.rules.specs.declared.Code.the-variants.{Opens};
 ghost use Rattle.rules.specs.declared.Parameter.the-variants.{Next};
 
@@ -44,6 +44,14 @@ const MOST_CHARACTER: usize = 127;
 pub struct Hand {
     pub first: EntryIndex,
     pub count: usize,
+}
+
+// A place for a parameter: for a number from 0 to 4096, one from 1 on, the number of a character, or a character.
+pub enum Slot {
+    AnyNumber,
+    CountingNumber,
+    CharacterNumber,
+    Character,
 }
 
 // A parameter that is worked out, with the next argument after it; or the code that refuses it.
@@ -147,37 +155,6 @@ pub fn widened(n: u16) -> usize
     n as usize
 }
 
-// A parameter in a number place, from least to most.
-pub fn work_number(
-    table: &[u8],
-    hand: Hand,
-    x: Parameter,
-    least: usize,
-    most: usize,
-    next: ArgumentPosition,
-) -> WorkedOut
-    requires { ⌜ InHand (now table) hand ⌝ }
-    requires { ⌜ next .0 ≤ hand .count ⌝ }
-    ensures { λ r. ⌜ Works (now (table .entry)) hand (number least most) x (next .0) r ⌝ }
-{
-    match x {
-        Parameter::Default => WorkedOut::Is {
-            setting: Setting::Absent,
-            next,
-        },
-        Parameter::Number(n) => WorkedOut::Is {
-            setting: Setting::Is(widened(n)),
-            next,
-        },
-        Parameter::Character(b) => WorkedOut::Is {
-            setting: Setting::Is(wide(b)),
-            next,
-        },
-        Parameter::Next => number_argument(table, hand, least, most, next),
-        Parameter::Remaining => in_range(remaining(hand, next), least, most, next),
-    }
-}
-
 // `v` in a character place.
 fn character_argument(table: &[u8], hand: Hand, next: ArgumentPosition) -> WorkedOut
     requires { ⌜ InHand (now table) hand ⌝ }
@@ -197,27 +174,80 @@ fn character_argument(table: &[u8], hand: Hand, next: ArgumentPosition) -> Worke
     }
 }
 
-// A parameter in a character place.
-pub fn work_character(table: &[u8], hand: Hand, x: Parameter, next: ArgumentPosition) -> WorkedOut
+// `v` in a place.
+fn work_next(table: &[u8], hand: Hand, slot: Slot, next: ArgumentPosition) -> WorkedOut
     requires { ⌜ InHand (now table) hand ⌝ }
     requires { ⌜ next .0 ≤ hand .count ⌝ }
-    ensures { λ r. ⌜ Works (now (table .entry)) hand character x (next .0) r ⌝ }
+    ensures { λ r. ⌜ Works (now (table .entry)) hand (placeOf slot) Next (next .0) r ⌝ }
+{
+    match slot {
+        Slot::AnyNumber => number_argument(table, hand, 0, MOST_NUMBER, next),
+        Slot::CountingNumber => number_argument(table, hand, 1, MOST_NUMBER, next),
+        Slot::CharacterNumber => number_argument(table, hand, 0, MOST_CHARACTER, next),
+        Slot::Character => character_argument(table, hand, next),
+    }
+}
+
+// `#` in a place.
+fn work_remaining(hand: Hand, slot: Slot, next: ArgumentPosition) -> WorkedOut
+    requires { ⌜ next .0 ≤ hand .count ⌝ }
+    ensures { λ r. ⌜ workedAs r ≡ fromCount (placeOf slot) (hand .count - next .0) (next .0) ⌝ }
+{
+    let n = remaining(hand, next);
+    match slot {
+        Slot::AnyNumber => in_range(n, 0, MOST_NUMBER, next),
+        Slot::CountingNumber => in_range(n, 1, MOST_NUMBER, next),
+        Slot::CharacterNumber => in_range(n, 0, MOST_CHARACTER, next),
+        Slot::Character => WorkedOut::Wrong(OUT_OF_RANGE),
+    }
+}
+
+// Whether a parameter is written out, and not `v` or `#`.
+fn is_written(x: Parameter) -> bool
+    ensures { λ r. ⌜ r ≡ isWritten x ⌝ }
 {
     match x {
-        Parameter::Default => WorkedOut::Is {
-            setting: Setting::Absent,
+        Parameter::Default => true,
+        Parameter::Number(_) => true,
+        Parameter::Character(_) => true,
+        Parameter::Next => false,
+        Parameter::Remaining => false,
+    }
+}
+
+// What a parameter that is written out is worked out to, in every place.
+fn written(x: Parameter) -> Setting
+    requires { ⌜ isWritten x ≡ true ⌝ }
+    ensures { λ r. ⌜ WrittenAs x r ⌝ }
+{
+    match x {
+        Parameter::Default => Setting::Absent,
+        Parameter::Number(n) => Setting::Is(widened(n)),
+        Parameter::Character(b) => Setting::Is(wide(b)),
+        Parameter::Next => Setting::Absent,
+        Parameter::Remaining => Setting::Absent,
+    }
+}
+
+// A parameter in a place.
+pub fn work_out(
+    table: &[u8],
+    hand: Hand,
+    slot: Slot,
+    x: Parameter,
+    next: ArgumentPosition,
+) -> WorkedOut
+    requires { ⌜ InHand (now table) hand ⌝ }
+    requires { ⌜ next .0 ≤ hand .count ⌝ }
+    ensures { λ r. ⌜ Works (now (table .entry)) hand (placeOf slot) x (next .0) r ⌝ }
+{
+    match x {
+        Parameter::Next => work_next(table, hand, slot, next),
+        Parameter::Remaining => work_remaining(hand, slot, next),
+        _ => WorkedOut::Is {
+            setting: written(x),
             next,
         },
-        Parameter::Number(n) => WorkedOut::Is {
-            setting: Setting::Is(widened(n)),
-            next,
-        },
-        Parameter::Character(b) => WorkedOut::Is {
-            setting: Setting::Is(wide(b)),
-            next,
-        },
-        Parameter::Next => character_argument(table, hand, next),
-        Parameter::Remaining => WorkedOut::Wrong(OUT_OF_RANGE),
     }
 }
 
@@ -236,20 +266,20 @@ fn settle_none(next: ArgumentPosition) -> SettledOut
     }
 }
 
-// One place, for a number from 0 to most.
-fn settle_number(
+// One place.
+fn settle_one(
     table: &[u8],
     hand: Hand,
+    slot: Slot,
     ps: Parameters,
-    most: usize,
     next: ArgumentPosition,
 ) -> SettledOut
     requires { ⌜ InHand (now table) hand ⌝ }
     requires { ⌜ next .0 ≤ hand .count ⌝ }
-    ensures { λ r. ⌜ Settles (now (table .entry)) hand (number 0 most ∷ []) ps (next .0) r ⌝ }
+    ensures { λ r. ⌜ Settles (now (table .entry)) hand (placeOf slot ∷ []) ps (next .0) r ⌝ }
 {
     let p1 = ps.first;
-    let a = work_number(table, hand, p1, 0, most, next);
+    let a = work_out(table, hand, slot, p1, next);
     match a {
         WorkedOut::Wrong(code) => SettledOut::Wrong(code),
         WorkedOut::Is {
@@ -267,59 +297,136 @@ fn settle_number(
     }
 }
 
-// The places of ~a and ~s: minwidth, padinc, minpad, padchar.
-fn settle_object(table: &[u8], hand: Hand, ps: Parameters, next: ArgumentPosition) -> SettledOut
+// The last two of four places, where the first two are worked out to first and second.
+fn settle_last(
+    table: &[u8],
+    hand: Hand,
+    y3: Slot,
+    y4: Slot,
+    ps: Parameters,
+    first: Setting,
+    second: Setting,
+    next: ArgumentPosition,
+) -> SettledOut
     requires { ⌜ InHand (now table) hand ⌝ }
     requires { ⌜ next .0 ≤ hand .count ⌝ }
-    ensures { λ r. ⌜ Settles (now (table .entry)) hand (anyNumber ∷ countingNumber ∷ anyNumber ∷ character ∷ []) ps (next .0) r ⌝ }
+    ensures { λ r. ⌜ SettlesLast (now (table .entry)) hand (placeOf y3) (placeOf y4) ps first second (next .0) r ⌝ }
+{
+    let p3 = ps.third;
+    let p4 = ps.fourth;
+    let a = work_out(table, hand, y3, p3, next);
+    match a {
+        WorkedOut::Wrong(code) => SettledOut::Wrong(code),
+        WorkedOut::Is {
+            setting: third,
+            next: n3,
+        } => {
+            let b = work_out(table, hand, y4, p4, n3);
+            match b {
+                WorkedOut::Wrong(code) => SettledOut::Wrong(code),
+                WorkedOut::Is {
+                    setting: fourth,
+                    next: n4,
+                } => SettledOut::Is {
+                    settings: Settings {
+                        first,
+                        second,
+                        third,
+                        fourth,
+                    },
+                    next: n4,
+                },
+            }
+        }
+    }
+}
+
+// Four places, the first for any number.
+fn settle_four(
+    table: &[u8],
+    hand: Hand,
+    y2: Slot,
+    y3: Slot,
+    y4: Slot,
+    ps: Parameters,
+    next: ArgumentPosition,
+) -> SettledOut
+    requires { ⌜ InHand (now table) hand ⌝ }
+    requires { ⌜ next .0 ≤ hand .count ⌝ }
+    ensures { λ r. ⌜ Settles (now (table .entry)) hand (anyNumber ∷ placeOf y2 ∷ placeOf y3 ∷ placeOf y4 ∷ []) ps (next .0) r ⌝ }
 {
     let p1 = ps.first;
     let p2 = ps.second;
-    let p3 = ps.third;
-    let p4 = ps.fourth;
-    let a = work_number(table, hand, p1, 0, MOST_NUMBER, next);
+    let a = work_out(table, hand, Slot::AnyNumber, p1, next);
     match a {
         WorkedOut::Wrong(code) => SettledOut::Wrong(code),
         WorkedOut::Is {
             setting: first,
             next: n1,
         } => {
-            let b = work_number(table, hand, p2, 1, MOST_NUMBER, n1);
+            let b = work_out(table, hand, y2, p2, n1);
             match b {
                 WorkedOut::Wrong(code) => SettledOut::Wrong(code),
                 WorkedOut::Is {
                     setting: second,
                     next: n2,
-                } => {
-                    let e = work_number(table, hand, p3, 0, MOST_NUMBER, n2);
-                    match e {
-                        WorkedOut::Wrong(code) => SettledOut::Wrong(code),
-                        WorkedOut::Is {
-                            setting: third,
-                            next: n3,
-                        } => {
-                            let f = work_character(table, hand, p4, n3);
-                            match f {
-                                WorkedOut::Wrong(code) => SettledOut::Wrong(code),
-                                WorkedOut::Is {
-                                    setting: fourth,
-                                    next: n4,
-                                } => SettledOut::Is {
-                                    settings: Settings {
-                                        first,
-                                        second,
-                                        third,
-                                        fourth,
-                                    },
-                                    next: n4,
-                                },
-                            }
-                        }
-                    }
-                }
+                } => settle_last(table, hand, y3, y4, ps, first, second, n2),
             }
         }
     }
+}
+
+// Whether all parameters are written out, as they nearly always are.
+fn all_written(ps: Parameters) -> bool
+    ensures { λ r. ⌜ r ≡ allWritten ps ⌝ }
+{
+    let p1 = ps.first;
+    let p2 = ps.second;
+    let p3 = ps.third;
+    let p4 = ps.fourth;
+    if is_written(p1) {
+        if is_written(p2) {
+            if is_written(p3) {
+                return is_written(p4);
+            }
+        }
+    }
+    false
+}
+
+// Four places, whatever they are, for parameters that are all written out.
+fn settle_written(ps: Parameters, next: ArgumentPosition) -> SettledOut
+    requires { ⌜ allWritten ps ≡ true ⌝ }
+    ensures { λ r. ⌜ SettlesWritten ps next r ⌝ }
+{
+    let p1 = ps.first;
+    let p2 = ps.second;
+    let p3 = ps.third;
+    let p4 = ps.fourth;
+    SettledOut::Is {
+        settings: Settings {
+            first: written(p1),
+            second: written(p2),
+            third: written(p3),
+            fourth: written(p4),
+        },
+        next,
+    }
+}
+
+// The places of ~a and ~s: minwidth, padinc, minpad, padchar.
+fn settle_object(table: &[u8], hand: Hand, ps: Parameters, next: ArgumentPosition) -> SettledOut
+    requires { ⌜ InHand (now table) hand ⌝ }
+    requires { ⌜ next .0 ≤ hand .count ⌝ }
+    ensures { λ r. ⌜ Settles (now (table .entry)) hand (anyNumber ∷ countingNumber ∷ anyNumber ∷ character ∷ []) ps (next .0) r ⌝ }
+{
+    if all_written(ps) {
+        return settle_written(ps, next);
+    }
+    let padinc = Slot::CountingNumber;
+    let minpad = Slot::AnyNumber;
+    let padchar = Slot::Character;
+    settle_four(table, hand, padinc, minpad, padchar, ps, next)
 }
 
 // The places of ~d ~x ~o ~b: width, pad, comma, commawidth.
@@ -328,53 +435,13 @@ fn settle_numeral(table: &[u8], hand: Hand, ps: Parameters, next: ArgumentPositi
     requires { ⌜ next .0 ≤ hand .count ⌝ }
     ensures { λ r. ⌜ Settles (now (table .entry)) hand (anyNumber ∷ character ∷ character ∷ countingNumber ∷ []) ps (next .0) r ⌝ }
 {
-    let p1 = ps.first;
-    let p2 = ps.second;
-    let p3 = ps.third;
-    let p4 = ps.fourth;
-    let a = work_number(table, hand, p1, 0, MOST_NUMBER, next);
-    match a {
-        WorkedOut::Wrong(code) => SettledOut::Wrong(code),
-        WorkedOut::Is {
-            setting: first,
-            next: n1,
-        } => {
-            let b = work_character(table, hand, p2, n1);
-            match b {
-                WorkedOut::Wrong(code) => SettledOut::Wrong(code),
-                WorkedOut::Is {
-                    setting: second,
-                    next: n2,
-                } => {
-                    let e = work_character(table, hand, p3, n2);
-                    match e {
-                        WorkedOut::Wrong(code) => SettledOut::Wrong(code),
-                        WorkedOut::Is {
-                            setting: third,
-                            next: n3,
-                        } => {
-                            let f = work_number(table, hand, p4, 1, MOST_NUMBER, n3);
-                            match f {
-                                WorkedOut::Wrong(code) => SettledOut::Wrong(code),
-                                WorkedOut::Is {
-                                    setting: fourth,
-                                    next: n4,
-                                } => SettledOut::Is {
-                                    settings: Settings {
-                                        first,
-                                        second,
-                                        third,
-                                        fourth,
-                                    },
-                                    next: n4,
-                                },
-                            }
-                        }
-                    }
-                }
-            }
-        }
+    if all_written(ps) {
+        return settle_written(ps, next);
     }
+    let pad = Slot::Character;
+    let comma = Slot::Character;
+    let commawidth = Slot::CountingNumber;
+    settle_four(table, hand, pad, comma, commawidth, ps, next)
 }
 
 // The places of a directive that writes.
@@ -392,9 +459,9 @@ fn settle_form(
     match form {
         Form::Object(_) => settle_object(table, hand, ps, next),
         Form::Numeral(_) => settle_numeral(table, hand, ps, next),
-        Form::Glyph => settle_number(table, hand, ps, MOST_CHARACTER, next),
+        Form::Glyph => settle_one(table, hand, Slot::CharacterNumber, ps, next),
         Form::Plural => settle_none(next),
-        Form::Repeat(_) => settle_number(table, hand, ps, MOST_NUMBER, next),
+        Form::Repeat(_) => settle_one(table, hand, Slot::AnyNumber, ps, next),
         Form::Fold => settle_none(next),
     }
 }
@@ -429,11 +496,11 @@ pub fn settle_directive(
     let ps = d.parameters;
     match code {
         Code::Writes(form) => settle_form(table, hand, form, ps, next),
-        Code::Jump => settle_number(table, hand, ps, MOST_NUMBER, next),
+        Code::Jump => settle_one(table, hand, Slot::AnyNumber, ps, next),
         Code::Escape => settle_none(next),
         Code::Opens(bracket) => {
             if has_number(bracket, d.colon, d.at) {
-                return settle_number(table, hand, ps, MOST_NUMBER, next);
+                return settle_one(table, hand, Slot::AnyNumber, ps, next);
             }
             settle_none(next)
         }

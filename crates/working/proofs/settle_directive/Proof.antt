@@ -13,8 +13,8 @@ settle-form-requires c κs = search needs
 enum-told : tie.Need-enum-told
 enum-told c = search needs
 
-settle-number-requires : tie.Need-settle-number-requires
-settle-number-requires c κs = search needs
+settle-one-requires : tie.Need-settle-one-requires
+settle-one-requires c κs = search needs
 
 enum-told-2 : tie.Need-enum-told-2
 enum-told-2 c = search needs
@@ -28,11 +28,11 @@ enum-known-code-2 c = search needs
 has-number-requires : tie.Need-has-number-requires
 has-number-requires c κs = search needs
 
-settle-number-requires-2 : tie.Need-settle-number-requires-2
-settle-number-requires-2 c κs = search needs
+settle-one-requires-2 : tie.Need-settle-one-requires-2
+settle-one-requires-2 c κs = search needs
 
 returns : tie.Need-returns
-returns c = directive-settled (opener-places (c .before .before .before .before .before .before .before .before .args .d) (c .before .before .before .before .code2 .given .1) (c .before .before .has-number .ensures) (c .before .if1 .taken)) (c .settle-number2 .ensures)
+returns c = directive-settled (opener-places (c .before .before .before .before .before .before .before .before .args .d) (c .before .before .before .before .code2 .given .1) (c .before .before .has-number .ensures) (c .before .if1 .taken)) (c .settle-one2 .ensures)
 
 settle-none-requires-2 : tie.Need-settle-none-requires-2
 settle-none-requires-2 c κs = search needs
@@ -59,7 +59,7 @@ returns-2 : tie.Need-returns-2
 returns-2 c = directive-settled (rw (c .before .before .code .given .1)) (c .settle-form .ensures)
 
 returns-3 : tie.Need-returns-3
-returns-3 c = directive-settled (rw (c .before .enum-told .given .1)) (c .settle-number .ensures)
+returns-3 c = directive-settled (rw (c .before .enum-told .given .1)) (c .settle-one .ensures)
 
 returns-4 : tie.Need-returns-4
 returns-4 c = directive-settled (rw (c .before .enum-told2 .given .1)) (none-settled (c .before .before .before .before .before .pre .1) (c .settle-none .ensures))
@@ -83,12 +83,12 @@ settle-directive-spec =
     enum-known-code
     settle-form-requires
     enum-told
-    settle-number-requires
+    settle-one-requires
     enum-told-2
     settle-none-requires
     enum-known-code-2
     has-number-requires
-    settle-number-requires-2
+    settle-one-requires-2
     returns
     settle-none-requires-2
     enum-told-3

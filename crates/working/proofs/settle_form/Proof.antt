@@ -19,8 +19,8 @@ settle-numeral-requires c κs = search needs
 enum-told-3 : tie.Need-enum-told-3
 enum-told-3 c = search needs
 
-settle-number-requires : tie.Need-settle-number-requires
-settle-number-requires c κs = search needs
+settle-one-requires : tie.Need-settle-one-requires
+settle-one-requires c κs = search needs
 
 enum-told-4 : tie.Need-enum-told-4
 enum-told-4 c = search needs
@@ -31,8 +31,8 @@ settle-none-requires c κs = search needs
 enum-told-5 : tie.Need-enum-told-5
 enum-told-5 c = search needs
 
-settle-number-requires-2 : tie.Need-settle-number-requires-2
-settle-number-requires-2 c κs = search needs
+settle-one-requires-2 : tie.Need-settle-one-requires-2
+settle-one-requires-2 c κs = search needs
 
 enum-told-6 : tie.Need-enum-told-6
 enum-told-6 c = search needs
@@ -47,13 +47,13 @@ returns-2 : tie.Need-returns-2
 returns-2 c = rw (c .before .enum-told2 .given .1) (c .settle-numeral .ensures)
 
 returns-3 : tie.Need-returns-3
-returns-3 c = rw (c .before .enum-told3 .given .1) (c .settle-number .ensures)
+returns-3 c = rw (c .before .enum-told3 .given .1) (c .settle-one .ensures)
 
 returns-4 : tie.Need-returns-4
 returns-4 c = rw (c .before .enum-told4 .given .1) (none-settled (c .before .before .before .before .pre .1) (c .settle-none .ensures))
 
 returns-5 : tie.Need-returns-5
-returns-5 c = rw (c .before .enum-told5 .given .1) (c .settle-number2 .ensures)
+returns-5 c = rw (c .before .enum-told5 .given .1) (c .settle-one2 .ensures)
 
 returns-6 : tie.Need-returns-6
 returns-6 c = rw (c .before .enum-told6 .given .1) (none-settled (c .before .before .before .before .pre .1) (c .settle-none2 .ensures))
@@ -67,11 +67,11 @@ settle-form-spec =
     enum-told-2
     settle-numeral-requires
     enum-told-3
-    settle-number-requires
+    settle-one-requires
     enum-told-4
     settle-none-requires
     enum-told-5
-    settle-number-requires-2
+    settle-one-requires-2
     enum-told-6
     settle-none-requires-2
     returns
