@@ -10,14 +10,13 @@ use lib.ListN.{length}
 use Rattle.rules.specs.Directive.{CodeRight, itemAt, either}
 use Rattle.rules.specs.Table.{View}
 use Rattle.rules.specs.Text.{Level, innermost, outer, end, levelsAt}
-use Rattle.rules.specs.Working.{noneRemain}
+use Rattle.rules.specs.Working.{Context, noneRemain}
 use Rattle.rules.specs.Run.{Flow, refused, Frame, iteration, sameArguments, other, usedUp, oneLess, run}
 use Rattle.rules.specs.declared.Bracket.the-variants.{Conditional, Iteration}
 use Rattle.rules.specs.declared.Code.{Code}
 use Rattle.rules.specs.declared.Code.the-variants.{Writes, Jump, Escape, Opens, Separator, Closes, Unknown}
 use Rattle.rules.specs.declared.ArgumentPosition.{ArgumentPosition}
 use Rattle.rules.specs.declared.Directive.{Directive}
-use Rattle.rules.specs.declared.Form.{Form}
 use Rattle.rules.specs.declared.Item.{Item}
 use Rattle.rules.specs.declared.Item.the-variants.{End, Literal, Written, BadNumber, Unfinished}
 use Rattle.rules.specs.declared.Setting.{Setting}
@@ -27,19 +26,20 @@ use Rattle.checking.specs.Ends.{AfterBlock}
 use Rattle.working.specs.Settling.{InHand, handAt}
 use Rattle.working.specs.declared.Hand.{Hand}
 use Rattle.acting.specs.declared.state.Ran.{Ran}
+use Rattle.acting.specs.declared.state.Spot.{Spot}
 use Rattle.acting.specs.declared.state.Stop.{Stop}
 use Rattle.acting.specs.declared.state.Stop.the-variants.{Ended, Left, Refused}
-use Rattle.acting.specs.Ran.{refusedRan, endedRan, hand}
-use Rattle.reader.specs.Marks.{closesAt}
-use Rattle.reader.proofs.MarkLaws.{closes-end}
-use Rattle.running.specs.Runs.{EndsAt, After, restAt, Runs, Steps, Strides, Blocks, Passes, opening}
+use Rattle.acting.specs.Ran.{refusedRan, endedRan, begun, hand}
+use Rattle.acting.proofs.state.Stop as stop-declared
+use Rattle.running.specs.Runs.{EndsAt, EndsBlock, After, restAt, Runs, Steps, Strides, Blocks, Passes, opening}
 use Rattle.blocks.specs.Clauses.{InsideAt}
 use Rattle.blocks.specs.Parts.{endsSequence, endsAt, opensBlock, iterates, outsideOf, OverIn}
 use Rattle.blocks.specs.declared.passes.Over.the-variants.{Is as OverIs}
 use Rattle.stepping.specs.Stepping.{isEnded, ActsAlone}
-use Rattle.running.proofs.Arms.{runs-end, steps-deep, steps-block-none, steps-block}
-use Rattle.running.proofs.BlockArms.{chooses-run, iterates-run, blocks-refused, blocks-same, blocks-list, passes-none, passes-on}
-use Rattle.running.proofs.Strides.{strides-runs-left, strides-runs-refused}
+use Rattle.engine.specs.Runners.{LeavesPasses, spotAt}
+use Rattle.running.proofs.Arms.{no-end-left, runs-end, steps-deep, steps-block-none, steps-block}
+use Rattle.running.proofs.BlockArms.{chooses-run, iterates-run, blocks-refused, blocks-same, blocks-list, passes-over, passes-none, passes-on, passes-left, passes-refused}
+use Rattle.running.proofs.Strides.{strides, strides-runs-on, strides-runs-left, strides-runs-refused}
 use Rattle.running.proofs.Places.{end-at, bad-at, unfinished-at, separator-at, closer-at, unknown-at, iteration-at, conditional-at}
 
 pub not-both : {b : Bool} → b ≡ true → b ≡ false → ⊥
@@ -56,41 +56,50 @@ module _ (t : List ℕ) (p : ℕ) where
   ends-code d e (Closes b) w h = closer-at t p d e b w
   ends-code d e Unknown w h = unknown-at t p d e w
 
-  ends-item : (x : Item) → itemAt t p ≡ x → endsAt x ≡ true → restAt (levelsAt t) p ≡ end
+  pub ends-item : (x : Item) → itemAt t p ≡ x → endsAt x ≡ true → restAt (levelsAt t) p ≡ end
   ends-item End e h = end-at t p e
   ends-item (Literal b) e h = absurd (not-both h refl)
   ends-item (Written d) e h = ends-code d e (d .code) refl h
   ends-item BadNumber e h = bad-at t p e
   ends-item Unfinished e h = unfinished-at t p e
 
-  pub sequence-ends : (v : View) (first count level i left at : ℕ) (b : List ℕ) (r : Ran) (x : Item) → itemAt t p ≡ x → endsAt x ≡ true → r ≡ endedRan i left at p → p ≤ length t → at ≤ length b → i ≤ count
-      → Runs (levelsAt t) (length t) v (hand first count) level p i left at b b r
-  sequence-ends v first count level i left at b r x e h q m l k =
-      subst (Runs (levelsAt t) (length t) v (hand first count) level p i left at b b) (sym q)
-      (runs-end (levelsAt t) (length t) v first count level p i left at b (ends-item x e h) m l k)
-
-  -- the text ends here, or a clause or a block does
-  pub sequence-closes : (v : View) (first count level i left at : ℕ) (b : List ℕ) (r : Ran) → closesAt t p ≡ true → r ≡ endedRan i left at p → p ≤ length t → at ≤ length b → i ≤ count
-      → Runs (levelsAt t) (length t) v (hand first count) level p i left at b b r
-  sequence-closes v first count level i left at b r h q m l k =
-      subst (Runs (levelsAt t) (length t) v (hand first count) level p i left at b b) (sym q)
-      (runs-end (levelsAt t) (length t) v first count level p i left at b (closes-end t p h) m l k)
-
   pub literal-inside : {x : Item} {b : ℕ} → itemAt t p ≡ x → x ≡ Literal b → p < length t
   literal-inside {x} {b} e q = stands t p (Literal b) (e ∙ q)
 
--- how a run over any number of items stopped
-pub ended-as : (r : Ran) → r .stop ≡ Ended → r ≡ endedRan (r .next .0) (r .left) (r .at) (r .place)
-ended-as r q = ap (λ (x : Stop). record { stop = x; next = r .next; left = r .left; at = r .at; place = r .place }) q
-
-pub runs-stopped : (s : ℕ → List Level) (n : ℕ) (v : View) (first count level p i left at : ℕ) (b : List ℕ) {e : List ℕ} {r : Ran}
-    → Strides s n v (hand first count) level p i left at b e r → isEnded (r .stop) ≡ false → Runs s n v (hand first count) level p i left at b e r
-runs-stopped s n v first count level p i left at b {e} {r} u h = by (r .stop) refl h
+-- a run over any number of items that did not end, or at the end of which the sequence ends
+pub sequence-stops : (s : ℕ → List Level) (n : ℕ) (v : View) (first count level p i left at : ℕ) (b : List ℕ) {e : List ℕ} {r : Ran}
+    → Strides s n v (hand first count) level p i left at b e r → (r .stop ≡ Ended → restAt s (r .place) ≡ end) → Runs s n v (hand first count) level p i left at b e r
+sequence-stops s n v first count level p i left at b {e} {r} u h = by (r .stop) refl
   where
-    by : (x : Stop) → r .stop ≡ x → isEnded x ≡ false → Runs s n v (hand first count) level p i left at b e r
-    by Ended q h = absurd (not-both refl h)
-    by Left q h = strides-runs-left s n v first count level p i left at b u q
-    by (Refused code x) q h = strides-runs-refused s n v first count level p i left at b u code x q
+    ended-as : r .stop ≡ Ended → endedRan (r .next .0) (r .left) (r .at) (r .place) ≡ r
+    ended-as q = ap (λ (x : Stop). record { stop = x; next = r .next; left = r .left; at = r .at; place = r .place }) (sym q)
+
+    by : (x : Stop) → r .stop ≡ x → Runs s n v (hand first count) level p i left at b e r
+    by Ended q =
+        strides-runs-on s n v first count level p i left at b u q
+        (subst (Runs s n v (hand first count) level (r .place) (r .next .0) (r .left) (r .at) e e) (ended-as q)
+        (runs-end s n v first count level (r .place) (r .next .0) (r .left) (r .at) e (h q) (u .most q) (omega (arith, u .does .most, u .does .size)) (u .does .inside)))
+    by Left q = strides-runs-left s n v first count level p i left at b u q
+    by (Refused code x) q = strides-runs-refused s n v first count level p i left at b u code x q
+
+-- an item at which the run stops
+pub steps-stopped : (s : ℕ → List Level) (n : ℕ) (v : View) (first count level p i left at : ℕ) (b : List ℕ) {e : List ℕ} {r : Ran}
+    → Steps s n v (hand first count) level p i left at b e r → isEnded (r .stop) ≡ false → Runs s n v (hand first count) level p i left at b e r
+steps-stopped s n v first count level p i left at b u h =
+    sequence-stops s n v first count level p i left at b (strides s n v first count level p i left at b u) (λ q. absurd (not-both (ap isEnded q) h))
+
+-- what stands at a spot, by the spot's other name
+pub refused-at : {r : Ran} {x y : Spot} {code i : ℕ} → r ≡ refusedRan code (x .position) i (x .left) (x .at) (x .place) → x ≡ y → r ≡ refusedRan code (y .position) i (y .left) (y .at) (y .place)
+refused-at {code = code} {i = i} e o = e ∙ ap (λ (z : Spot). refusedRan code (z .position) i (z .left) (z .at) (z .place)) o
+
+pub written-inside : {x y : Spot} {n : ℕ} → x ≡ y → y .at ≤ n → x .at ≤ n
+written-inside {n = n} o h = subst (λ (z : Spot). z .at ≤ n) (sym o) h
+
+pub left-at : {x y : Spot} → x ≡ y → x .left ≡ y .left
+left-at o = ap (λ (z : Spot). z .left) o
+
+pub place-at : {t : List ℕ} {q : ℕ} {x y : Spot} → x ≡ y → InsideAt t q (y .place) → InsideAt t q (x .place)
+place-at {t} {q} o h = subst (λ (z : Spot). InsideAt t q (z .place)) (sym o) h
 
 -- the items of the arm for all others end their sequences
 pub no-other : (keys : List ℕ) (x : Item) → keys ≡ 0 ∷ 3 ∷ 4 ∷ [] → endsAt x ≡ false → OneOf keys (tagOf item-declared.the-type x) → ⊥
@@ -139,10 +148,11 @@ module _ (t : List ℕ) (v : View) (first count level p i left at : ℕ) (b : Li
       by (Closes c) w o = absurd (not-both o refl)
       by Unknown w o = absurd (not-both o refl)
 
-  pub block-opens : (level ≡ 0 → ⊥) → (left ≡ 0 → ⊥) → {b₂ : List ℕ} {r : Ran} → opensBlock (d .code) ≡ true
-      → Blocks (levelsAt t) (length t) v (hand first count) (level - 1) (d .next) (opening (iterates (d .code)) (levelsAt t) v (hand first count) p d (d .next) i (left - 1)) (left - 1) at b b₂ r
+  pub block-opens : (level ≡ 0 → ⊥) → (left ≡ 0 → ⊥) → {b₂ : List ℕ} {r : Ran} → opensBlock (d .code) ≡ true → {spot : Spot} → spot ≡ begun (spotAt p (d .next) left at)
+      → Blocks (levelsAt t) (length t) v (hand first count) (level - 1) (d .next) (opening (iterates (d .code)) (levelsAt t) v (hand first count) (spot .position) d (d .next) i (spot .left)) (spot .left) (spot .at) b b₂ r
       → StepsHere b₂ r
-  block-opens lv z {b₂} {r} o u = by (d .code) refl o u
+  block-opens lv z {b₂} {r} o q u =
+      by (d .code) refl o (subst (λ (y : Spot). Blocks (levelsAt t) (length t) v (hand first count) (level - 1) (d .next) (opening (iterates (d .code)) (levelsAt t) v (hand first count) (y .position) d (d .next) i (y .left)) (y .left) (y .at) b b₂ r) q u)
     where
       by : (c : Code) → d .code ≡ c → opensBlock c ≡ true
           → Blocks (levelsAt t) (length t) v (hand first count) (level - 1) (d .next) (opening (iterates c) (levelsAt t) v (hand first count) p d (d .next) i (left - 1)) (left - 1) at b b₂ r
@@ -202,17 +212,54 @@ pub over-hand : (t : List ℕ) (hand inner : Hand) (with-at : Bool) (i : ℕ) (f
 over-hand t hand inner true i first w h l = (subst (InHand t) (sym (w .0)) h, subst (λ (x : Hand). first .0 ≤ x .count) (sym (w .0)) (omega (arith, w .1, l)))
 over-hand t hand inner false i first w h l = (w .0, omega (arith, w .1 .0))
 
--- no step is left for the next pass, as it is told
-pub passes-none-told : (s : ℕ → List Level) (n : ℕ) (v : View) (first count level p q i : ℕ) (passes : Setting) (left at : ℕ) (b : List ℕ) (r : Ran) (place : ℕ)
-    → r ≡ refusedRan 9 p i left at place → either (noneRemain (hand first count i)) (usedUp passes) ≡ false → left ≡ 0 → at ≤ length b → i ≤ count
-    → Passes s n v (hand first count) level p q i passes left at b b r
-passes-none-told s n v first count level p q i passes left at b r place e h z l k =
-    subst (Passes s n v (hand first count) level p q i passes left at b b) (sym e) (passes-none s n v first count level p q i passes left at b h z place l k)
+-- passes by another name of the spot where they begin
+pub passes-from : {s : ℕ → List Level} {n : ℕ} {v : View} {c : ℕ → Context} {level q i : ℕ} {passes : Setting} {b e : List ℕ} {r : Ran} {x y : Spot} → x ≡ y
+    → Passes s n v c level (x .position) q i passes (x .left) (x .at) b e r → Passes s n v c level (y .position) q i passes (y .left) (y .at) b e r
+passes-from {s} {n} {v} {c} {level} {q} {i} {passes} {b} {e} {r} o u = subst (λ (z : Spot). Passes s n v c level (z .position) q i passes (z .left) (z .at) b e r) o u
 
--- the next pass follows, with the passes left as they are told
-pub passes-on-told : (s : ℕ → List Level) (n : ℕ) (v : View) (first count level p q i : ℕ) (passes : Setting) (left at : ℕ) (b : List ℕ)
-    → either (noneRemain (hand first count i)) (usedUp passes) ≡ false → {e : List ℕ} {r : Ran} → (left ≡ 0 → ⊥) → Runs s n v (hand first count) level q i (left - 1) at b e r
-    → {e′ : List ℕ} {r′ : Ran} {ps : Setting} → r .stop ≡ Ended → ps ≡ oneLess passes → Passes s n v (hand first count) level p q (r .next .0) ps (r .left) (r .at) e e′ r′
-    → Passes s n v (hand first count) level p q i passes left at b e′ r′
-passes-on-told s n v first count level p q i passes left at b h {e} {r} z u {e′} {r′} y w k =
-    passes-on s n v first count level p q i passes left at b h z u y (subst (λ (x : Setting). Passes s n v (hand first count) level p q (r .next .0) x (r .left) (r .at) e e′ r′) w k)
+module _ (s : ℕ → List Level) (n : ℕ) (v : View) (first count level q i : ℕ) (passes : Setting) (on : Spot) (b : List ℕ) where
+  abbrev PassesHere : List ℕ → Ran → Type 0
+  PassesHere e r = Passes s n v (hand first count) level (on .position) q i passes (on .left) (on .at) b e r
+
+  -- they are over, and the text goes on after the block
+  pub passes-over-told : {r : Ran} → either (noneRemain (hand first count i)) (usedUp passes) ≡ true → EndsBlock s n on q i r → on .at ≤ length b → i ≤ count → PassesHere b r
+  passes-over-told {r} h w l k =
+      subst (PassesHere b) (sym (w .is)) (passes-over s n v first count level (on .position) q i passes (on .left) (on .at) b h (r .place) (w .after) l k)
+
+  module _ (h : either (noneRemain (hand first count i)) (usedUp passes) ≡ false) where
+    -- no step is left for the next pass
+    pub passes-none-told : {r : Ran} → r ≡ refusedRan 9 (on .position) i (on .left) (on .at) (on .place) → on .left ≡ 0 → on .at ≤ length b → i ≤ count → PassesHere b r
+    passes-none-told e z l k =
+        subst (PassesHere b) (sym e) (passes-none s n v first count level (on .position) q i passes (on .left) (on .at) b h z (on .place) l k)
+
+    module _ (z : on .left ≡ 0 → ⊥) {begins : Spot} (o : begins ≡ begun on) {e : List ℕ} {r : Ran} (u : Runs s n v (hand first count) level q i (begins .left) (begins .at) b e r) where
+      pass : Runs s n v (hand first count) level q i (on .left - 1) (on .at) b e r
+      pass = subst (λ (y : Spot). Runs s n v (hand first count) level q i (y .left) (y .at) b e r) o u
+
+      -- the next pass follows, with the passes left as they are told
+      pub passes-on-told : {e′ : List ℕ} {r′ : Ran} {ps : Setting} {to : Spot} → r .stop ≡ Ended → ps ≡ oneLess passes → to ≡ spotAt (on .position) (r .place) (r .left) (r .at)
+          → Passes s n v (hand first count) level (to .position) q (r .next .0) ps (to .left) (to .at) e e′ r′ → PassesHere e′ r′
+      passes-on-told {e′} {r′} y w x k =
+          passes-on s n v first count level (on .position) q i passes (on .left) (on .at) b h z pass y
+          (subst (λ (ps : Setting). Passes s n v (hand first count) level (on .position) q (r .next .0) ps (r .left) (r .at) e e′ r′) w (passes-from x k))
+
+      -- a pass that did not end
+      pub passes-stopped : {o : Ran} → isEnded (r .stop) ≡ false → LeavesPasses s n q r o → PassesHere e o
+      passes-stopped {o} f w = by (r .stop) refl f
+        where
+          by : (x : Stop) → r .stop ≡ x → isEnded x ≡ false → PassesHere e o
+          by Ended y f = absurd (not-both refl f)
+          by Left y f =
+              let m = w .left y in
+              subst (PassesHere e) (sym (m .is)) (passes-left s n v first count level (on .position) q i passes (on .left) (on .at) b h z pass y (o .place) (m .after))
+          by (Refused code x) y f =
+              subst (PassesHere e) (sym (w .refused code x y)) (passes-refused s n v first count level (on .position) q i passes (on .left) (on .at) b h z pass code x y)
+
+-- which stops are answered as they are
+pub left-not-refused : {x : Stop} {code p : ℕ} → x ≡ Left → x ≡ Refused code p → ⊥
+left-not-refused q r = let z : _≡_ {A = ℕ} 0 1 = cc in omega arith
+
+pub not-left : (keys : List ℕ) (x : Stop) → keys ≡ 0 ∷ 2 ∷ [] → OneOf keys (tagOf stop-declared.the-type x) → x ≡ Left → ⊥
+not-left keys Ended q o e = no-end-left e refl
+not-left keys Left q o e = miss (0 ∷ 2 ∷ []) 1 tt (subst (λ (k : List ℕ). OneOf k 1) q o)
+not-left keys (Refused code p) q o e = left-not-refused e refl

@@ -4,6 +4,7 @@
 use acting::state::Ran;
 use acting::state::Spot;
 use acting::state::Stop;
+use acting::state::begin;
 use acting::state::refuse;
 use blocks::clauses::Chosen;
 use blocks::clauses::block_end;
@@ -44,6 +45,8 @@ ghost use Rattle.running.specs.Runs.{Runs, Steps, Blocks, Passes, RunsClause, E
 ghost use Rattle.blocks.specs.Clauses.{InsideAt};
 ghost use Rattle.blocks.specs.Landmarks.{Landmarks};
 ghost use Rattle.blocks.specs.Parts.{endsAt, opensBlock, iterates};
+ghost use Rattle.stepping.specs.Stepping.{isEnded};
+ghost use Rattle.engine.specs.Runners.{ItemAfter, LeavesPasses, spotAt};
 
 // The sequence that is read at start, with level levels left for blocks.
 pub fn run_sequence(
@@ -71,76 +74,77 @@ pub fn run_sequence(
     let mut at = from;
     loop {
         let s = run_short(text, table, p, hand, next, left, out, at);
-        let halt = s.stop;
-        if !is_ended(halt) {
-            return s;
-        }
-        // most sequences end at a closer or a ~; without parameters, which is seen without reading an item
-        if closes_at(text, s.place) {
-            return s;
-        }
-        let item = item_at(text, s.place);
+        let item = item_after(text, s);
         if ends_here(item) {
             return s;
         }
-        let onto = s.next;
-        let r = run_item(
-            text,
-            marks,
-            table,
-            level,
-            s.place,
-            item,
-            hand,
-            onto,
-            s.left,
-            out,
-            s.at,
-        );
-        let stop = r.stop;
-        let after = r.next;
-        match stop {
-            Stop::Ended => {
-                next = after;
-                left = r.left;
-                at = r.at;
-                p = r.place;
-            }
-            Stop::Left => {
-                return r;
-            }
-            Stop::Refused {
-                code: _,
-                position: _,
-            } => {
-                return r;
-            }
+        let r = run_item(text, marks, table, level, s, item, hand, out);
+        if !has_ended(r) {
+            return r;
         }
+        next = r.next;
+        left = r.left;
+        at = r.at;
+        p = r.place;
     }
 }
 
-// The item at p, which does not end its sequence.
+fn has_ended(r: Ran) -> bool
+    ensures { λ b. ⌜ b ≡ isEnded (r .stop) ⌝ }
+{
+    let stop = r.stop;
+    is_ended(stop)
+}
+
+// The item at which s ended. It is said to be the end of the text where s did not end, and where a clause or a block
+// closes without parameters: most sequences end so, which is seen without reading an item.
+fn item_after(text: &[u8], s: Ran) -> Item
+    ensures { λ r. ⌜ ItemAfter (now (text .entry)) s r ⌝ }
+{
+    if !has_ended(s) {
+        return Item::End;
+    }
+    if closes_at(text, s.place) {
+        return Item::End;
+    }
+    item_at(text, s.place)
+}
+
+// A directive of the position, met or begun with so many steps left and so much written, and a place that goes with it.
+fn spot_at(position: usize, place: usize, left: usize, at: usize) -> Spot
+    ensures { λ r. ⌜ r ≡ spotAt position place left at ⌝ }
+{
+    Spot {
+        position,
+        place,
+        left,
+        at,
+    }
+}
+
+// The item at which s ended, which does not end its sequence.
 fn run_item(
     text: &[u8],
     marks: &[u16],
     table: &[u8],
     level: usize,
-    p: usize,
+    s: Ran,
     item: Item,
     hand: Hand,
-    next: ArgumentPosition,
-    left: usize,
     out: &mut [u8],
-    at: usize,
 ) -> Ran
     requires { ⌜ Landmarks (now text) (now marks) ⌝ }
     requires { ⌜ InHand (now table) hand ⌝ }
-    requires { ⌜ next .0 ≤ hand .count ⌝ }
-    requires { ⌜ itemAt (now text) p ≡ item ⌝ }
+    requires { ⌜ s .next .0 ≤ hand .count ⌝ }
+    requires { ⌜ itemAt (now text) (s .place) ≡ item ⌝ }
     requires { ⌜ endsAt item ≡ false ⌝ }
-    requires { ⌜ at ≤ length (now out) ⌝ }
-    ensures { λ r. ⌜ Steps (levelsAt (now (text .entry))) (length (now (text .entry))) (viewOf (now (table .entry))) (handAt hand) level p (next .0) left at (now (out .entry)) (now (out .exit)) r ⌝ }
+    requires { ⌜ s .at ≤ length (now out) ⌝ }
+    ensures { λ r. ⌜ Steps (levelsAt (now (text .entry))) (length (now (text .entry))) (viewOf (now (table .entry))) (handAt hand) level (s .place) (s .next .0) (s .left) (s .at) (now (out .entry)) (now (out .exit)) r ⌝ }
 {
+    let p = s.place;
+    let next = s.next;
+    let left = s.left;
+    let at = s.at;
     match item {
         Item::Literal(byte) => put_literal(p, byte, hand, next, left, out, at),
         Item::Written(d) => {
@@ -150,16 +154,7 @@ fn run_item(
             }
             act(p, d, table, hand, next, left, out, at)
         }
-        _ => refuse(
-            Spot {
-                position: p,
-                place: p,
-                left,
-                at,
-            },
-            4,
-            next,
-        ),
+        _ => refuse(spot_at(p, p, left, at), 4, next),
     }
 }
 
@@ -185,25 +180,14 @@ fn run_block(
     requires { ⌜ at ≤ length (now out) ⌝ }
     ensures { λ r. ⌜ Steps (levelsAt (now (text .entry))) (length (now (text .entry))) (viewOf (now (table .entry))) (handAt hand) level p (next .0) left at (now (out .entry)) (now (out .exit)) r ⌝ }
 {
-    let place = d.next;
-    let spot = Spot {
-        position: p,
-        place,
-        left,
-        at,
-    };
+    let spot = spot_at(p, d.next, left, at);
     if level == 0 {
         return refuse(spot, 4, next);
     }
     if left == 0 {
         return refuse(spot, 9, next);
     }
-    let begun = Spot {
-        position: p,
-        place,
-        left: left - 1,
-        at,
-    };
+    let begun = begin(spot);
     run_opened(text, marks, table, level - 1, begun, d, hand, next, out)
 }
 
@@ -396,7 +380,7 @@ fn run_iteration(
     }
 }
 
-// The passes of the iteration whose inside is at q.
+// The passes of the iteration whose inside is at q. Where they stand is said by a spot whose place is one in the block.
 fn run_passes(
     text: &[u8],
     marks: &[u16],
@@ -418,57 +402,36 @@ fn run_passes(
 {
     let mut passes = limit;
     let mut next = first;
-    let mut left = spot.left;
-    let mut at = spot.at;
-    let mut known = q;
+    let mut on = spot_at(spot.position, q, spot.left, spot.at);
     loop {
         if is_over(passes, next, hand) {
-            return Ran {
-                stop: Stop::Ended,
-                next,
-                left,
-                at,
-                place: block_end(text, marks, q, known),
-            };
+            return end_block(text, marks, on, q, on.place, next);
         }
-        if left == 0 {
-            return refuse(
-                Spot {
-                    position: spot.position,
-                    place: q,
-                    left,
-                    at,
-                },
-                9,
-                next,
-            );
+        if on.left == 0 {
+            return refuse(on, 9, next);
         }
-        let r = run_sequence(text, marks, table, level, q, hand, next, left - 1, out, at);
-        let stop = r.stop;
-        let after = r.next;
-        match stop {
-            Stop::Ended => {
-                next = after;
-                left = r.left;
-                at = r.at;
-                known = r.place;
-                passes = one_less(passes);
-            }
-            Stop::Left => {
-                return Ran {
-                    stop: Stop::Ended,
-                    next: after,
-                    left: r.left,
-                    at: r.at,
-                    place: block_end(text, marks, q, known),
-                };
-            }
-            Stop::Refused {
-                code: _,
-                position: _,
-            } => {
-                return r;
-            }
+        let s = begin(on);
+        let r = run_sequence(text, marks, table, level, q, hand, next, s.left, out, s.at);
+        if !has_ended(r) {
+            return leave_passes(text, marks, q, on.place, r);
         }
+        passes = one_less(passes);
+        next = r.next;
+        on = spot_at(on.position, r.place, r.left, r.at);
+    }
+}
+
+// What the passes of the iteration whose inside is at q answer after one that did not end: an escape leaves them, and the
+// text goes on after the block, in which known stands.
+fn leave_passes(text: &[u8], marks: &[u16], q: usize, known: usize, r: Ran) -> Ran
+    requires { ⌜ Landmarks (now text) (now marks) ⌝ }
+    requires { ⌜ InsideAt (now text) q known ⌝ }
+    ensures { λ o. ⌜ LeavesPasses (levelsAt (now (text .entry))) (length (now (text .entry))) q r o ⌝ }
+{
+    let stop = r.stop;
+    let next = r.next;
+    match stop {
+        Stop::Left => end_block(text, marks, spot_at(q, q, r.left, r.at), q, known, next),
+        _ => r,
     }
 }

@@ -1,36 +1,31 @@
 -- The runners meet their contracts. The levels that are left fall at each block; the text falls in each turn of the runner
 -- of a sequence, and the steps in each pass. The loops: whatever ends from here is the whole. Assumes nothing.
-use mathlib.Core.Path.{_≡_, refl, sym, ap, subst, _∙_}
+use mathlib.Core.Path.{refl, sym, ap, subst, _∙_}
 use mathlib.Core.Bool.{Bool}
-use mathlib.Core.List.{List, _∷_}
+use mathlib.Core.List.{_∷_}
 use native.Mathlib.Omega.{arith}
 use borrow.Author.Needs.{needs}
 use borrow.Author.Tests.{not-true, not-false}
 use lib.ListN.{length}
-use Rattle.rules.specs.Directive.{itemAt}
-use Rattle.rules.specs.Table.{Value, viewOf}
+use Rattle.rules.specs.Table.{viewOf}
 use Rattle.rules.specs.Text.{end, innermost, outer, levelsAt}
-use Rattle.rules.specs.Run.{Flow, Frame, run, conditional, overList}
-use Rattle.rules.specs.declared.Code.{Code}
-use Rattle.rules.specs.declared.Item.{Item}
-use Rattle.rules.specs.declared.Setting.{Setting}
-use Rattle.working.specs.Settling.{InHand, handAt}
+use Rattle.rules.specs.Run.{run, conditional}
+use Rattle.working.specs.Settling.{handAt}
 use Rattle.working.proofs.WorkLaws.{hand-small}
 use Rattle.working.proofs.Answers.{next-reaches, run-settled, run-refused}
 use Rattle.blocks.specs.Clauses.{onChosen, ChosenIn, InsideAt}
 use Rattle.blocks.specs.declared.clauses.Chosen.{Chosen}
-use Rattle.blocks.specs.Parts.{endsAt, endsSequence, iterates, onOver, outsideOf, OverIn}
+use Rattle.blocks.specs.Parts.{endsAt, iterates, onOver, outsideOf, OverIn}
 use Rattle.blocks.specs.declared.passes.Over.{Over}
-use Rattle.acting.specs.declared.state.Ran.{Ran}
-use Rattle.running.specs.Runs.{Runs, Steps, Blocks, Passes, restAt, picking, entering, inside, opening}
-use Rattle.acting.proofs.ActLaws.{settings-ill, argument-there, argument-none}
+use Rattle.acting.specs.Ran.{begun}
+use Rattle.running.specs.Runs.{Runs, Blocks, Passes, restAt, picking, entering, inside, opening}
+use Rattle.acting.proofs.ActLaws.{settings-ill}
 use Rattle.stepping.proofs.ItemLaws.{is-ended}
 use Rattle.running.proofs.Places.{literal-at, literal-ahead, alone-at, directive-ahead}
-use Rattle.running.proofs.Strides.{Onto, strides-runs-on, runs-on, runs-left, runs-refused}
+use Rattle.running.proofs.Strides.{Onto, strides-runs-on, runs-on}
 use Rattle.rules.proofs.Bases.{code-right}
-use Rattle.running.proofs.BlockArms.{passes-over, passes-none, passes-on, passes-left, passes-refused, blocks-nothing, blocks-clause, blocks-clause-left, blocks-clause-refused, blocks-same, blocks-list, blocks-as}
-use Rattle.engine.proofs.RunnerLaws.{ended-as, runs-stopped, sequence-ends, sequence-closes, literal-inside, no-other, acts-alone, block-deep, block-none, block-opens, blocks-told, closes-after, ends-inside, inside-start, over-blocks, over-hand, passes-none-told, passes-on-told}
-use Rattle.rules.proofs.RunLaws.{choose-yes, choose-no}
+use Rattle.running.proofs.BlockArms.{blocks-nothing, blocks-clause, blocks-clause-left, blocks-clause-refused, blocks-as}
+use Rattle.engine.proofs.RunnerLaws.{sequence-stops, steps-stopped, literal-inside, no-other, acts-alone, refused-at, written-inside, left-at, place-at, block-deep, block-none, block-opens, blocks-told, closes-after, ends-inside, inside-start, over-blocks, over-hand, passes-from, passes-over-told, passes-none-told, passes-on-told, passes-stopped}
 use Rattle.rules.proofs.TextLaws.{next-inside}
 use Prim.Native.Nat.{ℕ, _+_, _-_, _*_, _<_, _≤_}
 use borrow.Fn.Kinds.{In}
@@ -59,24 +54,26 @@ use Rattle.engine.proofs.runners.+run_block+run_clause+run_conditional+
 use Rattle.engine.proofs.runners.run_sequence.Reads as run-sequence
 use Rattle.engine.proofs.runners.run_sequence.Kinds as run-sequence-kinds
 use Rattle.engine.proofs.runners.+run_block+run_clause+run_conditional+run_item+run_iteration+run_opened+run_passes+run_sequence.Lts-run_sequence as run-sequence-lts
-use Rattle.blocks.proofs.clauses.choose_clause.Reads as choose-clause-reads
-use Rattle.stepping.proofs.items.act.Reads as act-reads
+use Rattle.acting.proofs.state.begin.Reads as begin-reads
+use Rattle.acting.proofs.state.refuse.Reads as refuse-reads
 use Rattle.blocks.proofs.clauses.block_end.Reads as block-end-reads
+use Rattle.blocks.proofs.clauses.choose_clause.Reads as choose-clause-reads
 use Rattle.blocks.proofs.ends.ends_here.Reads as ends-here-reads
 use Rattle.blocks.proofs.ends.is_iteration.Reads as is-iteration-reads
-use Rattle.blocks.proofs.passes.is_over.Reads as is-over-reads
+use Rattle.blocks.proofs.ends.opens_block.Reads as opens-block-reads
 use Rattle.blocks.proofs.passes.go_over.Reads as go-over-reads
+use Rattle.blocks.proofs.passes.is_over.Reads as is-over-reads
 use Rattle.blocks.proofs.passes.next_after.Reads as next-after-reads
 use Rattle.blocks.proofs.passes.one_less.Reads as one-less-reads
-use Rattle.blocks.proofs.ends.opens_block.Reads as opens-block-reads
-use Rattle.stepping.proofs.items.put_literal.Reads as put-literal-reads
 use Rattle.engine.proofs.runners.end_block.Reads as end-block-reads
-use Rattle.stepping.proofs.short.run_short.Reads as run-short-reads
-use Rattle.stepping.proofs.items.is_ended.Reads as is-ended-reads
-use Rattle.acting.proofs.state.refuse.Reads as refuse-reads
-use Rattle.reader.proofs.directive.item_at.Reads as item-at-reads
-use Rattle.reader.proofs.marks.closes_at.Reads as closes-at-reads
+use Rattle.engine.proofs.runners.has_ended.Reads as has-ended-reads
+use Rattle.engine.proofs.runners.item_after.Reads as item-after-reads
+use Rattle.engine.proofs.runners.leave_passes.Reads as leave-passes-reads
+use Rattle.engine.proofs.runners.spot_at.Reads as spot-at-reads
 use Rattle.fitting.proofs.places.is_well_written.Reads as is-well-written-reads
+use Rattle.stepping.proofs.items.act.Reads as act-reads
+use Rattle.stepping.proofs.items.put_literal.Reads as put-literal-reads
+use Rattle.stepping.proofs.short.run_short.Reads as run-short-reads
 use Rattle.working.proofs.settle_directive.Reads as settle-directive-reads
 use Rattle.engine.proofs.runners.+run_block+run_clause+run_conditional+run_item+run_iteration+run_opened+run_passes+run_sequence.{
   statement,
@@ -187,40 +184,45 @@ run-sequence-below t =
 
 -- what the callees of run_block ask and ensure, below the measure t
 abbrev run-block-claims : ℕ → run-block-lts.Claims
-run-block-claims t = (refuse-reads.Asked, refuse-reads.Learnt, run-opened-below t, run-opened.Post)
+run-block-claims t = (spot-at-reads.Asked, spot-at-reads.Learnt, refuse-reads.Asked, refuse-reads.Learnt, begin-reads.Asked, begin-reads.Learnt, run-opened-below t, run-opened.Post)
+
+run-block-spot-at-requires : (t : ℕ) → run-block-lts.Need-spot-at-requires (run-block-claims t) (run-block-at t) run-block.Post
+run-block-spot-at-requires t c κs = search needs
 
 run-block-refuse-requires : (t : ℕ) → run-block-lts.Need-refuse-requires (run-block-claims t) (run-block-at t) run-block.Post
 run-block-refuse-requires t c κs = search needs
 
 run-block-returns : (t : ℕ) → run-block-lts.Need-returns (run-block-claims t) (run-block-at t) run-block.Post
 run-block-returns t c =
-    let a = (c .before .before .before .before .before .before .args) in
-    block-deep (a .text .now) (viewOf (a .table .now)) (a .hand .first .0) (a .hand .count) (a .level) (a .p) (a .next .0) (a .left) (a .at) (a .out .now) (a .d) (c .before .before .before .before .before .before .pre .1 .1 .1 .1 .0) _ (c .before .before .before .before .before .before .pre .1 .1 .1 .1 .1 .0) (c .before .if1 .taken) (c .refuse .ensures) (c .before .before .before .before .before .before .pre .1 .1 .1 .1 .1 .1) (c .before .before .before .before .before .before .pre .1 .1 .1 .0)
+    let a = c .before .before .before .before .before .before .before .args in
+    block-deep (a .text .now) (viewOf (a .table .now)) (a .hand .first .0) (a .hand .count) (a .level) (a .p) (a .next .0) (a .left) (a .at) (a .out .now) (a .d) (c .before .before .before .before .before .before .before .pre .1 .1 .1 .1 .0) _ (c .before .before .before .before .before .before .before .pre .1 .1 .1 .1 .1 .0) (c .before .if1 .taken) (refused-at (c .refuse .ensures) (c .before .before .spot-at .ensures)) (c .before .before .before .before .before .before .before .pre .1 .1 .1 .1 .1 .1) (c .before .before .before .before .before .before .before .pre .1 .1 .1 .0)
 
 run-block-refuse-requires-2 : (t : ℕ) → run-block-lts.Need-refuse-requires-2 (run-block-claims t) (run-block-at t) run-block.Post
 run-block-refuse-requires-2 t c κs = search needs
 
 run-block-returns-2 : (t : ℕ) → run-block-lts.Need-returns-2 (run-block-claims t) (run-block-at t) run-block.Post
 run-block-returns-2 t c =
-    let a = (c .before .before .before .before .before .before .before .args) in
-    block-none (a .text .now) (viewOf (a .table .now)) (a .hand .first .0) (a .hand .count) (a .level) (a .p) (a .next .0) (a .left) (a .at) (a .out .now) (a .d) (c .before .before .before .before .before .before .before .pre .1 .1 .1 .1 .0) _ (c .before .before .before .before .before .before .before .pre .1 .1 .1 .1 .1 .0) (c .before .before .if1 .left) (c .before .if2 .taken) (c .refuse2 .ensures) (c .before .before .before .before .before .before .before .pre .1 .1 .1 .1 .1 .1) (c .before .before .before .before .before .before .before .pre .1 .1 .1 .0)
+    let a = c .before .before .before .before .before .before .before .before .args in
+    block-none (a .text .now) (viewOf (a .table .now)) (a .hand .first .0) (a .hand .count) (a .level) (a .p) (a .next .0) (a .left) (a .at) (a .out .now) (a .d) (c .before .before .before .before .before .before .before .before .pre .1 .1 .1 .1 .0) _ (c .before .before .before .before .before .before .before .before .pre .1 .1 .1 .1 .1 .0) (c .before .before .if1 .left) (c .before .if2 .taken) (refused-at (c .refuse2 .ensures) (c .before .before .before .spot-at .ensures)) (c .before .before .before .before .before .before .before .before .pre .1 .1 .1 .1 .1 .1) (c .before .before .before .before .before .before .before .before .pre .1 .1 .1 .0)
+
+run-block-begin-requires : (t : ℕ) → run-block-lts.Need-begin-requires (run-block-claims t) (run-block-at t) run-block.Post
+run-block-begin-requires t c κs = omega (arith, left-at (c .before .before .spot-at .ensures), c .if2 .left)
 
 run-block-sub-run-opened : (t : ℕ) → run-block-lts.Need-sub-run-opened (run-block-claims t) (run-block-at t) run-block.Post
 run-block-sub-run-opened t c = search needs
 
-run-block-sub-run-opened-2 : (t : ℕ) → run-block-lts.Need-sub-run-opened-2 (run-block-claims t) (run-block-at t) run-block.Post
-run-block-sub-run-opened-2 t c = search needs
-
 run-block-run-opened-requires : (t : ℕ) → run-block-lts.Need-run-opened-requires (run-block-claims t) (run-block-at t) run-block.Post
-run-block-run-opened-requires t c κs = (omega (arith, c .before .before .before .before .before .before .before .pre .0, c .before .before .if1 .left), (c .before .before .before .before .before .before .before .pre .1 .0, (c .before .before .before .before .before .before .before .pre .1 .1 .0, (c .before .before .before .before .before .before .before .pre .1 .1 .1 .0, ((next-inside (c .before .before .before .before .before .before .before .args .text .now) (c .before .before .before .before .before .before .before .args .p) (c .before .before .before .before .before .before .before .args .d) (c .before .before .before .before .before .before .before .pre .1 .1 .1 .1 .0)) .most, c .before .before .before .before .before .before .before .pre .1 .1 .1 .1 .1 .1)))))
+run-block-run-opened-requires t c κs =
+    let a = c .before .before .before .before .before .before .before .before .before .args in
+    (omega (arith, c .before .before .before .before .before .before .before .before .before .pre .0, c .before .before .before .if1 .left), (c .before .before .before .before .before .before .before .before .before .pre .1 .0, (c .before .before .before .before .before .before .before .before .before .pre .1 .1 .0, (c .before .before .before .before .before .before .before .before .before .pre .1 .1 .1 .0, (next-inside (a .text .now) (a .p) (a .d) (c .before .before .before .before .before .before .before .before .before .pre .1 .1 .1 .1 .0) .most, written-inside (c .before .begin .ensures ∙ ap begun (c .before .before .before .before .spot-at .ensures)) (c .before .before .before .before .before .before .before .before .before .pre .1 .1 .1 .1 .1 .1))))))
 
 run-block-same-length : (t : ℕ) → run-block-lts.Need-same-length (run-block-claims t) (run-block-at t) run-block.Post
 run-block-same-length t c = c .before .before .run-opened .ensures .does .size
 
 run-block-returns-3 : (t : ℕ) → run-block-lts.Need-returns-3 (run-block-claims t) (run-block-at t) run-block.Post
 run-block-returns-3 t c =
-    let a = c .before .before .before .before .before .before .before .before .before .before .args in
-    block-opens (a .text .now) (viewOf (a .table .now)) (a .hand .first .0) (a .hand .count) (a .level) (a .p) (a .next .0) (a .left) (a .at) (a .out .now) (a .d) (c .before .before .before .before .before .before .before .before .before .before .pre .1 .1 .1 .1 .0) (c .before .before .before .before .before .if1 .left) (c .before .before .before .before .if2 .left) (c .before .before .before .before .before .before .before .before .before .before .pre .1 .1 .1 .1 .1 .0) (c .before .before .run-opened .ensures)
+    let a = c .before .before .before .before .before .before .before .before .before .before .before .before .args in
+    block-opens (a .text .now) (viewOf (a .table .now)) (a .hand .first .0) (a .hand .count) (a .level) (a .p) (a .next .0) (a .left) (a .at) (a .out .now) (a .d) (c .before .before .before .before .before .before .before .before .before .before .before .before .pre .1 .1 .1 .1 .0) (c .before .before .before .before .before .before .if1 .left) (c .before .before .before .before .before .if2 .left) (c .before .before .before .before .before .before .before .before .before .before .before .before .pre .1 .1 .1 .1 .1 .0) (c .before .before .before .before .begin .ensures ∙ ap begun (c .before .before .before .before .before .before .before .spot-at .ensures)) (c .before .before .run-opened .ensures)
 
 -- what the callees of run_clause ask and ensure, below the measure t
 abbrev run-clause-claims : ℕ → run-clause-lts.Claims
@@ -327,13 +329,14 @@ run-conditional-returns-3 t c =
 
 -- what the callees of run_item ask and ensure, below the measure t
 abbrev run-item-claims : ℕ → run-item-lts.Claims
-run-item-claims t = (put-literal-reads.Asked, put-literal-reads.Learnt, opens-block-reads.Asked, opens-block-reads.Learnt, run-block-below t, run-block.Post, act-reads.Asked, act-reads.Learnt, refuse-reads.Asked, refuse-reads.Learnt)
+run-item-claims t = (put-literal-reads.Asked, put-literal-reads.Learnt, opens-block-reads.Asked, opens-block-reads.Learnt, run-block-below t, run-block.Post, act-reads.Asked, act-reads.Learnt, spot-at-reads.Asked, spot-at-reads.Learnt, refuse-reads.Asked, refuse-reads.Learnt)
 
 run-item-enum-known-item : (t : ℕ) → run-item-lts.Need-enum-known-item (run-item-claims t) (run-item-at t) run-item.Post
 run-item-enum-known-item t c = search needs
 
 run-item-put-literal-requires : (t : ℕ) → run-item-lts.Need-put-literal-requires (run-item-claims t) (run-item-at t) run-item.Post
-run-item-put-literal-requires t c κs = ((c .before .before .before .before .before .before .before .before .pre .1 .1 .1 .0), ((c .before .before .before .before .before .before .before .before .pre .1 .1 .1 .1 .1 .1), omega (arith, literal-inside ((c .before .before .before .before .before .before .before .before .args .text .now)) ((c .before .before .before .before .before .before .before .before .args .p)) (c .before .before .before .before .before .before .before .before .pre .1 .1 .1 .1 .0) (c .before .before .item .given .1))))
+run-item-put-literal-requires t c κs =
+    (c .before .before .before .before .before .before .before .before .before .pre .1 .1 .1 .0, (c .before .before .before .before .before .before .before .before .before .pre .1 .1 .1 .1 .1 .1, omega (arith, literal-inside (c .before .before .before .before .before .before .before .before .before .args .text .now) (c .before .before .before .before .before .before .before .before .before .args .s .place) (c .before .before .before .before .before .before .before .before .before .pre .1 .1 .1 .1 .0) (c .before .before .item .given .1))))
 
 run-item-enum-known-item-2 : (t : ℕ) → run-item-lts.Need-enum-known-item-2 (run-item-claims t) (run-item-at t) run-item.Post
 run-item-enum-known-item-2 t c = search needs
@@ -342,37 +345,55 @@ run-item-opens-block-requires : (t : ℕ) → run-item-lts.Need-opens-block-requ
 run-item-opens-block-requires t c κs = search needs
 
 run-item-run-block-requires : (t : ℕ) → run-item-lts.Need-run-block-requires (run-item-claims t) (run-item-at t) run-item.Post
-run-item-run-block-requires t c κs = (omega (arith, (c .before .before .before .before .before .before .before .before .before .before .pre .0)), (c .before .before .before .before .before .before .before .before .before .before .pre .1 .0, ((c .before .before .before .before .before .before .before .before .before .before .pre .1 .1 .0), ((c .before .before .before .before .before .before .before .before .before .before .pre .1 .1 .1 .0), ((c .before .before .before .before .before .before .before .before .before .before .pre .1 .1 .1 .1 .0) ∙ (c .before .before .before .before .item2 .given .1), (sym (c .before .before .opens-block .ensures) ∙ (c .before .if1 .taken), (c .before .before .before .before .before .before .before .before .before .before .pre .1 .1 .1 .1 .1 .1)))))))
+run-item-run-block-requires t c κs =
+    (omega (arith, c .before .before .before .before .before .before .before .before .before .before .before .pre .0), (c .before .before .before .before .before .before .before .before .before .before .before .pre .1 .0, (c .before .before .before .before .before .before .before .before .before .before .before .pre .1 .1 .0, (c .before .before .before .before .before .before .before .before .before .before .before .pre .1 .1 .1 .0, (c .before .before .before .before .before .before .before .before .before .before .before .pre .1 .1 .1 .1 .0 ∙ c .before .before .before .before .item2 .given .1, (sym (c .before .before .opens-block .ensures) ∙ c .before .if1 .taken, c .before .before .before .before .before .before .before .before .before .before .before .pre .1 .1 .1 .1 .1 .1))))))
 
 run-item-same-length : (t : ℕ) → run-item-lts.Need-same-length (run-item-claims t) (run-item-at t) run-item.Post
-run-item-same-length t c = (c .before .before .run-block .ensures .does .size)
+run-item-same-length t c = c .before .before .run-block .ensures .does .size
 
 run-item-returns : (t : ℕ) → run-item-lts.Need-returns (run-item-claims t) (run-item-at t) run-item.Post
-run-item-returns t c = (c .before .before .run-block .ensures)
+run-item-returns t c = c .before .before .run-block .ensures
 
 run-item-act-requires : (t : ℕ) → run-item-lts.Need-act-requires (run-item-claims t) (run-item-at t) run-item.Post
-run-item-act-requires t c κs = (
-  acts-alone ((c .before .before .before .before .item2 .given .0 .0 .code)) (code-right ((c .before .before .before .before .before .before .before .before .before .before .args .text .now)) ((c .before .before .before .before .before .before .before .before .before .before .args .p)) ((c .before .before .before .before .item2 .given .0 .0)) ((c .before .before .before .before .before .before .before .before .before .before .pre .1 .1 .1 .1 .0) ∙ (c .before .before .before .before .item2 .given .1))) (sym (c .before .before .opens-block .ensures) ∙ (c .before .if1 .left)) (sym (ap endsAt (c .before .before .before .before .item2 .given .1)) ∙ (c .before .before .before .before .before .before .before .before .before .before .pre .1 .1 .1 .1 .1 .0)),
-  ((c .before .before .before .before .before .before .before .before .before .before .pre .1 .1 .0), ((c .before .before .before .before .before .before .before .before .before .before .pre .1 .1 .1 .0), (c .before .before .before .before .before .before .before .before .before .before .pre .1 .1 .1 .1 .1 .1))),
-)
+run-item-act-requires t c κs =
+    let a = c .before .before .before .before .before .before .before .before .before .before .before .args in
+    let e = c .before .before .before .before .before .before .before .before .before .before .before .pre .1 .1 .1 .1 .0 ∙ c .before .before .before .before .item2 .given .1 in (
+      acts-alone (c .before .before .before .before .item2 .given .0 .0 .code) (code-right (a .text .now) (a .s .place) (c .before .before .before .before .item2 .given .0 .0) e) (sym (c .before .before .opens-block .ensures) ∙ c .before .if1 .left) (sym (ap endsAt (c .before .before .before .before .item2 .given .1)) ∙ c .before .before .before .before .before .before .before .before .before .before .before .pre .1 .1 .1 .1 .1 .0),
+      (c .before .before .before .before .before .before .before .before .before .before .before .pre .1 .1 .0, (c .before .before .before .before .before .before .before .before .before .before .before .pre .1 .1 .1 .0, c .before .before .before .before .before .before .before .before .before .before .before .pre .1 .1 .1 .1 .1 .1)),
+    )
+
+run-item-spot-at-requires : (t : ℕ) → run-item-lts.Need-spot-at-requires (run-item-claims t) (run-item-at t) run-item.Post
+run-item-spot-at-requires t c κs = search needs
 
 run-item-refuse-requires : (t : ℕ) → run-item-lts.Need-refuse-requires (run-item-claims t) (run-item-at t) run-item.Post
 run-item-refuse-requires t c κs = search needs
 
 run-item-same-length-2 : (t : ℕ) → run-item-lts.Need-same-length-2 (run-item-claims t) (run-item-at t) run-item.Post
-run-item-same-length-2 t c = let a = (c .before .before .before .before .before .before .before .before .before .before .before .args) in let e = (c .before .before .before .before .before .before .before .before .before .before .before .pre .1 .1 .1 .1 .0) ∙ (c .before .before .before .before .before .item .given .1) in (c .before .before .put-literal .ensures) (levelsAt (a .text .now)) (length (a .text .now)) (viewOf (a .table .now)) (a .level) (a .p) (literal-at (a .text .now) (a .p) _ e) (literal-ahead (a .text .now) (a .p) _ e) .does .size
+run-item-same-length-2 t c =
+    let a = c .before .before .before .before .before .before .before .before .before .before .before .before .args in
+    let e = c .before .before .before .before .before .before .before .before .before .before .before .before .pre .1 .1 .1 .1 .0 ∙ c .before .before .before .before .before .item .given .1 in
+    (c .before .before .put-literal .ensures) (levelsAt (a .text .now)) (length (a .text .now)) (viewOf (a .table .now)) (a .level) (a .s .place) (literal-at (a .text .now) (a .s .place) _ e) (literal-ahead (a .text .now) (a .s .place) _ e) .does .size
 
 run-item-returns-2 : (t : ℕ) → run-item-lts.Need-returns-2 (run-item-claims t) (run-item-at t) run-item.Post
-run-item-returns-2 t c = let a = (c .before .before .before .before .before .before .before .before .before .before .before .args) in let e = (c .before .before .before .before .before .before .before .before .before .before .before .pre .1 .1 .1 .1 .0) ∙ (c .before .before .before .before .before .item .given .1) in (c .before .before .put-literal .ensures) (levelsAt (a .text .now)) (length (a .text .now)) (viewOf (a .table .now)) (a .level) (a .p) (literal-at (a .text .now) (a .p) _ e) (literal-ahead (a .text .now) (a .p) _ e)
+run-item-returns-2 t c =
+    let a = c .before .before .before .before .before .before .before .before .before .before .before .before .args in
+    let e = c .before .before .before .before .before .before .before .before .before .before .before .before .pre .1 .1 .1 .1 .0 ∙ c .before .before .before .before .before .item .given .1 in
+    (c .before .before .put-literal .ensures) (levelsAt (a .text .now)) (length (a .text .now)) (viewOf (a .table .now)) (a .level) (a .s .place) (literal-at (a .text .now) (a .s .place) _ e) (literal-ahead (a .text .now) (a .s .place) _ e)
 
 run-item-same-length-3 : (t : ℕ) → run-item-lts.Need-same-length-3 (run-item-claims t) (run-item-at t) run-item.Post
-run-item-same-length-3 t c = let a = (c .before .before .before .before .before .before .before .before .before .before .before .before .before .args) in let e = (c .before .before .before .before .before .before .before .before .before .before .before .before .before .pre .1 .1 .1 .1 .0) ∙ (c .before .before .before .before .before .before .before .item2 .given .1) in (c .before .before .act .ensures) (levelsAt (a .text .now)) (length (a .text .now)) (a .level) (a .p) (alone-at (a .text .now) (a .p) _ e _ refl) (directive-ahead (a .text .now) (a .p) _ e) .does .size
+run-item-same-length-3 t c =
+    let a = c .before .before .before .before .before .before .before .before .before .before .before .before .before .before .args in
+    let e = c .before .before .before .before .before .before .before .before .before .before .before .before .before .before .pre .1 .1 .1 .1 .0 ∙ c .before .before .before .before .before .before .before .item2 .given .1 in
+    (c .before .before .act .ensures) (levelsAt (a .text .now)) (length (a .text .now)) (a .level) (a .s .place) (alone-at (a .text .now) (a .s .place) _ e _ refl) (directive-ahead (a .text .now) (a .s .place) _ e) .does .size
 
 run-item-returns-3 : (t : ℕ) → run-item-lts.Need-returns-3 (run-item-claims t) (run-item-at t) run-item.Post
-run-item-returns-3 t c = let a = (c .before .before .before .before .before .before .before .before .before .before .before .before .before .args) in let e = (c .before .before .before .before .before .before .before .before .before .before .before .before .before .pre .1 .1 .1 .1 .0) ∙ (c .before .before .before .before .before .before .before .item2 .given .1) in (c .before .before .act .ensures) (levelsAt (a .text .now)) (length (a .text .now)) (a .level) (a .p) (alone-at (a .text .now) (a .p) _ e _ refl) (directive-ahead (a .text .now) (a .p) _ e)
+run-item-returns-3 t c =
+    let a = c .before .before .before .before .before .before .before .before .before .before .before .before .before .before .args in
+    let e = c .before .before .before .before .before .before .before .before .before .before .before .before .before .before .pre .1 .1 .1 .1 .0 ∙ c .before .before .before .before .before .before .before .item2 .given .1 in
+    (c .before .before .act .ensures) (levelsAt (a .text .now)) (length (a .text .now)) (a .level) (a .s .place) (alone-at (a .text .now) (a .s .place) _ e _ refl) (directive-ahead (a .text .now) (a .s .place) _ e)
 
 run-item-returns-4 : (t : ℕ) → run-item-lts.Need-returns-4 (run-item-claims t) (run-item-at t) run-item.Post
-run-item-returns-4 t c = absurd (no-other _ ((c .before .before .before .before .before .before .args .item)) refl (c .before .before .before .before .before .before .pre .1 .1 .1 .1 .1 .0) (c .before .match .keys3))
+run-item-returns-4 t c = absurd (no-other _ (c .before .before .before .before .before .before .before .before .args .item) refl (c .before .before .before .before .before .before .before .before .pre .1 .1 .1 .1 .1 .0) (c .before .before .match .keys3))
 
 -- what the callees of run_iteration ask and ensure, below the measure t
 abbrev run-iteration-claims : ℕ → run-iteration-lts.Claims
@@ -474,106 +495,101 @@ run-opened-returns-4 t c =
     blocks-as (opening (iterates (a .d .code)) (levelsAt (a .text .now)) (viewOf (a .table .now)) (handAt (a .hand)) (a .spot .position) (a .d) (a .d .next) (a .next .0) (a .spot .left)) _ (λ ks. run-settled (c .before .before .before .before .before .before .before .before .before .settle-directive .ensures) (sym (c .before .before .before .before .before .before .before .before .before .before .before .is-well-written .ensures) ∙ not-false _ (c .before .before .before .before .before .before .before .before .before .before .if1 .left)) (a .spot .position) (a .spot .left) _ (c .before .before .before .before .before .before .before .settled2 .given .1) ∙ ap (λ (y : Bool). inside y (levelsAt (a .text .now)) (viewOf (a .table .now)) (handAt (a .hand)) (a .spot .position) (a .d) (a .d .next) (a .next .0) (a .spot .left) (c .before .before .before .before .before .before .before .settled2 .given .0 .0) (c .before .before .before .before .before .before .before .settled2 .given .0 .1 .0 .0) ks) (sym (c .before .before .before .before .before .is-iteration .ensures) ∙ c .before .before .before .before .if2 .left)) ((c .before .before .run-conditional .ensures) (a .next .0))
 
 abbrev run-passes-Inv-loop : run-passes-lts.InvT-loop
-run-passes-Inv-loop text marks table level spot q hand out₀ passes₀ next₀ left₀ at₀ known₀ out passes next left at known =
-    Onto (λ i l a b e r. Passes (levelsAt text) (length text) (viewOf table) (handAt hand) level (spot .position) q i passes l a b e r) (Passes (levelsAt text) (length text) (viewOf table) (handAt hand) level (spot .position) q (next₀ .0) passes₀ (spot .left) (spot .at) out₀) (spot .left) (hand .count) out₀ (next .0) left at out
-    × InsideAt text q known
+run-passes-Inv-loop text marks table level q hand out₀ passes₀ next₀ on₀ out passes next on =
+    Onto (λ i l a b e r. Passes (levelsAt text) (length text) (viewOf table) (handAt hand) level (on .position) q i passes l a b e r) (Passes (levelsAt text) (length text) (viewOf table) (handAt hand) level (on₀ .position) q (next₀ .0) passes₀ (on₀ .left) (on₀ .at) out₀) (on₀ .left) (hand .count) out₀ (next .0) (on .left) (on .at) out
+    × InsideAt text q (on .place)
 
 abbrev run-passes-μ-loop : run-passes-lts.MeasureT-loop
-run-passes-μ-loop text marks table level spot q hand out₀ passes₀ next₀ left₀ at₀ known₀ out passes next left at known =
-    left
+run-passes-μ-loop text marks table level q hand out₀ passes₀ next₀ on₀ out passes next on =
+    on .left
 
 -- what the callees of run_passes ask and ensure, below the measure t
 abbrev run-passes-claims : ℕ → run-passes-lts.Claims
-run-passes-claims t = (is-over-reads.Asked, is-over-reads.Learnt, block-end-reads.Asked, block-end-reads.Learnt, refuse-reads.Asked, refuse-reads.Learnt, run-sequence-below t, run-sequence.Post, one-less-reads.Asked, one-less-reads.Learnt)
+run-passes-claims t = (spot-at-reads.Asked, spot-at-reads.Learnt, is-over-reads.Asked, is-over-reads.Learnt, end-block-reads.Asked, end-block-reads.Learnt, refuse-reads.Asked, refuse-reads.Learnt, begin-reads.Asked, begin-reads.Learnt, run-sequence-below t, run-sequence.Post, has-ended-reads.Asked, has-ended-reads.Learnt, leave-passes-reads.Asked, leave-passes-reads.Learnt, one-less-reads.Asked, one-less-reads.Learnt)
+
+run-passes-spot-at-requires : (t : ℕ) → run-passes-lts.Need-spot-at-requires (run-passes-claims t) (run-passes-at t) run-passes.Post run-passes-Inv-loop run-passes-μ-loop
+run-passes-spot-at-requires t c κs = search needs
 
 run-passes-loop-holds : (t : ℕ) → run-passes-lts.Need-loop-holds (run-passes-claims t) (run-passes-at t) run-passes.Post run-passes-Inv-loop run-passes-μ-loop
-run-passes-loop-holds t c = (record { ends = λ e r k. k; size = refl; fits = (c .before .before .before .before .pre .1 .1 .1 .1 .1); falls = omega arith; inside = (c .before .before .before .before .pre .1 .1 .1 .0) }, inside-start _ _ (c .before .before .before .before .pre .1 .1 .1 .1 .0))
+run-passes-loop-holds t c =
+    let o = c .spot-at .ensures in
+    (record { ends = λ e r k. k; size = refl; fits = written-inside o (c .before .before .before .before .before .pre .1 .1 .1 .1 .1); falls = omega arith; inside = c .before .before .before .before .before .pre .1 .1 .1 .0 }, place-at o (inside-start _ _ (c .before .before .before .before .before .pre .1 .1 .1 .1 .0)))
 
 run-passes-is-over-requires : (t : ℕ) → run-passes-lts.Need-is-over-requires (run-passes-claims t) (run-passes-at t) run-passes.Post run-passes-Inv-loop run-passes-μ-loop
 run-passes-is-over-requires t c κs = search needs
 
-run-passes-block-end-requires : (t : ℕ) → run-passes-lts.Need-block-end-requires (run-passes-claims t) (run-passes-at t) run-passes.Post run-passes-Inv-loop run-passes-μ-loop
-run-passes-block-end-requires t c κs = (c .before .before .before .before .before .before .before .pre .1 .0, c .before .before .loop .inv .1)
+run-passes-end-block-requires : (t : ℕ) → run-passes-lts.Need-end-block-requires (run-passes-claims t) (run-passes-at t) run-passes.Post run-passes-Inv-loop run-passes-μ-loop
+run-passes-end-block-requires t c κs = (c .before .before .before .before .before .before .before .before .pre .1 .0, c .before .before .loop .inv .1)
 
 run-passes-same-length : (t : ℕ) → run-passes-lts.Need-same-length (run-passes-claims t) (run-passes-at t) run-passes.Post run-passes-Inv-loop run-passes-μ-loop
-run-passes-same-length t c = (c .before .before .before .loop .inv .0 .size)
+run-passes-same-length t c = c .before .before .before .loop .inv .0 .size
 
 run-passes-returns : (t : ℕ) → run-passes-lts.Need-returns (run-passes-claims t) (run-passes-at t) run-passes.Post run-passes-Inv-loop run-passes-μ-loop
 run-passes-returns t c =
-    let a = (c .before .before .before .before .before .before .before .before .args) in
-    let l = (c .before .before .before .loop) in
-    l .inv .0 .ends _ _ (passes-over (levelsAt (a .text .now)) (length (a .text .now)) (viewOf (a .table .now)) (a .hand .first .0) (a .hand .count) (a .level) (a .spot .position) (a .q) (l .next .0) (l .passes) (l .left) (l .at) (l .out) (sym (c .before .before .is-over .ensures) ∙ (c .before .if1 .taken)) _ (closes-after (c .block-end .ensures)) (l .inv .0 .fits) (l .inv .0 .inside))
+    let a = c .before .before .before .before .before .before .before .before .before .args in
+    let l = c .before .before .before .loop in
+    passes-from (c .before .before .before .before .spot-at .ensures) (l .inv .0 .ends _ _ (passes-over-told (levelsAt (a .text .now)) (length (a .text .now)) (viewOf (a .table .now)) (a .hand .first .0) (a .hand .count) (a .level) (a .q) (l .next .0) (l .passes) (l .on) (l .out) (sym (c .before .before .is-over .ensures) ∙ c .before .if1 .taken) (c .end-block .ensures) (l .inv .0 .fits) (l .inv .0 .inside)))
 
 run-passes-refuse-requires : (t : ℕ) → run-passes-lts.Need-refuse-requires (run-passes-claims t) (run-passes-at t) run-passes.Post run-passes-Inv-loop run-passes-μ-loop
 run-passes-refuse-requires t c κs = search needs
 
 run-passes-same-length-2 : (t : ℕ) → run-passes-lts.Need-same-length-2 (run-passes-claims t) (run-passes-at t) run-passes.Post run-passes-Inv-loop run-passes-μ-loop
-run-passes-same-length-2 t c = (c .before .before .before .before .loop .inv .0 .size)
+run-passes-same-length-2 t c = c .before .before .before .before .before .loop .inv .0 .size
 
 run-passes-returns-2 : (t : ℕ) → run-passes-lts.Need-returns-2 (run-passes-claims t) (run-passes-at t) run-passes.Post run-passes-Inv-loop run-passes-μ-loop
 run-passes-returns-2 t c =
-    let a = (c .before .before .before .before .before .before .before .before .before .args) in
-    let l = (c .before .before .before .before .loop) in
-    l .inv .0 .ends _ _ (passes-none-told (levelsAt (a .text .now)) (length (a .text .now)) (viewOf (a .table .now)) (a .hand .first .0) (a .hand .count) (a .level) (a .spot .position) (a .q) (l .next .0) (l .passes) (l .left) (l .at) (l .out) _ _ (c .refuse .ensures) (sym (c .before .before .before .is-over .ensures) ∙ (c .before .before .if1 .left)) (c .before .if2 .taken) (l .inv .0 .fits) (l .inv .0 .inside))
+    let a = c .before .before .before .before .before .before .before .before .before .before .before .args in
+    let l = c .before .before .before .before .before .loop in
+    passes-from (c .before .before .before .before .before .before .spot-at .ensures) (l .inv .0 .ends _ _ (passes-none-told (levelsAt (a .text .now)) (length (a .text .now)) (viewOf (a .table .now)) (a .hand .first .0) (a .hand .count) (a .level) (a .q) (l .next .0) (l .passes) (l .on) (l .out) (sym (c .before .before .before .before .is-over .ensures) ∙ c .before .before .before .if1 .left) (c .refuse .ensures) (c .before .if2 .taken) (l .inv .0 .fits) (l .inv .0 .inside)))
 
-run-passes-sub-run-sequence : (t : ℕ) → run-passes-lts.Need-sub-run-sequence (run-passes-claims t) (run-passes-at t) run-passes.Post run-passes-Inv-loop run-passes-μ-loop
-run-passes-sub-run-sequence t c = search needs
+run-passes-begin-requires : (t : ℕ) → run-passes-lts.Need-begin-requires (run-passes-claims t) (run-passes-at t) run-passes.Post run-passes-Inv-loop run-passes-μ-loop
+run-passes-begin-requires t c κs = omega (arith, c .if2 .left)
 
 run-passes-run-sequence-requires : (t : ℕ) → run-passes-lts.Need-run-sequence-requires (run-passes-claims t) (run-passes-at t) run-passes.Post run-passes-Inv-loop run-passes-μ-loop
-run-passes-run-sequence-requires t c κs = (omega (arith, (c .before .before .before .before .before .before .before .before .before .pre .0)), (c .before .before .before .before .before .before .before .before .before .pre .1 .0, ((c .before .before .before .before .before .before .before .before .before .pre .1 .1 .0), ((c .before .before .before .before .loop .inv .0 .inside), ((c .before .before .before .before .before .before .before .before .before .pre .1 .1 .1 .1 .0), (c .before .before .before .before .loop .inv .0 .fits))))))
+run-passes-run-sequence-requires t c κs =
+    let i = c .before .before .before .before .before .before .loop .inv .0 in
+    (omega (arith, c .before .before .before .before .before .before .before .before .before .before .before .before .pre .0), (c .before .before .before .before .before .before .before .before .before .before .before .before .pre .1 .0, (c .before .before .before .before .before .before .before .before .before .before .before .before .pre .1 .1 .0, (i .inside, (c .before .before .before .before .before .before .before .before .before .before .before .before .pre .1 .1 .1 .1 .0, written-inside (c .before .begin .ensures) (i .fits))))))
 
-run-passes-enum-told : (t : ℕ) → run-passes-lts.Need-enum-told (run-passes-claims t) (run-passes-at t) run-passes.Post run-passes-Inv-loop run-passes-μ-loop
-run-passes-enum-told t c = search needs
+run-passes-has-ended-requires : (t : ℕ) → run-passes-lts.Need-has-ended-requires (run-passes-claims t) (run-passes-at t) run-passes.Post run-passes-Inv-loop run-passes-μ-loop
+run-passes-has-ended-requires t c κs = search needs
+
+run-passes-leave-passes-requires : (t : ℕ) → run-passes-lts.Need-leave-passes-requires (run-passes-claims t) (run-passes-at t) run-passes.Post run-passes-Inv-loop run-passes-μ-loop
+run-passes-leave-passes-requires t c κs = (c .before .before .before .before .before .before .before .before .before .before .before .before .before .before .before .before .before .pre .1 .0, c .before .before .before .before .before .before .before .before .before .before .before .loop .inv .1)
+
+run-passes-same-length-3 : (t : ℕ) → run-passes-lts.Need-same-length-3 (run-passes-claims t) (run-passes-at t) run-passes.Post run-passes-Inv-loop run-passes-μ-loop
+run-passes-same-length-3 t c = c .before .before .before .before .before .run-sequence .ensures .does .size ∙ c .before .before .before .before .before .before .before .before .before .before .before .before .loop .inv .0 .size
+
+run-passes-returns-3 : (t : ℕ) → run-passes-lts.Need-returns-3 (run-passes-claims t) (run-passes-at t) run-passes.Post run-passes-Inv-loop run-passes-μ-loop
+run-passes-returns-3 t c =
+    let a = c .before .before .before .before .before .before .before .before .before .before .before .before .before .before .before .before .before .before .args in
+    let l = c .before .before .before .before .before .before .before .before .before .before .before .before .loop in
+    passes-from (c .before .before .before .before .before .before .before .before .before .before .before .before .before .spot-at .ensures) (l .inv .0 .ends _ _ (passes-stopped (levelsAt (a .text .now)) (length (a .text .now)) (viewOf (a .table .now)) (a .hand .first .0) (a .hand .count) (a .level) (a .q) (l .next .0) (l .passes) (l .on) (l .out) (sym (c .before .before .before .before .before .before .before .before .before .before .before .is-over .ensures) ∙ c .before .before .before .before .before .before .before .before .before .before .if1 .left) (c .before .before .before .before .before .before .before .before .if2 .left) (c .before .before .before .before .before .before .before .begin .ensures) (c .before .before .before .before .before .run-sequence .ensures) (sym (c .before .before .has-ended .ensures) ∙ not-true _ (c .before .if3 .taken)) (c .leave-passes .ensures)))
 
 run-passes-one-less-requires : (t : ℕ) → run-passes-lts.Need-one-less-requires (run-passes-claims t) (run-passes-at t) run-passes.Post run-passes-Inv-loop run-passes-μ-loop
 run-passes-one-less-requires t c κs = search needs
 
+run-passes-spot-at-requires-2 : (t : ℕ) → run-passes-lts.Need-spot-at-requires-2 (run-passes-claims t) (run-passes-at t) run-passes.Post run-passes-Inv-loop run-passes-μ-loop
+run-passes-spot-at-requires-2 t c κs = search needs
+
 run-passes-loop-less : (t : ℕ) → run-passes-lts.Need-loop-less (run-passes-claims t) (run-passes-at t) run-passes.Post run-passes-Inv-loop run-passes-μ-loop
-run-passes-loop-less t c = let u = (c .before .before .before .before .before .before .run-sequence .ensures) in omega (arith, u .does .falls)
+run-passes-loop-less t c = omega (arith, left-at (c .spot-at2 .ensures), left-at (c .before .before .before .before .before .before .before .before .before .begin .ensures), c .before .before .before .before .before .before .before .run-sequence .ensures .does .falls, c .before .before .before .before .before .before .before .before .before .before .if2 .left)
 
 run-passes-loop-again : (t : ℕ) → run-passes-lts.Need-loop-again (run-passes-claims t) (run-passes-at t) run-passes.Post run-passes-Inv-loop run-passes-μ-loop
 run-passes-loop-again t c =
-    let a = (c .before .before .before .before .before .before .before .before .before .before .before .before .before .before .before .before .args) in
-    let l = (c .before .before .before .before .before .before .before .before .before .before .before .loop) in
-    let u = (c .before .before .before .before .before .before .run-sequence .ensures) in
-    let e = (c .before .enum-told .given .1) in
-    let w = u .ends e in (
+    let a = c .before .before .before .before .before .before .before .before .before .before .before .before .before .before .before .before .before .before .before .before .args in
+    let l = c .before .before .before .before .before .before .before .before .before .before .before .before .before .before .loop in
+    let u = c .before .before .before .before .before .before .before .run-sequence .ensures in
+    let o = c .spot-at2 .ensures in
+    let e = is-ended (c .before .before .before .before .before .before .before .run-sequence .result .stop) (sym (c .before .before .before .before .has-ended .ensures) ∙ not-false _ (c .before .before .before .if3 .left)) in (
       record {
-        ends = λ e₂ r k. l .inv .0 .ends e₂ r (passes-on-told (levelsAt (a .text .now)) (length (a .text .now)) (viewOf (a .table .now)) (a .hand .first .0) (a .hand .count) (a .level) (a .spot .position) (a .q) (l .next .0) (l .passes) (l .left) (l .at) (l .out) (sym (c .before .before .before .before .before .before .before .before .before .before .is-over .ensures) ∙ (c .before .before .before .before .before .before .before .before .before .if1 .left)) (c .before .before .before .before .before .before .before .before .if2 .left) u e (c .one-less .ensures) k);
+        ends = λ e₂ r k. l .inv .0 .ends e₂ r (passes-on-told (levelsAt (a .text .now)) (length (a .text .now)) (viewOf (a .table .now)) (a .hand .first .0) (a .hand .count) (a .level) (a .q) (l .next .0) (l .passes) (l .on) (l .out) (sym (c .before .before .before .before .before .before .before .before .before .before .before .before .before .is-over .ensures) ∙ c .before .before .before .before .before .before .before .before .before .before .before .before .if1 .left) (c .before .before .before .before .before .before .before .before .before .before .if2 .left) (c .before .before .before .before .before .before .before .before .before .begin .ensures) u e (c .before .before .one-less .ensures) o k);
         size = u .does .size ∙ l .inv .0 .size;
-        fits = omega (arith, u .does .most, u .does .size);
-        falls = omega (arith, u .does .falls, l .inv .0 .falls);
+        fits = written-inside o (omega (arith, u .does .most, u .does .size));
+        falls = omega (arith, left-at o, left-at (c .before .before .before .before .before .before .before .before .before .begin .ensures), u .does .falls, l .inv .0 .falls);
         inside = u .does .inside;
       },
-      ends-inside (inside-start (a .text .now) (a .q) (c .before .before .before .before .before .before .before .before .before .before .before .before .before .before .before .before .pre .1 .1 .1 .1 .0)) w,
+      place-at o (ends-inside (inside-start (a .text .now) (a .q) (c .before .before .before .before .before .before .before .before .before .before .before .before .before .before .before .before .before .before .before .before .pre .1 .1 .1 .1 .0)) (u .ends e)),
     )
-
-run-passes-enum-told-2 : (t : ℕ) → run-passes-lts.Need-enum-told-2 (run-passes-claims t) (run-passes-at t) run-passes.Post run-passes-Inv-loop run-passes-μ-loop
-run-passes-enum-told-2 t c = search needs
-
-run-passes-block-end-requires-2 : (t : ℕ) → run-passes-lts.Need-block-end-requires-2 (run-passes-claims t) (run-passes-at t) run-passes.Post run-passes-Inv-loop run-passes-μ-loop
-run-passes-block-end-requires-2 t c κs = (c .before .before .before .before .before .before .before .before .before .before .before .before .before .before .before .pre .1 .0, c .before .before .before .before .before .before .before .before .before .before .loop .inv .1)
-
-run-passes-same-length-3 : (t : ℕ) → run-passes-lts.Need-same-length-3 (run-passes-claims t) (run-passes-at t) run-passes.Post run-passes-Inv-loop run-passes-μ-loop
-run-passes-same-length-3 t c = let u = (c .before .before .before .before .before .before .run-sequence .ensures) in u .does .size ∙ (c .before .before .before .before .before .before .before .before .before .before .before .loop .inv .0 .size)
-
-run-passes-returns-3 : (t : ℕ) → run-passes-lts.Need-returns-3 (run-passes-claims t) (run-passes-at t) run-passes.Post run-passes-Inv-loop run-passes-μ-loop
-run-passes-returns-3 t c =
-    let a = (c .before .before .before .before .before .before .before .before .before .before .before .before .before .before .before .before .args) in
-    let l = (c .before .before .before .before .before .before .before .before .before .before .before .loop) in
-    l .inv .0 .ends _ _ (passes-left (levelsAt (a .text .now)) (length (a .text .now)) (viewOf (a .table .now)) (a .hand .first .0) (a .hand .count) (a .level) (a .spot .position) (a .q) (l .next .0) (l .passes) (l .left) (l .at) (l .out) (sym (c .before .before .before .before .before .before .before .before .before .before .is-over .ensures) ∙ (c .before .before .before .before .before .before .before .before .before .if1 .left)) (c .before .before .before .before .before .before .before .before .if2 .left) (c .before .before .before .before .before .before .run-sequence .ensures) (c .before .enum-told2 .given .1) _ (closes-after (c .block-end2 .ensures)))
-
-run-passes-enum-told-3 : (t : ℕ) → run-passes-lts.Need-enum-told-3 (run-passes-claims t) (run-passes-at t) run-passes.Post run-passes-Inv-loop run-passes-μ-loop
-run-passes-enum-told-3 t c = search needs
-
-run-passes-same-length-4 : (t : ℕ) → run-passes-lts.Need-same-length-4 (run-passes-claims t) (run-passes-at t) run-passes.Post run-passes-Inv-loop run-passes-μ-loop
-run-passes-same-length-4 t c = let u = (c .before .before .before .before .before .run-sequence .ensures) in u .does .size ∙ (c .before .before .before .before .before .before .before .before .before .before .loop .inv .0 .size)
-
-run-passes-returns-4 : (t : ℕ) → run-passes-lts.Need-returns-4 (run-passes-claims t) (run-passes-at t) run-passes.Post run-passes-Inv-loop run-passes-μ-loop
-run-passes-returns-4 t c =
-    let a = (c .before .before .before .before .before .before .before .before .before .before .before .before .before .before .before .args) in
-    let l = (c .before .before .before .before .before .before .before .before .before .before .loop) in
-    l .inv .0 .ends _ _ (passes-refused (levelsAt (a .text .now)) (length (a .text .now)) (viewOf (a .table .now)) (a .hand .first .0) (a .hand .count) (a .level) (a .spot .position) (a .q) (l .next .0) (l .passes) (l .left) (l .at) (l .out) (sym (c .before .before .before .before .before .before .before .before .before .is-over .ensures) ∙ (c .before .before .before .before .before .before .before .before .if1 .left)) (c .before .before .before .before .before .before .before .if2 .left) (c .before .before .before .before .before .run-sequence .ensures) _ _ (c .enum-told3 .given .1))
 
 abbrev run-sequence-Inv-loop : run-sequence-lts.InvT-loop
 run-sequence-Inv-loop text marks table level start hand most out₀ from p₀ next₀ left₀ at₀ out p next left at =
@@ -586,123 +602,79 @@ run-sequence-μ-loop text marks table level start hand most out₀ from p₀ nex
 
 -- what the callees of run_sequence ask and ensure, below the measure t
 abbrev run-sequence-claims : ℕ → run-sequence-lts.Claims
-run-sequence-claims t = (run-short-reads.Asked, run-short-reads.Learnt, is-ended-reads.Asked, is-ended-reads.Learnt, closes-at-reads.Asked, closes-at-reads.Learnt, item-at-reads.Asked, item-at-reads.Learnt, ends-here-reads.Asked, ends-here-reads.Learnt, run-item-below t, run-item.Post)
+run-sequence-claims t = (run-short-reads.Asked, run-short-reads.Learnt, item-after-reads.Asked, item-after-reads.Learnt, ends-here-reads.Asked, ends-here-reads.Learnt, run-item-below t, run-item.Post, has-ended-reads.Asked, has-ended-reads.Learnt)
 
 run-sequence-loop-holds : (t : ℕ) → run-sequence-lts.Need-loop-holds (run-sequence-claims t) (run-sequence-at t) run-sequence.Post run-sequence-Inv-loop run-sequence-μ-loop
-run-sequence-loop-holds t c = (record { ends = λ e r k. k; size = refl; fits = (c .before .before .before .before .pre .1 .1 .1 .1 .1); falls = omega arith; inside = (c .before .before .before .before .pre .1 .1 .1 .0) }, (c .before .before .before .before .pre .1 .1 .1 .1 .0))
+run-sequence-loop-holds t c = (record { ends = λ e r k. k; size = refl; fits = c .before .before .before .before .pre .1 .1 .1 .1 .1; falls = omega arith; inside = c .before .before .before .before .pre .1 .1 .1 .0 }, c .before .before .before .before .pre .1 .1 .1 .1 .0)
 
 run-sequence-run-short-requires : (t : ℕ) → run-sequence-lts.Need-run-short-requires (run-sequence-claims t) (run-sequence-at t) run-sequence.Post run-sequence-Inv-loop run-sequence-μ-loop
-run-sequence-run-short-requires t c κs = ((c .before .before .before .before .before .before .pre .1 .1 .0), ((c .before .loop .inv .0 .inside), ((c .before .loop .inv .1), (c .before .loop .inv .0 .fits))))
+run-sequence-run-short-requires t c κs = (c .before .before .before .before .before .before .pre .1 .1 .0, (c .before .loop .inv .0 .inside, (c .before .loop .inv .1, c .before .loop .inv .0 .fits)))
 
-run-sequence-is-ended-requires : (t : ℕ) → run-sequence-lts.Need-is-ended-requires (run-sequence-claims t) (run-sequence-at t) run-sequence.Post run-sequence-Inv-loop run-sequence-μ-loop
-run-sequence-is-ended-requires t c κs = search needs
-
-run-sequence-same-length : (t : ℕ) → run-sequence-lts.Need-same-length (run-sequence-claims t) (run-sequence-at t) run-sequence.Post run-sequence-Inv-loop run-sequence-μ-loop
-run-sequence-same-length t c =
-    let a = (c .before .before .before .before .before .before .before .before .before .before .before .args) in
-    let l = (c .before .before .before .before .before .before .loop) in
-    let s = levelsAt (a .text .now) in
-    let n = length (a .text .now) in
-    let v = viewOf (a .table .now) in
-    let w = (c .before .before .before .before .run-short .ensures .0) (a .level) in
-    w .does .size ∙ l .inv .0 .size
-
-run-sequence-returns : (t : ℕ) → run-sequence-lts.Need-returns (run-sequence-claims t) (run-sequence-at t) run-sequence.Post run-sequence-Inv-loop run-sequence-μ-loop
-run-sequence-returns t c =
-    let a = (c .before .before .before .before .before .before .before .before .before .before .before .args) in
-    let l = (c .before .before .before .before .before .before .loop) in
-    let s = levelsAt (a .text .now) in
-    let n = length (a .text .now) in
-    let v = viewOf (a .table .now) in
-    let w = (c .before .before .before .before .run-short .ensures .0) (a .level) in
-    l .inv .0 .ends _ _ (runs-stopped s n v (a .hand .first .0) (a .hand .count) (a .level) (l .p) (l .next .0) (l .left) (l .at) (l .out) w (sym (c .before .is-ended .ensures) ∙ not-true _ (c .if1 .taken)))
-
-run-sequence-closes-at-requires : (t : ℕ) → run-sequence-lts.Need-closes-at-requires (run-sequence-claims t) (run-sequence-at t) run-sequence.Post run-sequence-Inv-loop run-sequence-μ-loop
-run-sequence-closes-at-requires t c κs = search needs
-
-run-sequence-same-length-2 : (t : ℕ) → run-sequence-lts.Need-same-length-2 (run-sequence-claims t) (run-sequence-at t) run-sequence.Post run-sequence-Inv-loop run-sequence-μ-loop
-run-sequence-same-length-2 t c =
-    let a = (c .before .before .before .before .before .before .before .before .before .before .before .before .before .args) in
-    let l = (c .before .before .before .before .before .before .before .before .loop) in
-    let w = (c .before .before .before .before .before .before .run-short .ensures .0) (a .level) in
-    w .does .size ∙ l .inv .0 .size
-
-run-sequence-returns-2 : (t : ℕ) → run-sequence-lts.Need-returns-2 (run-sequence-claims t) (run-sequence-at t) run-sequence.Post run-sequence-Inv-loop run-sequence-μ-loop
-run-sequence-returns-2 t c =
-    let a = (c .before .before .before .before .before .before .before .before .before .before .before .before .before .args) in
-    let l = (c .before .before .before .before .before .before .before .before .loop) in
-    let s = levelsAt (a .text .now) in
-    let n = length (a .text .now) in
-    let v = viewOf (a .table .now) in
-    let w = (c .before .before .before .before .before .before .run-short .ensures .0) (a .level) in
-    let halt = is-ended _ (sym (c .before .before .before .is-ended .ensures) ∙ not-false _ (c .before .before .if1 .left)) in
-    l .inv .0 .ends _ _ (strides-runs-on s n v (a .hand .first .0) (a .hand .count) (a .level) (l .p) (l .next .0) (l .left) (l .at) (l .out) w halt (sequence-closes (a .text .now) (c .before .before .before .before .before .before .run-short .result .place) v (a .hand .first .0) (a .hand .count) (a .level) (c .before .before .before .before .before .before .run-short .result .next .0) (c .before .before .before .before .before .before .run-short .result .left) (c .before .before .before .before .before .before .run-short .result .at) _ (c .before .before .before .before .before .before .run-short .result) (sym (c .before .closes-at .ensures) ∙ (c .if2 .taken)) (ended-as _ halt) (w .most halt) (omega (arith, w .does .most, w .does .size)) (w .does .inside)))
-
-run-sequence-item-at-requires : (t : ℕ) → run-sequence-lts.Need-item-at-requires (run-sequence-claims t) (run-sequence-at t) run-sequence.Post run-sequence-Inv-loop run-sequence-μ-loop
-run-sequence-item-at-requires t c κs = search needs
+run-sequence-item-after-requires : (t : ℕ) → run-sequence-lts.Need-item-after-requires (run-sequence-claims t) (run-sequence-at t) run-sequence.Post run-sequence-Inv-loop run-sequence-μ-loop
+run-sequence-item-after-requires t c κs = search needs
 
 run-sequence-ends-here-requires : (t : ℕ) → run-sequence-lts.Need-ends-here-requires (run-sequence-claims t) (run-sequence-at t) run-sequence.Post run-sequence-Inv-loop run-sequence-μ-loop
 run-sequence-ends-here-requires t c κs = search needs
 
-run-sequence-same-length-3 : (t : ℕ) → run-sequence-lts.Need-same-length-3 (run-sequence-claims t) (run-sequence-at t) run-sequence.Post run-sequence-Inv-loop run-sequence-μ-loop
-run-sequence-same-length-3 t c =
-    let a = (c .before .before .before .before .before .before .before .before .before .before .before .before .before .before .before .before .args) in
-    let l = (c .before .before .before .before .before .before .before .before .before .before .before .loop) in
-    let s = levelsAt (a .text .now) in
-    let n = length (a .text .now) in
-    let v = viewOf (a .table .now) in
-    let w = (c .before .before .before .before .before .before .before .before .before .run-short .ensures .0) (a .level) in
-    w .does .size ∙ l .inv .0 .size
+run-sequence-same-length : (t : ℕ) → run-sequence-lts.Need-same-length (run-sequence-claims t) (run-sequence-at t) run-sequence.Post run-sequence-Inv-loop run-sequence-μ-loop
+run-sequence-same-length t c = (c .before .before .before .before .before .run-short .ensures .0) (c .before .before .before .before .before .before .before .before .before .before .before .before .args .level) .does .size ∙ c .before .before .before .before .before .before .before .loop .inv .0 .size
 
-run-sequence-returns-3 : (t : ℕ) → run-sequence-lts.Need-returns-3 (run-sequence-claims t) (run-sequence-at t) run-sequence.Post run-sequence-Inv-loop run-sequence-μ-loop
-run-sequence-returns-3 t c =
-    let a = (c .before .before .before .before .before .before .before .before .before .before .before .before .before .before .before .before .args) in
-    let l = (c .before .before .before .before .before .before .before .before .before .before .before .loop) in
+run-sequence-returns : (t : ℕ) → run-sequence-lts.Need-returns (run-sequence-claims t) (run-sequence-at t) run-sequence.Post run-sequence-Inv-loop run-sequence-μ-loop
+run-sequence-returns t c =
+    let a = c .before .before .before .before .before .before .before .before .before .before .before .before .args in
+    let l = c .before .before .before .before .before .before .before .loop in
     let s = levelsAt (a .text .now) in
     let n = length (a .text .now) in
     let v = viewOf (a .table .now) in
-    let w = (c .before .before .before .before .before .before .before .before .before .run-short .ensures .0) (a .level) in
-    let halt = is-ended _ (sym (c .before .before .before .before .before .before .is-ended .ensures) ∙ not-false _ (c .before .before .before .before .before .if1 .left)) in
-    l .inv .0 .ends _ _ (strides-runs-on s n v (a .hand .first .0) (a .hand .count) (a .level) (l .p) (l .next .0) (l .left) (l .at) (l .out) w halt (sequence-ends (a .text .now) (c .before .before .before .before .before .before .before .before .before .run-short .result .place) v (a .hand .first .0) (a .hand .count) (a .level) (c .before .before .before .before .before .before .before .before .before .run-short .result .next .0) (c .before .before .before .before .before .before .before .before .before .run-short .result .left) (c .before .before .before .before .before .before .before .before .before .run-short .result .at) _ (c .before .before .before .before .before .before .before .before .before .run-short .result) (c .before .before .item-at .result) (sym (c .before .before .item-at .ensures)) (sym (c .before .ends-here .ensures) ∙ (c .if3 .taken)) (ended-as _ halt) (w .most halt) (omega (arith, w .does .most, w .does .size)) (w .does .inside)))
+    let w = (c .before .before .before .before .before .run-short .ensures .0) (a .level) in
+    l .inv .0 .ends _ _ (sequence-stops s n v (a .hand .first .0) (a .hand .count) (a .level) (l .p) (l .next .0) (l .left) (l .at) (l .out) w (c .before .before .item-after .ensures .ends (sym (c .before .ends-here .ensures) ∙ c .if1 .taken)))
 
 run-sequence-run-item-requires : (t : ℕ) → run-sequence-lts.Need-run-item-requires (run-sequence-claims t) (run-sequence-at t) run-sequence.Post run-sequence-Inv-loop run-sequence-μ-loop
 run-sequence-run-item-requires t c κs =
-    let a = (c .before .before .before .before .before .before .before .before .before .before .before .before .before .before .before .before .before .before .args) in
-    let l = (c .before .before .before .before .before .before .before .before .before .before .before .before .before .loop) in
+    let w = (c .before .before .before .before .before .before .run-short .ensures .0) (c .before .before .before .before .before .before .before .before .before .before .before .before .before .args .level) in
+    let h = sym (c .before .before .ends-here .ensures) ∙ c .before .if1 .left in
+    (omega (arith, c .before .before .before .before .before .before .before .before .before .before .before .before .before .pre .0), (c .before .before .before .before .before .before .before .before .before .before .before .before .before .pre .1 .0, (c .before .before .before .before .before .before .before .before .before .before .before .before .before .pre .1 .1 .0, (w .does .inside, (c .before .before .before .item-after .ensures .is h, (h, omega (arith, w .does .most, w .does .size)))))))
+
+run-sequence-has-ended-requires : (t : ℕ) → run-sequence-lts.Need-has-ended-requires (run-sequence-claims t) (run-sequence-at t) run-sequence.Post run-sequence-Inv-loop run-sequence-μ-loop
+run-sequence-has-ended-requires t c κs = search needs
+
+run-sequence-same-length-2 : (t : ℕ) → run-sequence-lts.Need-same-length-2 (run-sequence-claims t) (run-sequence-at t) run-sequence.Post run-sequence-Inv-loop run-sequence-μ-loop
+run-sequence-same-length-2 t c = c .before .before .before .before .run-item .ensures .does .size ∙ (c .before .before .before .before .before .before .before .before .before .before .before .run-short .ensures .0) (c .before .before .before .before .before .before .before .before .before .before .before .before .before .before .before .before .before .before .args .level) .does .size ∙ c .before .before .before .before .before .before .before .before .before .before .before .before .before .loop .inv .0 .size
+
+run-sequence-returns-2 : (t : ℕ) → run-sequence-lts.Need-returns-2 (run-sequence-claims t) (run-sequence-at t) run-sequence.Post run-sequence-Inv-loop run-sequence-μ-loop
+run-sequence-returns-2 t c =
+    let a = c .before .before .before .before .before .before .before .before .before .before .before .before .before .before .before .before .before .before .args in
+    let l = c .before .before .before .before .before .before .before .before .before .before .before .before .before .loop in
     let s = levelsAt (a .text .now) in
     let n = length (a .text .now) in
     let v = viewOf (a .table .now) in
     let w = (c .before .before .before .before .before .before .before .before .before .before .before .run-short .ensures .0) (a .level) in
-    (omega (arith, (c .before .before .before .before .before .before .before .before .before .before .before .before .before .before .before .before .before .before .pre .0)), (c .before .before .before .before .before .before .before .before .before .before .before .before .before .before .before .before .before .before .pre .1 .0, ((c .before .before .before .before .before .before .before .before .before .before .before .before .before .before .before .before .before .before .pre .1 .1 .0), (w .does .inside, (sym (c .before .before .before .before .item-at .ensures), (sym (c .before .before .before .ends-here .ensures) ∙ (c .before .before .if3 .left), omega (arith, w .does .most, w .does .size)))))))
-
-run-sequence-enum-told : (t : ℕ) → run-sequence-lts.Need-enum-told (run-sequence-claims t) (run-sequence-at t) run-sequence.Post run-sequence-Inv-loop run-sequence-μ-loop
-run-sequence-enum-told t c = search needs
+    let x = c .before .before .before .before .before .before .before .before .before .before .before .run-short .result in
+    let halt = c .before .before .before .before .before .before .before .before .item-after .ensures .ended (sym (c .before .before .before .before .before .before .before .ends-here .ensures) ∙ c .before .before .before .before .before .before .if1 .left) in
+    l .inv .0 .ends _ _ (strides-runs-on s n v (a .hand .first .0) (a .hand .count) (a .level) (l .p) (l .next .0) (l .left) (l .at) (l .out) w halt (steps-stopped s n v (a .hand .first .0) (a .hand .count) (a .level) (x .place) (x .next .0) (x .left) (x .at) _ (c .before .before .before .before .run-item .ensures) (sym (c .before .has-ended .ensures) ∙ not-true _ (c .if2 .taken))))
 
 run-sequence-loop-less : (t : ℕ) → run-sequence-lts.Need-loop-less (run-sequence-claims t) (run-sequence-at t) run-sequence.Post run-sequence-Inv-loop run-sequence-μ-loop
 run-sequence-loop-less t c =
-    let a = (c .before .before .before .before .before .before .before .before .before .before .before .before .before .before .before .before .before .before .before .before .before .before .before .before .args) in
-    let l = (c .before .before .before .before .before .before .before .before .before .before .before .before .before .before .before .before .before .before .before .loop) in
-    let s = levelsAt (a .text .now) in
-    let n = length (a .text .now) in
-    let v = viewOf (a .table .now) in
-    let w = (c .before .before .before .before .before .before .before .before .before .before .before .before .before .before .before .before .before .run-short .ensures .0) (a .level) in
-    let halt = is-ended _ (sym (c .before .before .before .before .before .before .before .before .before .before .before .before .before .before .is-ended .ensures) ∙ not-false _ (c .before .before .before .before .before .before .before .before .before .before .before .before .before .if1 .left)) in
-    let u = (c .before .before .before .before .before .run-item .ensures) in
-    omega (arith, u .least (c .enum-told .given .1), u .most (c .enum-told .given .1), w .least halt)
+    let w = (c .before .before .before .before .before .before .before .before .before .before .before .before .run-short .ensures .0) (c .before .before .before .before .before .before .before .before .before .before .before .before .before .before .before .before .before .before .before .args .level) in
+    let halt = c .before .before .before .before .before .before .before .before .before .item-after .ensures .ended (sym (c .before .before .before .before .before .before .before .before .ends-here .ensures) ∙ c .before .before .before .before .before .before .before .if1 .left) in
+    let u = c .before .before .before .before .before .run-item .ensures in
+    let e = is-ended (c .before .before .before .before .before .run-item .result .stop) (sym (c .before .before .has-ended .ensures) ∙ not-false _ (c .before .if2 .left)) in
+    omega (arith, u .least e, u .most e, w .least halt)
 
 run-sequence-loop-again : (t : ℕ) → run-sequence-lts.Need-loop-again (run-sequence-claims t) (run-sequence-at t) run-sequence.Post run-sequence-Inv-loop run-sequence-μ-loop
 run-sequence-loop-again t c =
-    let a = (c .before .before .before .before .before .before .before .before .before .before .before .before .before .before .before .before .before .before .before .before .before .before .before .before .args) in
-    let l = (c .before .before .before .before .before .before .before .before .before .before .before .before .before .before .before .before .before .before .before .loop) in
+    let a = c .before .before .before .before .before .before .before .before .before .before .before .before .before .before .before .before .before .before .before .args in
+    let l = c .before .before .before .before .before .before .before .before .before .before .before .before .before .before .loop in
     let s = levelsAt (a .text .now) in
     let n = length (a .text .now) in
     let v = viewOf (a .table .now) in
-    let w = (c .before .before .before .before .before .before .before .before .before .before .before .before .before .before .before .before .before .run-short .ensures .0) (a .level) in
-    let halt = is-ended _ (sym (c .before .before .before .before .before .before .before .before .before .before .before .before .before .before .is-ended .ensures) ∙ not-false _ (c .before .before .before .before .before .before .before .before .before .before .before .before .before .if1 .left)) in
-    let u = (c .before .before .before .before .before .run-item .ensures) in
-    let e = (c .enum-told .given .1) in (
+    let w = (c .before .before .before .before .before .before .before .before .before .before .before .before .run-short .ensures .0) (a .level) in
+    let x = c .before .before .before .before .before .before .before .before .before .before .before .before .run-short .result in
+    let halt = c .before .before .before .before .before .before .before .before .before .item-after .ensures .ended (sym (c .before .before .before .before .before .before .before .before .ends-here .ensures) ∙ c .before .before .before .before .before .before .before .if1 .left) in
+    let u = c .before .before .before .before .before .run-item .ensures in
+    let e = is-ended (c .before .before .before .before .before .run-item .result .stop) (sym (c .before .before .has-ended .ensures) ∙ not-false _ (c .before .if2 .left)) in (
       record {
-        ends = λ e₂ r k. l .inv .0 .ends e₂ r (strides-runs-on s n v (a .hand .first .0) (a .hand .count) (a .level) (l .p) (l .next .0) (l .left) (l .at) (l .out) w halt (runs-on s n v (a .hand .first .0) (a .hand .count) (a .level) (c .before .before .before .before .before .before .before .before .before .before .before .before .before .before .before .before .before .run-short .result .place) (c .before .before .before .before .before .before .before .before .before .before .before .before .before .before .before .before .before .run-short .result .next .0) (c .before .before .before .before .before .before .before .before .before .before .before .before .before .before .before .before .before .run-short .result .left) (c .before .before .before .before .before .before .before .before .before .before .before .before .before .before .before .before .before .run-short .result .at) _ u e k));
+        ends = λ e₂ r k. l .inv .0 .ends e₂ r (strides-runs-on s n v (a .hand .first .0) (a .hand .count) (a .level) (l .p) (l .next .0) (l .left) (l .at) (l .out) w halt (runs-on s n v (a .hand .first .0) (a .hand .count) (a .level) (x .place) (x .next .0) (x .left) (x .at) _ u e k));
         size = u .does .size ∙ w .does .size ∙ l .inv .0 .size;
         fits = omega (arith, u .does .most, u .does .size);
         falls = omega (arith, u .does .falls, w .does .falls, l .inv .0 .falls);
@@ -710,58 +682,6 @@ run-sequence-loop-again t c =
       },
       u .most e,
     )
-
-run-sequence-enum-told-2 : (t : ℕ) → run-sequence-lts.Need-enum-told-2 (run-sequence-claims t) (run-sequence-at t) run-sequence.Post run-sequence-Inv-loop run-sequence-μ-loop
-run-sequence-enum-told-2 t c = search needs
-
-run-sequence-same-length-4 : (t : ℕ) → run-sequence-lts.Need-same-length-4 (run-sequence-claims t) (run-sequence-at t) run-sequence.Post run-sequence-Inv-loop run-sequence-μ-loop
-run-sequence-same-length-4 t c =
-    let a = (c .before .before .before .before .before .before .before .before .before .before .before .before .before .before .before .before .before .before .before .before .before .before .before .before .args) in
-    let l = (c .before .before .before .before .before .before .before .before .before .before .before .before .before .before .before .before .before .before .before .loop) in
-    let s = levelsAt (a .text .now) in
-    let n = length (a .text .now) in
-    let v = viewOf (a .table .now) in
-    let w = (c .before .before .before .before .before .before .before .before .before .before .before .before .before .before .before .before .before .run-short .ensures .0) (a .level) in
-    let u = (c .before .before .before .before .before .run-item .ensures) in
-    u .does .size ∙ w .does .size ∙ l .inv .0 .size
-
-run-sequence-returns-4 : (t : ℕ) → run-sequence-lts.Need-returns-4 (run-sequence-claims t) (run-sequence-at t) run-sequence.Post run-sequence-Inv-loop run-sequence-μ-loop
-run-sequence-returns-4 t c =
-    let a = (c .before .before .before .before .before .before .before .before .before .before .before .before .before .before .before .before .before .before .before .before .before .before .before .before .args) in
-    let l = (c .before .before .before .before .before .before .before .before .before .before .before .before .before .before .before .before .before .before .before .loop) in
-    let s = levelsAt (a .text .now) in
-    let n = length (a .text .now) in
-    let v = viewOf (a .table .now) in
-    let w = (c .before .before .before .before .before .before .before .before .before .before .before .before .before .before .before .before .before .run-short .ensures .0) (a .level) in
-    let halt = is-ended _ (sym (c .before .before .before .before .before .before .before .before .before .before .before .before .before .before .is-ended .ensures) ∙ not-false _ (c .before .before .before .before .before .before .before .before .before .before .before .before .before .if1 .left)) in
-    let u = (c .before .before .before .before .before .run-item .ensures) in
-    l .inv .0 .ends _ _ (strides-runs-on s n v (a .hand .first .0) (a .hand .count) (a .level) (l .p) (l .next .0) (l .left) (l .at) (l .out) w halt (runs-left s n v (a .hand .first .0) (a .hand .count) (a .level) (c .before .before .before .before .before .before .before .before .before .before .before .before .before .before .before .before .before .run-short .result .place) (c .before .before .before .before .before .before .before .before .before .before .before .before .before .before .before .before .before .run-short .result .next .0) (c .before .before .before .before .before .before .before .before .before .before .before .before .before .before .before .before .before .run-short .result .left) (c .before .before .before .before .before .before .before .before .before .before .before .before .before .before .before .before .before .run-short .result .at) _ u (c .enum-told2 .given .1)))
-
-run-sequence-enum-told-3 : (t : ℕ) → run-sequence-lts.Need-enum-told-3 (run-sequence-claims t) (run-sequence-at t) run-sequence.Post run-sequence-Inv-loop run-sequence-μ-loop
-run-sequence-enum-told-3 t c = search needs
-
-run-sequence-same-length-5 : (t : ℕ) → run-sequence-lts.Need-same-length-5 (run-sequence-claims t) (run-sequence-at t) run-sequence.Post run-sequence-Inv-loop run-sequence-μ-loop
-run-sequence-same-length-5 t c =
-    let a = (c .before .before .before .before .before .before .before .before .before .before .before .before .before .before .before .before .before .before .before .before .before .before .before .before .args) in
-    let l = (c .before .before .before .before .before .before .before .before .before .before .before .before .before .before .before .before .before .before .before .loop) in
-    let s = levelsAt (a .text .now) in
-    let n = length (a .text .now) in
-    let v = viewOf (a .table .now) in
-    let w = (c .before .before .before .before .before .before .before .before .before .before .before .before .before .before .before .before .before .run-short .ensures .0) (a .level) in
-    let u = (c .before .before .before .before .before .run-item .ensures) in
-    u .does .size ∙ w .does .size ∙ l .inv .0 .size
-
-run-sequence-returns-5 : (t : ℕ) → run-sequence-lts.Need-returns-5 (run-sequence-claims t) (run-sequence-at t) run-sequence.Post run-sequence-Inv-loop run-sequence-μ-loop
-run-sequence-returns-5 t c =
-    let a = (c .before .before .before .before .before .before .before .before .before .before .before .before .before .before .before .before .before .before .before .before .before .before .before .before .args) in
-    let l = (c .before .before .before .before .before .before .before .before .before .before .before .before .before .before .before .before .before .before .before .loop) in
-    let s = levelsAt (a .text .now) in
-    let n = length (a .text .now) in
-    let v = viewOf (a .table .now) in
-    let w = (c .before .before .before .before .before .before .before .before .before .before .before .before .before .before .before .before .before .run-short .ensures .0) (a .level) in
-    let halt = is-ended _ (sym (c .before .before .before .before .before .before .before .before .before .before .before .before .before .before .is-ended .ensures) ∙ not-false _ (c .before .before .before .before .before .before .before .before .before .before .before .before .before .if1 .left)) in
-    let u = (c .before .before .before .before .before .run-item .ensures) in
-    l .inv .0 .ends _ _ (strides-runs-on s n v (a .hand .first .0) (a .hand .count) (a .level) (l .p) (l .next .0) (l .left) (l .at) (l .out) w halt (runs-refused s n v (a .hand .first .0) (a .hand .count) (a .level) (c .before .before .before .before .before .before .before .before .before .before .before .before .before .before .before .before .before .run-short .result .place) (c .before .before .before .before .before .before .before .before .before .before .before .before .before .before .before .before .before .run-short .result .next .0) (c .before .before .before .before .before .before .before .before .before .before .before .before .before .before .before .before .before .run-short .result .left) (c .before .before .before .before .before .before .before .before .before .before .before .before .before .before .before .before .before .run-short .result .at) _ u _ _ (c .enum-told3 .given .1)))
 
 pub +run-block+run-clause+run-conditional+run-item+run-iteration+run-opened+run-passes+run-sequence-spec :
     {M : Type 1} → statement M
@@ -776,19 +696,24 @@ pub +run-block+run-clause+run-conditional+run-item+run-iteration+run-opened+run-
     μ-run-passes
     μ-run-sequence
     (λ t. run-block-lts.spec (
+      spot-at-reads.Asked,
+      spot-at-reads.Learnt,
       refuse-reads.Asked,
       refuse-reads.Learnt,
+      begin-reads.Asked,
+      begin-reads.Learnt,
       run-opened-below t,
       run-opened.Post,
     )
     (run-block-at t)
     run-block.Post
+    (run-block-spot-at-requires t)
     (run-block-refuse-requires t)
     (run-block-returns t)
     (run-block-refuse-requires-2 t)
     (run-block-returns-2 t)
+    (run-block-begin-requires t)
     (run-block-sub-run-opened t)
-    (run-block-sub-run-opened-2 t)
     (run-block-run-opened-requires t)
     (run-block-same-length t)
     (run-block-returns-3 t))
@@ -843,6 +768,8 @@ pub +run-block+run-clause+run-conditional+run-item+run-iteration+run-opened+run-
       run-block.Post,
       act-reads.Asked,
       act-reads.Learnt,
+      spot-at-reads.Asked,
+      spot-at-reads.Learnt,
       refuse-reads.Asked,
       refuse-reads.Learnt,
     )
@@ -856,6 +783,7 @@ pub +run-block+run-clause+run-conditional+run-item+run-iteration+run-opened+run-
     (run-item-same-length t)
     (run-item-returns t)
     (run-item-act-requires t)
+    (run-item-spot-at-requires t)
     (run-item-refuse-requires t)
     (run-item-same-length-2 t)
     (run-item-returns-2 t)
@@ -915,14 +843,22 @@ pub +run-block+run-clause+run-conditional+run-item+run-iteration+run-opened+run-
     (run-opened-same-length-2 t)
     (run-opened-returns-4 t))
     (λ t. run-passes-lts.spec (
+      spot-at-reads.Asked,
+      spot-at-reads.Learnt,
       is-over-reads.Asked,
       is-over-reads.Learnt,
-      block-end-reads.Asked,
-      block-end-reads.Learnt,
+      end-block-reads.Asked,
+      end-block-reads.Learnt,
       refuse-reads.Asked,
       refuse-reads.Learnt,
+      begin-reads.Asked,
+      begin-reads.Learnt,
       run-sequence-below t,
       run-sequence.Post,
+      has-ended-reads.Asked,
+      has-ended-reads.Learnt,
+      leave-passes-reads.Asked,
+      leave-passes-reads.Learnt,
       one-less-reads.Asked,
       one-less-reads.Learnt,
     )
@@ -930,40 +866,36 @@ pub +run-block+run-clause+run-conditional+run-item+run-iteration+run-opened+run-
     run-passes.Post
     run-passes-Inv-loop
     run-passes-μ-loop
+    (run-passes-spot-at-requires t)
     (run-passes-loop-holds t)
     (run-passes-is-over-requires t)
-    (run-passes-block-end-requires t)
+    (run-passes-end-block-requires t)
     (run-passes-same-length t)
     (run-passes-returns t)
     (run-passes-refuse-requires t)
     (run-passes-same-length-2 t)
     (run-passes-returns-2 t)
-    (run-passes-sub-run-sequence t)
+    (run-passes-begin-requires t)
     (run-passes-run-sequence-requires t)
-    (run-passes-enum-told t)
-    (run-passes-one-less-requires t)
-    (run-passes-loop-less t)
-    (run-passes-loop-again t)
-    (run-passes-enum-told-2 t)
-    (run-passes-block-end-requires-2 t)
+    (run-passes-has-ended-requires t)
+    (run-passes-leave-passes-requires t)
     (run-passes-same-length-3 t)
     (run-passes-returns-3 t)
-    (run-passes-enum-told-3 t)
-    (run-passes-same-length-4 t)
-    (run-passes-returns-4 t))
+    (run-passes-one-less-requires t)
+    (run-passes-spot-at-requires-2 t)
+    (run-passes-loop-less t)
+    (run-passes-loop-again t))
     λ t. run-sequence-lts.spec (
       run-short-reads.Asked,
       run-short-reads.Learnt,
-      is-ended-reads.Asked,
-      is-ended-reads.Learnt,
-      closes-at-reads.Asked,
-      closes-at-reads.Learnt,
-      item-at-reads.Asked,
-      item-at-reads.Learnt,
+      item-after-reads.Asked,
+      item-after-reads.Learnt,
       ends-here-reads.Asked,
       ends-here-reads.Learnt,
       run-item-below t,
       run-item.Post,
+      has-ended-reads.Asked,
+      has-ended-reads.Learnt,
     )
     (run-sequence-at t)
     run-sequence.Post
@@ -971,23 +903,13 @@ pub +run-block+run-clause+run-conditional+run-item+run-iteration+run-opened+run-
     run-sequence-μ-loop
     (run-sequence-loop-holds t)
     (run-sequence-run-short-requires t)
-    (run-sequence-is-ended-requires t)
+    (run-sequence-item-after-requires t)
+    (run-sequence-ends-here-requires t)
     (run-sequence-same-length t)
     (run-sequence-returns t)
-    (run-sequence-closes-at-requires t)
+    (run-sequence-run-item-requires t)
+    (run-sequence-has-ended-requires t)
     (run-sequence-same-length-2 t)
     (run-sequence-returns-2 t)
-    (run-sequence-item-at-requires t)
-    (run-sequence-ends-here-requires t)
-    (run-sequence-same-length-3 t)
-    (run-sequence-returns-3 t)
-    (run-sequence-run-item-requires t)
-    (run-sequence-enum-told t)
     (run-sequence-loop-less t)
     (run-sequence-loop-again t)
-    (run-sequence-enum-told-2 t)
-    (run-sequence-same-length-4 t)
-    (run-sequence-returns-4 t)
-    (run-sequence-enum-told-3 t)
-    (run-sequence-same-length-5 t)
-    (run-sequence-returns-5 t)
