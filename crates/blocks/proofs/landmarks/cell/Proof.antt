@@ -7,7 +7,7 @@ use Rattle.blocks.proofs.landmarks.cell.Statement.{statement}
 use Rattle.blocks.proofs.landmarks.cell.Tie as tie
 use Rattle.blocks.proofs.landmarks.cell.Reads as reads
 use Rattle.blocks.proofs.landmarks.cell.Lts as lts
-use Rattle.working.proofs.widened.Reads as widened-reads
+use Rattle.working.proofs.places.widened.Reads as widened-reads
 
 mul-widened : tie.Need-mul-widened
 mul-widened c = search needs

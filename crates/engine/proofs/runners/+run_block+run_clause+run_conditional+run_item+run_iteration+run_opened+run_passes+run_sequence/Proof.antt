@@ -77,7 +77,7 @@ use Rattle.acting.proofs.state.refuse.Reads as refuse-reads
 use Rattle.reader.proofs.directive.item_at.Reads as item-at-reads
 use Rattle.reader.proofs.marks.closes_at.Reads as closes-at-reads
 use Rattle.fitting.proofs.places.is_well_written.Reads as is-well-written-reads
-use Rattle.working.proofs.settle_directive.Reads as settle-directive-reads
+use Rattle.working.proofs.settling.settle_directive.Reads as settle-directive-reads
 use Rattle.engine.proofs.runners.+run_block+run_clause+run_conditional+run_item+run_iteration+run_opened+run_passes+run_sequence.{
   statement,
 }
