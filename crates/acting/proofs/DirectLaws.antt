@@ -27,7 +27,7 @@ use Rattle.rules.proofs.ShortTexts.{object-text, decimal-text, repeat-text}
 use Rattle.pieces.specs.Bytes.{part}
 use Rattle.pieces.specs.Given.{StringIn, Reachable}
 use Rattle.working.specs.Settling.{handAt}
-use Rattle.working.specs.declared.Hand.{Hand}
+use Rattle.working.specs.declared.arguments.Hand.{Hand}
 use Rattle.acting.specs.declared.state.Ran.{Ran}
 use Rattle.acting.specs.declared.state.Spot.{Spot}
 use Rattle.acting.specs.Acting.{Performed}

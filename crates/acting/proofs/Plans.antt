@@ -16,9 +16,9 @@ use Rattle.rules.specs.declared.Form.{Form}
 use Rattle.rules.specs.declared.Settings.{Settings}
 use Rattle.pieces.specs.Given.{Worked, Reachable}
 use Rattle.working.specs.Settling.{SettlesDirective, handAt}
-use Rattle.working.specs.declared.Hand.{Hand}
-use Rattle.working.specs.declared.SettledOut.{SettledOut}
-use Rattle.working.specs.declared.SettledOut.the-variants.{Is as settledIs, Wrong as settledWrong}
+use Rattle.working.specs.declared.arguments.Hand.{Hand}
+use Rattle.working.specs.declared.settling.SettledOut.{SettledOut}
+use Rattle.working.specs.declared.settling.SettledOut.the-variants.{Is as settledIs, Wrong as settledWrong}
 use Rattle.working.proofs.Answers.{run-settled, run-refused}
 use Rattle.acting.specs.declared.planning.Planned.{Planned}
 use Rattle.acting.specs.declared.planning.Planned.the-variants.{Shows, Wrong}

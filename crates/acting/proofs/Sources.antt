@@ -21,7 +21,7 @@ use Rattle.rules.specs.declared.Settings.{Settings}
 use Rattle.rules.proofs.AnswerLaws.{text-fits, text-short}
 use Rattle.pieces.specs.Given.{Allowed, EachAllowed, Worked, StringIn, Reachable}
 use Rattle.working.specs.Settling.{InPlace, InRange, handAt}
-use Rattle.working.specs.declared.Hand.{Hand}
+use Rattle.working.specs.declared.arguments.Hand.{Hand}
 use Rattle.acting.specs.declared.planning.Source.{Source}
 use Rattle.acting.specs.declared.planning.Source.the-variants.{Own, Back, Given}
 use Rattle.acting.specs.declared.planning.Taken.{Taken}

@@ -16,7 +16,7 @@ use Rattle.rules.specs.declared.Setting.the-variants.{Absent, Is}
 use Rattle.rules.specs.declared.Settings.{Settings}
 use Rattle.pieces.specs.Given.{Worked, Reachable}
 use Rattle.working.specs.Settling.{handAt}
-use Rattle.working.specs.declared.Hand.{Hand}
+use Rattle.working.specs.declared.arguments.Hand.{Hand}
 use Rattle.acting.specs.declared.planning.Planned.{Planned}
 use Rattle.acting.specs.declared.planning.Planned.the-variants.{Shows, Wrong}
 use Rattle.acting.specs.declared.planning.Source.{Source as TakenFrom}

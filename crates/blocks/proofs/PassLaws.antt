@@ -15,7 +15,7 @@ use Rattle.rules.specs.declared.Settings.{Settings}
 use Rattle.rules.proofs.RunLaws.{choose-yes, choose-no}
 use Rattle.rules.proofs.Tests.{not-both-ways}
 use Rattle.working.specs.Settling.{InHand, handAt}
-use Rattle.working.specs.declared.Hand.{Hand}
+use Rattle.working.specs.declared.arguments.Hand.{Hand}
 use Rattle.blocks.specs.declared.passes.Over.{Over}
 use Rattle.blocks.specs.declared.passes.Over.the-variants.{Is as OverIs, Wrong as OverWrong}
 use Rattle.blocks.specs.Parts.{isListValue, GoesOver}

@@ -12,7 +12,7 @@ use Rattle.rules.specs.declared.ArgumentPosition.{ArgumentPosition}
 use Rattle.rules.specs.declared.Directive.{Directive}
 use Rattle.rules.specs.declared.Settings.{Settings}
 use Rattle.working.specs.Settling.{handAt}
-use Rattle.working.specs.declared.Hand.{Hand}
+use Rattle.working.specs.declared.arguments.Hand.{Hand}
 use Rattle.blocks.specs.declared.wanting.Wanted.{Wanted}
 use Rattle.blocks.specs.declared.wanting.Wanted.the-variants.{Clause, Nothing as wantsNothing, Wrong as wantsWrong}
 use Rattle.blocks.specs.declared.clauses.Found.{Found}

@@ -17,7 +17,7 @@ use Rattle.rules.specs.declared.Item.the-variants.{End, Literal, Written, BadNu
 use Rattle.rules.specs.declared.Setting.{Setting}
 use Rattle.rules.specs.declared.Settings.{Settings}
 use Rattle.working.specs.Settling.{InHand, handAt}
-use Rattle.working.specs.declared.Hand.{Hand}
+use Rattle.working.specs.declared.arguments.Hand.{Hand}
 use Rattle.blocks.specs.declared.passes.Over.{Over}
 use Rattle.blocks.specs.declared.passes.Over.the-variants.{Is as OverIs, Wrong as OverWrong}
 use Rattle.blocks.specs.declared.passes.Listed.{Listed}

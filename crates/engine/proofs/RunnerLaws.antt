@@ -24,7 +24,7 @@ use Rattle.rules.proofs.Item as item-declared
 use Rattle.rules.proofs.TextLaws.{next-inside, stands}
 use Rattle.checking.specs.Ends.{AfterBlock}
 use Rattle.working.specs.Settling.{InHand, handAt}
-use Rattle.working.specs.declared.Hand.{Hand}
+use Rattle.working.specs.declared.arguments.Hand.{Hand}
 use Rattle.acting.specs.declared.state.Ran.{Ran}
 use Rattle.acting.specs.declared.state.Spot.{Spot}
 use Rattle.acting.specs.declared.state.Stop.{Stop}

@@ -23,7 +23,7 @@ use Rattle.rules.specs.declared.Settings.{Settings}
 use Rattle.reader.specs.Shorts.{settingOf, shortForm, shortAt}
 use Rattle.reader.specs.declared.short.Short.the-variants.{Other}
 use Rattle.working.specs.Settling.{handAt}
-use Rattle.working.specs.declared.Hand.{Hand}
+use Rattle.working.specs.declared.arguments.Hand.{Hand}
 use Rattle.acting.specs.Acting.{Performed}
 use Rattle.acting.specs.Ran.{endedRan, hand}
 use Rattle.running.specs.Runs.{Strides}

@@ -10,9 +10,9 @@ use Rattle.rules.specs.declared.ArgumentPosition.{ArgumentPosition}
 use Rattle.rules.specs.declared.Directive.{Directive}
 use Rattle.rules.specs.declared.Settings.{Settings}
 use Rattle.working.specs.Settling.{handAt, onSettledOut, SettlesDirective}
-use Rattle.working.specs.declared.Hand.{Hand}
-use Rattle.working.specs.declared.SettledOut.{SettledOut}
-use Rattle.working.specs.declared.SettledOut.the-variants.{Is as settledIs, Wrong as settledWrong}
+use Rattle.working.specs.declared.arguments.Hand.{Hand}
+use Rattle.working.specs.declared.settling.SettledOut.{SettledOut}
+use Rattle.working.specs.declared.settling.SettledOut.the-variants.{Is as settledIs, Wrong as settledWrong}
 
 module _ {t : List ℕ} {hand : Hand} {d : Directive} {n : ℕ} {r : SettledOut} (h : SettlesDirective t hand d n r) where
   pub next-reaches : {s : Settings} {next : ArgumentPosition} → r ≡ settledIs s next → next .0 ≤ hand .count

@@ -13,9 +13,9 @@ use Rattle.rules.specs.declared.Setting.{Setting}
 use Rattle.rules.specs.declared.Setting.the-variants.{Is}
 use Rattle.rules.specs.declared.Settings.{Settings}
 use Rattle.working.specs.Settling.{InPlace, InRange, placesIn, SettlesDirective}
-use Rattle.working.specs.declared.Hand.{Hand}
-use Rattle.working.specs.declared.SettledOut.{SettledOut}
-use Rattle.working.specs.declared.SettledOut.the-variants.{Is as settledIs}
+use Rattle.working.specs.declared.arguments.Hand.{Hand}
+use Rattle.working.specs.declared.settling.SettledOut.{SettledOut}
+use Rattle.working.specs.declared.settling.SettledOut.the-variants.{Is as settledIs}
 
 -- what lies in a place and is not absent
 pub number-in : (least most : ℕ) {s : Setting} {n : ℕ} → s ≡ Is n → InPlace (number least most) s → (least ≤ n) × (n ≤ most)

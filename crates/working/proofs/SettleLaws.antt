@@ -21,11 +21,11 @@ use Rattle.rules.specs.declared.Setting.the-variants.{Absent}
 use Rattle.rules.proofs.Tests.{both-true}
 use Rattle.working.proofs.WorkLaws.{work-written}
 use Rattle.working.specs.Settling.{handAt, InPlace, Works, isWritten, allWritten, WrittenAs, noneSettled, Settles, SettlesLast, SettlesWritten, placesIn, SettlesDirective}
-use Rattle.working.specs.declared.Hand.{Hand}
-use Rattle.working.specs.declared.WorkedOut.{WorkedOut}
-use Rattle.working.specs.declared.WorkedOut.the-variants.{Is as workedIs, Wrong as workedWrong}
-use Rattle.working.specs.declared.SettledOut.{SettledOut}
-use Rattle.working.specs.declared.SettledOut.the-variants.{Is as settledIs, Wrong as settledWrong}
+use Rattle.working.specs.declared.arguments.Hand.{Hand}
+use Rattle.working.specs.declared.places.WorkedOut.{WorkedOut}
+use Rattle.working.specs.declared.places.WorkedOut.the-variants.{Is as workedIs, Wrong as workedWrong}
+use Rattle.working.specs.declared.settling.SettledOut.{SettledOut}
+use Rattle.working.specs.declared.settling.SettledOut.the-variants.{Is as settledIs, Wrong as settledWrong}
 
 -- working out goes by where the arguments in hand begin and how many there are, and by no other number of the context
 anywhere : (v : View) (hand : Hand) (i : ℕ) (y : Place) (x : Parameter) (n : ℕ) → workOut v (handAt hand i) y x n ≡ workOut v (handAt hand 0) y x n

@@ -27,9 +27,9 @@ use Rattle.rules.proofs.Parameter.{the-type as parameter-type}
 use Rattle.rules.proofs.Tests.{both-true, not-both-ways}
 use Rattle.rules.proofs.TableLaws.{accepted-sound}
 use Rattle.working.specs.Settling.{handAt, InHand, InPlace, workedAs, Reaches, Lies, Works, isWritten, WrittenAs}
-use Rattle.working.specs.declared.Hand.{Hand}
-use Rattle.working.specs.declared.WorkedOut.{WorkedOut}
-use Rattle.working.specs.declared.WorkedOut.the-variants.{Is as workedIs, Wrong as workedWrong}
+use Rattle.working.specs.declared.arguments.Hand.{Hand}
+use Rattle.working.specs.declared.places.WorkedOut.{WorkedOut}
+use Rattle.working.specs.declared.places.WorkedOut.the-variants.{Is as workedIs, Wrong as workedWrong}
 
 -- no more arguments are in hand than a table can have entries
 pub hand-small : {t : List ℕ} {hand : Hand} → InHand t hand → hand .first .0 + hand .count ≤ 1024

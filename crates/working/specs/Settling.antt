@@ -19,13 +19,13 @@ use Rattle.rules.specs.declared.Setting.{Setting}
 use Rattle.rules.specs.declared.Setting.the-variants.{Absent, Is}
 use Rattle.rules.specs.declared.Settings.{Settings}
 use Rattle.rules.specs.declared.Verdict.the-variants.{Accepted}
-use Rattle.working.specs.declared.Hand.{Hand}
-use Rattle.working.specs.declared.Slot.{Slot}
-use Rattle.working.specs.declared.Slot.the-variants.{AnyNumber, CountingNumber, CharacterNumber, Character}
-use Rattle.working.specs.declared.WorkedOut.{WorkedOut}
-use Rattle.working.specs.declared.WorkedOut.the-variants.{Is as workedIs, Wrong as workedWrong}
-use Rattle.working.specs.declared.SettledOut.{SettledOut}
-use Rattle.working.specs.declared.SettledOut.the-variants.{Is as settledIs, Wrong as settledWrong}
+use Rattle.working.specs.declared.arguments.Hand.{Hand}
+use Rattle.working.specs.declared.places.Slot.{Slot}
+use Rattle.working.specs.declared.places.Slot.the-variants.{AnyNumber, CountingNumber, CharacterNumber, Character}
+use Rattle.working.specs.declared.places.WorkedOut.{WorkedOut}
+use Rattle.working.specs.declared.places.WorkedOut.the-variants.{Is as workedIs, Wrong as workedWrong}
+use Rattle.working.specs.declared.settling.SettledOut.{SettledOut}
+use Rattle.working.specs.declared.settling.SettledOut.the-variants.{Is as settledIs, Wrong as settledWrong}
 
 -- the arguments in hand, with the number of the next one
 abbrev pub handAt : Hand → ℕ → Context

@@ -74,7 +74,7 @@ use Rattle.fitting.proofs.places.is_well_written.Reads as is-well-written-reads
 use Rattle.stepping.proofs.items.act.Reads as act-reads
 use Rattle.stepping.proofs.items.put_literal.Reads as put-literal-reads
 use Rattle.stepping.proofs.short.run_short.Reads as run-short-reads
-use Rattle.working.proofs.settle_directive.Reads as settle-directive-reads
+use Rattle.working.proofs.settling.settle_directive.Reads as settle-directive-reads
 use Rattle.engine.proofs.runners.+run_block+run_clause+run_conditional+run_item+run_iteration+run_opened+run_passes+run_sequence.{
   statement,
 }
