@@ -5,6 +5,10 @@ use crate::SEED;
 use random::Random;
 use reference::Value;
 
+/// The longest format that is run without landmarks, and a little less than what lies between two of them.
+const UNMARKED: usize = 208;
+const NEAR: usize = 76;
+
 pub const ONE: &[Value] = &[Value::Int(1)];
 const ZERO: &[Value] = &[Value::Int(0)];
 const NO: &[Value] = &[Value::Bool(false)];
@@ -172,7 +176,7 @@ fn many_blocks(slowest: &mut Slowest) {
 
 /// The same clause in formats of other lengths.
 fn lengths(slowest: &mut Slowest) {
-    for most in [250, 256, 262, 506, 512, 518, 1_018, 1_024, 1_030, 2_048] {
+    for most in [202, 208, 214, 256, 512, 1_024, 2_048] {
         let (name, format) = filled(most, "~@{~0[~;", "~a", "~]~}");
         slowest.format(&format!("{name}, {most} bytes"), &format, ONE);
     }
@@ -194,10 +198,10 @@ fn unmarked(slowest: &mut Slowest) {
         "~[~]",
         "~0{x~}",
     ] {
-        let (name, format) = filled(256, "~@{~0[~;", unit, "~]~}");
-        slowest.format(&format!("{name}, 256 bytes"), &format, ONE);
+        let (name, format) = filled(UNMARKED, "~@{~0[~;", unit, "~]~}");
+        slowest.format(&format!("{name}, {UNMARKED} bytes"), &format, ONE);
         let clause = format!("~;{unit}");
-        let half = clause.repeat(92 / clause.len());
+        let half = clause.repeat(NEAR / clause.len());
         let chosen = half.len() / clause.len() + 1;
         let block = format!("~{chosen}[{half}~;{half}~]");
         let times = 4_000 / block.len();

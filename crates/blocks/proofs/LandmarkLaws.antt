@@ -264,10 +264,10 @@ pub record Marking (t m₀ m : List ℕ) (k : ℕ) (l : Landmark) : Type 0 where
   pub size : length m ≡ length m₀
   pub sound : Landmarks t m
   pub here : Sound t l
-  pub few : k ≤ 342
+  pub few : k ≤ 410
   pub counts : l .number ≤ l .place
 
-pub marking-first : (t m : List ℕ) (start k : ℕ) → start ≤ length t → Landmarks t m → k ≤ 342
+pub marking-first : (t m : List ℕ) (start k : ℕ) → start ≤ length t → Landmarks t m → k ≤ 410
     → Marking t m m k (record { inside = start; number = 0; place = start; colon = false; after = 0 })
 marking-first t m start k h s f = record { size = refl; sound = s; here = stands-first t start h; few = f; counts = omega arith }
 
@@ -287,7 +287,7 @@ module _ {t m₀ m : List ℕ} {k : ℕ} {l : Landmark} (h : Marking t m₀ m k 
       after = omega arith;
     })
 
-    pub marking-next : {m₂ : List ℕ} {k₂ : ℕ} → Lays l₂ m m₂ → k₂ ≤ 342 → Marking t m₀ m₂ k₂ l₂
+    pub marking-next : {m₂ : List ℕ} {k₂ : ℕ} → Lays l₂ m m₂ → k₂ ≤ 410 → Marking t m₀ m₂ k₂ l₂
     marking-next {m₂} {k₂} u f =
         let s : Sound t l₂ = subst (Sound t) (sym e) (stands-next (h .here) a) in
         record { size = u .size ∙ h .size; sound = u .keeps t (h .sound) s; here = s; few = f; counts = subst (λ (x : Landmark). x .number ≤ x .place) (sym e) grows }

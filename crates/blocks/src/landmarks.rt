@@ -18,16 +18,16 @@ ghost use lib.ListN.{length, getD};
 ghost use Rattle.blocks.specs.Landmarks.{Sound, landmarkAt, Landmarks, Small, leadsTo, Lays, Marks};
 
 // How many landmarks there are room for: one for each FAR bytes of the longest text at each of eight levels.
-const MOST: usize = 342;
+const MOST: usize = 410;
 
 // The numbers of a landmark.
 const PARTS: usize = 5;
 
 // How far a clause, or the end of a block, stands from the landmark before it if it gets one of its own.
-const FAR: usize = 96;
+const FAR: usize = 80;
 
 // The length of an array for landmarks.
-pub const CELLS: usize = 1710;
+pub const CELLS: usize = 2050;
 
 // No place of a text, and above every number of a clause.
 pub const NOWHERE: usize = 65535;
@@ -55,7 +55,7 @@ fn cell(marks: &[u16], i: usize) -> usize
 }
 
 fn landmark_at(marks: &[u16], k: usize) -> Landmark
-    requires { ⌜ k < 342 ⌝ }
+    requires { ⌜ k < 410 ⌝ }
     ensures { λ r. ⌜ r ≡ landmarkAt (now (marks .entry)) k ⌝ }
 {
     let i = k * PARTS;
@@ -70,7 +70,7 @@ fn landmark_at(marks: &[u16], k: usize) -> Landmark
 
 // Whether landmark k stands behind clause n of the block whose inside is at start, or in a later block.
 fn is_behind(marks: &[u16], k: usize, start: usize, n: usize) -> bool
-    requires { ⌜ k < 342 ⌝ }
+    requires { ⌜ k < 410 ⌝ }
 {
     let i = k * PARTS;
     let inside = cell(marks, i);
@@ -89,7 +89,7 @@ fn middle(low: usize, high: usize) -> usize
 
 // The last landmark that does not stand behind clause n of the block whose inside is at start, by halves.
 fn last_before(marks: &[u16], start: usize, n: usize) -> usize
-    ensures { λ r. ⌜ r < 342 ⌝ }
+    ensures { λ r. ⌜ r < 410 ⌝ }
 {
     let mut low: usize = 0;
     let mut high: usize = MOST;
@@ -126,7 +126,7 @@ pub fn leads(l: Landmark, start: usize, n: usize, counted: bool) -> bool
 
 // Lays landmark k, if there is room for it.
 fn lay(marks: &mut [u16], k: usize, l: Landmark)
-    requires { ⌜ k < 342 ⌝ }
+    requires { ⌜ k < 410 ⌝ }
     requires { ⌜ Small l ⌝ }
     ensures { λ r. ⌜ Lays l (now (marks .entry)) (now (marks .exit)) ⌝ }
 {
@@ -155,10 +155,10 @@ fn later(from: usize, place: usize) -> usize {
 
 // Lays landmark k if place is far from the landmark before it. Answers which one is to be laid next.
 fn lay_far(marks: &mut [u16], k: usize, from: usize, place: usize, l: Landmark) -> usize
-    requires { ⌜ k ≤ 342 ⌝ }
+    requires { ⌜ k ≤ 410 ⌝ }
     requires { ⌜ Small l ⌝ }
     ensures lays { λ r. ⌜ Lays l (now (marks .entry)) (now (marks .exit)) ⌝ }
-    ensures few { λ r. ⌜ r ≤ 342 ⌝ }
+    ensures few { λ r. ⌜ r ≤ 410 ⌝ }
 {
     if !is_far(from, place) {
         return k;
@@ -202,9 +202,9 @@ fn mark_block(text: &[u8], start: usize, marks: &mut [u16], first: usize) -> usi
     requires { ⌜ start ≤ length (now text) ⌝ }
     requires { ⌜ length (now text) ≤ 4096 ⌝ }
     requires { ⌜ Landmarks (now text) (now marks) ⌝ }
-    requires { ⌜ first ≤ 342 ⌝ }
+    requires { ⌜ first ≤ 410 ⌝ }
     ensures marks { λ r. ⌜ Marks (now (text .entry)) (now (marks .entry)) (now (marks .exit)) ⌝ }
-    ensures few { λ r. ⌜ r ≤ 342 ⌝ }
+    ensures few { λ r. ⌜ r ≤ 410 ⌝ }
 {
     let mut k = first;
     let mut from = start;

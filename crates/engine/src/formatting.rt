@@ -27,7 +27,7 @@ const MOST_STEPS: usize = 65536;
 const DEEPEST: usize = 8;
 
 // How long a text is at most that is run without landmarks in any case.
-const LONG: usize = 256;
+const LONG: usize = 208;
 
 // The answer of a call beside the text: 01's code, the position, the steps done and the bytes written.
 pub struct Outcome {

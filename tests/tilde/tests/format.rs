@@ -57,9 +57,9 @@ fn long_formats() {
         let code = compare(&mut field, &format, &table, VAST);
         tally.add(code);
         whole += usize::from(code == 0);
-        longer += usize::from(format.len() > 256);
+        longer += usize::from(format.len() > 208);
     }
-    println!("{LONG_FORMATS} long formats agree, {longer} of more than 256 bytes:{tally}");
+    println!("{LONG_FORMATS} long formats agree, {longer} of more than 208 bytes:{tally}");
     assert!(whole > LONG_FORMATS / 3, "too few end: {whole}");
     assert!(longer > LONG_FORMATS / 2, "too few are long: {longer}");
 }

@@ -5,7 +5,7 @@ use Rattle.blocks.proofs.landmarks.last_before.Statement.{statement}
 use Rattle.blocks.proofs.landmarks.last_before.Tie as tie
 
 abbrev Inv-loop : tie.InvT-loop
-Inv-loop marks start n low₀ high₀ low high = (low < high) × (high ≤ 342)
+Inv-loop marks start n low₀ high₀ low high = (low < high) × (high ≤ 410)
 
 abbrev μ-loop : tie.MeasureT-loop
 μ-loop marks start n low₀ high₀ low high = high - low

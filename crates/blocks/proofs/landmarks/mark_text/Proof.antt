@@ -10,7 +10,7 @@ use Rattle.blocks.proofs.landmarks.mark_text.Statement.{statement}
 use Rattle.blocks.proofs.landmarks.mark_text.Tie as tie
 
 abbrev Inv-loop : tie.InvT-loop
-Inv-loop text marks₀ p₀ k₀ marks p k = Marks text marks₀ marks × ((p ≤ length text) × (k ≤ 342))
+Inv-loop text marks₀ p₀ k₀ marks p k = Marks text marks₀ marks × ((p ≤ length text) × (k ≤ 410))
 
 abbrev μ-loop : tie.MeasureT-loop
 μ-loop text marks₀ p₀ k₀ marks p k = length text - p

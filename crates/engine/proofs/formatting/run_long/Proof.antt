@@ -11,7 +11,7 @@ slice-aggregate-mark-text : tie.Need-slice-aggregate-mark-text
 slice-aggregate-mark-text c = search needs
 
 mark-text-requires : tie.Need-mark-text-requires
-mark-text-requires c κs = none-laid-in (c .before .before .before .before .args .format .now) 1710 (sound-start (c .before .before .before .before .args .format .now) (c .before .before .before .before .pre .1) .0)
+mark-text-requires c κs = none-laid-in (c .before .before .before .before .args .format .now) 2050 (sound-start (c .before .before .before .before .args .format .now) (c .before .before .before .before .pre .1) .0)
 
 argument-count-requires : tie.Need-argument-count-requires
 argument-count-requires c κs = has-header (c .before .before .before .before .before .before .args .table .now) (c .before .before .before .before .before .before .pre .0)
