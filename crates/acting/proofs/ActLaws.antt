@@ -5,13 +5,12 @@ use mathlib.Core.Bool.{Bool, true, false}
 use mathlib.Core.List.{List}
 use native.Mathlib.Omega.{arith}
 use borrow.Author.Tests.{lt-ltb, le-ltb, le-leb, lt-leb, eq-eqb, ne-eqb}
-use lib.Dec.{ltb}
 use lib.ListN.{length}
 use Rattle.rules.specs.Directive.{wellWritten, placesOf, inOrder, either}
 use Rattle.rules.specs.Table.{View, Value}
 use Rattle.rules.specs.Piece.{orElse, textOf, kindOf, accepts}
 use Rattle.rules.specs.Working.{Context, argumentIn, settle, Source, own, back, given, sourceOf}
-use Rattle.rules.specs.Run.{Flow, refused, put, choose, onSettled, withSettings, withArgument, write, writeFrom, jumpTo, jump, directiveActs, itemActs}
+use Rattle.rules.specs.Run.{Flow, refused, put, onSettled, withSettings, withArgument, write, writeFrom, jumpTo, jump, directiveActs, itemActs}
 use Rattle.rules.specs.declared.Code.{Code}
 use Rattle.rules.specs.declared.Code.the-variants.{Writes, Jump}
 use Rattle.rules.specs.declared.Directive.{Directive}
@@ -22,7 +21,7 @@ use Rattle.rules.proofs.RunLaws.{choose-yes, choose-no}
 use Rattle.acting.specs.declared.state.Ran.{Ran}
 use Rattle.acting.specs.declared.state.Spot.{Spot}
 use Rattle.acting.specs.Acting.{Performed}
-use Rattle.acting.specs.Ran.{refusedRan, endedRan, Same, Does, Performs, hand, Acts}
+use Rattle.acting.specs.Ran.{refusedRan, endedRan, Performs, hand}
 use Rattle.acting.proofs.Joining.{stays, here, said, from}
 use Rattle.acting.proofs.Buffer.{Put, put-fits, put-full}
 

@@ -5,8 +5,8 @@ use mathlib.Core.List.{List, [], _∷_, _++_, append-nil, append-assoc}
 use native.Mathlib.Numerals.{add-one}
 use native.Mathlib.Omega.{arith}
 use borrow.Author.Tests.{le-leb, lt-leb}
-use lib.ListN.{length, take, drop, set, replicate, length-append, length-take, length-drop, length-set, length-replicate}
-use lib.Seq.{drop-drop, length-take-le, take-suc-set, drop-set-lt, take-at, drop-at, take-all, take-append-le}
+use lib.ListN.{length, take, drop, set, replicate, length-append, length-drop, length-set, length-replicate}
+use lib.Seq.{drop-drop, length-take-le, take-suc-set, drop-set-lt, take-at, drop-at, take-all}
 use borrow.Rule.Slice.PartMut.{putMid}
 use Rattle.rules.specs.Run.{Flow, put, refused}
 use Rattle.rules.specs.Answer.{fit}

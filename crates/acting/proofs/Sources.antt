@@ -3,7 +3,6 @@ use Prim.Native.Nat.{ℕ, _+_, _-_, _≤_, _<_}
 use mathlib.Core.Path.{_≡_, refl, sym, ap, subst, _∙_}
 use mathlib.Core.List.{List, [], _∷_}
 use native.Mathlib.Omega.{arith}
-use lib.ListN.{length}
 use Rattle.rules.specs.Directive.{FormRight, Place, number, character, anyNumber, countingNumber, formPlaces}
 use Rattle.rules.specs.Table.{Value, Holds, meant, viewOf}
 use Rattle.rules.specs.Piece.{orElse}
@@ -19,7 +18,7 @@ use Rattle.rules.specs.declared.Setting.{Setting}
 use Rattle.rules.specs.declared.Setting.the-variants.{Absent, Is}
 use Rattle.rules.specs.declared.Settings.{Settings}
 use Rattle.rules.proofs.AnswerLaws.{text-fits, text-short}
-use Rattle.pieces.specs.Given.{Allowed, EachAllowed, Worked, StringIn, Reachable}
+use Rattle.pieces.specs.Given.{Allowed, EachAllowed, Worked, Reachable}
 use Rattle.working.specs.Settling.{InPlace, InRange, handAt}
 use Rattle.working.specs.declared.arguments.Hand.{Hand}
 use Rattle.acting.specs.declared.planning.Source.{Source}

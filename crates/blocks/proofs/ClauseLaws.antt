@@ -27,7 +27,7 @@ use Rattle.blocks.specs.declared.wanting.Wanted.the-variants.{Clause, No
 use Rattle.blocks.specs.declared.clauses.Found.{Found}
 use Rattle.blocks.specs.declared.clauses.Found.the-variants.{At as foundAt, Nothing as foundNothing}
 use Rattle.blocks.specs.declared.clauses.Chosen.{Chosen}
-use Rattle.blocks.specs.declared.clauses.Chosen.the-variants.{At, Nothing, Wrong}
+use Rattle.blocks.specs.declared.clauses.Chosen.the-variants.{Nothing, Wrong}
 use Rattle.blocks.specs.Clauses.{wantedOf, InsideAt, FoundAt, Finds, Seeking, followedBy, pickTwo, pickOne, pickOwn, Wants, Picks}
 
 -- the next clause stands in the same block

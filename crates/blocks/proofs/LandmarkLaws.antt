@@ -17,7 +17,7 @@ use Rattle.rules.proofs.Tests.{not-both-ways}
 use Rattle.checking.specs.Ends.{AfterBlock, LastClause, AnotherClause}
 use Rattle.blocks.specs.declared.landmarks.Landmark.{Landmark}
 use Rattle.blocks.specs.Clauses.{wantedOf, InsideAt, Seeking}
-use Rattle.blocks.specs.Landmarks.{EndsLast, StandsAt, Sound, cellAt, landmarkFrom, landmarkAt, Landmarks, Small, leadsTo, Lays, Marks}
+use Rattle.blocks.specs.Landmarks.{StandsAt, Sound, cellAt, landmarkAt, Landmarks, Small, leadsTo, Lays, Marks}
 use Rattle.blocks.proofs.ClauseLaws.{wanted-next, inside-on}
 
 -- 1. The clauses of a block, one after another.

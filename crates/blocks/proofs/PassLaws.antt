@@ -3,7 +3,6 @@ use Prim.Native.Nat.{ℕ, _+_, _≤_, _<_}
 use mathlib.Core.Path.{_≡_, refl, sym, ap, _∙_}
 use mathlib.Core.Bool.{Bool, true, false}
 use mathlib.Core.List.{List}
-use native.Mathlib.Omega.{arith}
 use borrow.Author.Tests.{lt-ltb, le-ltb}
 use Rattle.rules.specs.Table.{View, Value, boolean, integer, character, string, list, viewOf}
 use Rattle.rules.specs.Text.{Sequence}
@@ -16,7 +15,6 @@ use Rattle.rules.proofs.RunLaws.{choose-yes, choose-no}
 use Rattle.rules.proofs.Tests.{not-both-ways}
 use Rattle.working.specs.Settling.{InHand, handAt}
 use Rattle.working.specs.declared.arguments.Hand.{Hand}
-use Rattle.blocks.specs.declared.passes.Over.{Over}
 use Rattle.blocks.specs.declared.passes.Over.the-variants.{Is as OverIs, Wrong as OverWrong}
 use Rattle.blocks.specs.Parts.{isListValue, GoesOver}
 

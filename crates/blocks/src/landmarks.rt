@@ -6,14 +6,11 @@ use checking::ends::ClauseEnd;
 use checking::ends::Shape;
 use checking::ends::next_clause;
 use checking::ends::shape_at;
-use fitting::places::both;
 use reader::short::skip_short;
 use working::widened;
 ghost use mathlib.Core.Path.{_≡_};
-ghost use mathlib.Core.Bool.{true};
 ghost use mathlib.Core.List.{List};
 ghost use Prim.Native.Nat.{ℕ, _+_, _≤_, _<_};
-ghost use lib.Dec.{eqb, leb};
 ghost use lib.ListN.{length, getD};
 ghost use Rattle.blocks.specs.Landmarks.{Sound, landmarkAt, Landmarks, Small, leadsTo, Lays, Marks};
 
@@ -148,7 +145,7 @@ fn is_far(from: usize, place: usize) -> bool {
     FAR <= place - from
 }
 
-// The landmark that comes next after from, if place is far from it.
+// Where the last landmark stands once the clause at place is met, if the one before stands at from.
 fn later(from: usize, place: usize) -> usize {
     if is_far(from, place) { place } else { from }
 }

@@ -1,15 +1,14 @@
 -- A whole call: what its checks refuse, and what its run writes. Assumes nothing.
 use Prim.Native.Nat.{ℕ, _-_, _≤_}
 use mathlib.Core.Path.{_≡_, refl, sym, ap, subst, _∙_}
-use mathlib.Core.List.{List, [], _∷_, _++_}
+use mathlib.Core.List.{List, [], _++_}
 use native.Mathlib.Omega.{arith}
 use lib.ListN.{length, take, drop, take-append-drop}
 use lib.Seq.{length-take-le}
 use Rattle.rules.specs.Table.{View, viewOf, tableVerdict, argumentCount}
 use Rattle.rules.specs.Text.{end, levelsAt, sequenceOf, textVerdict}
-use Rattle.rules.specs.Working.{Context}
-use Rattle.rules.specs.Run.{Flow, done, refused, run}
-use Rattle.rules.specs.Answer.{Answer, limit, ended, refusedAt, fit, flowOf, unlessRefused, answerOf, Answers}
+use Rattle.rules.specs.Run.{refused, run}
+use Rattle.rules.specs.Answer.{Answer, limit, fit, flowOf, unlessRefused, answerOf, Answers}
 use Rattle.rules.specs.declared.Verdict.{Verdict}
 use Rattle.rules.specs.declared.Verdict.the-variants.{Accepted, Refused}
 use Rattle.rules.proofs.RunLaws.{run-done}
@@ -21,7 +20,7 @@ use Rattle.acting.specs.declared.state.Stop.{Stop}
 use Rattle.acting.specs.declared.state.Stop.the-variants.{Ended, Left, Refused as RefusedAt}
 use Rattle.acting.specs.Ran.{hand, onward}
 use Rattle.engine.specs.declared.formatting.Outcome.{Outcome}
-use Rattle.running.specs.Runs.{leaving, restAt, Runs}
+use Rattle.running.specs.Runs.{leaving, Runs}
 use Rattle.engine.specs.Whole.{codeOf, positionOf, outcomeOf}
 
 -- the answer of a call whose table and text are accepted

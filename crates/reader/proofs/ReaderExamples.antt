@@ -1,7 +1,6 @@
 -- Short directives and marks of some texts, by their definitions. Assumes nothing.
-use Prim.Native.Nat.{ℕ}
 use mathlib.Core.Path.{_≡_, refl}
-use mathlib.Core.List.{List, [], _∷_}
+use mathlib.Core.List.{[], _∷_}
 use Rattle.rules.specs.Directive.{codeNamed}
 use Rattle.reader.specs.Marks.{markOf, markAt}
 use Rattle.reader.specs.Scans.{numberFrom}

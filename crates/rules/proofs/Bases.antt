@@ -1,6 +1,6 @@
 -- What is read from a text: nothing that is read is its end, and the base of a numeral that is read is 2 to 36. Assumes
 -- nothing.
-use Prim.Native.Nat.{ℕ, suc, _+_, _≤_}
+use Prim.Native.Nat.{ℕ, suc, _+_}
 use mathlib.Core.Path.{_≡_, subst}
 use mathlib.Core.Bool.{Bool, true, false, cond, not}
 use mathlib.Core.List.{List, [], _∷_}
@@ -8,7 +8,7 @@ use native.Mathlib.Omega.{arith}
 use lib.Dec.{leb, eqb}
 use lib.ListN.{drop}
 use Rattle.rules.specs.Choice.{both}
-use Rattle.rules.specs.Directive.{lowerCase, codeNamed, FormRight, CodeRight, Reading, start, signed, digits, quote, whole, modifiers, blank, having, closed, Step, goes, bad, ends, modifierStep, afterStep, isDigit, oneMore, digitStep, startStep, step, skipped, going, cutShort, onStep, scan, itemOf, itemAt}
+use Rattle.rules.specs.Directive.{lowerCase, codeNamed, CodeRight, Reading, start, signed, digits, quote, whole, modifiers, blank, having, closed, Step, goes, bad, ends, modifierStep, afterStep, isDigit, oneMore, digitStep, startStep, step, skipped, going, cutShort, onStep, scan, itemOf, itemAt}
 use Rattle.rules.specs.declared.Code.{Code}
 use Rattle.rules.specs.declared.Directive.{Directive}
 use Rattle.rules.specs.declared.Item.{Item}

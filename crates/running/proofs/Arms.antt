@@ -1,26 +1,24 @@
 -- What each arm of the runner of a sequence makes of what stands at its place. Assumes nothing.
-use Prim.Native.Nat.{ℕ, zero, suc, _+_, _-_, _<_, _≤_}
-use mathlib.Core.Path.{_≡_, refl, sym, ap, _∙_, subst}
-use mathlib.Core.Bool.{true, false}
+use Prim.Native.Nat.{ℕ, _+_, _-_, _<_, _≤_}
+use mathlib.Core.Path.{_≡_, refl, sym, ap, _∙_}
 use mathlib.Core.List.{List, [], _∷_}
 use native.Mathlib.Omega.{arith}
 use borrow.Author.Tests.{le-leb, lt-leb}
-use lib.ListN.{length, take, drop, set, length-set}
+use lib.ListN.{length, set}
 use Rattle.rules.specs.Table.{View}
-use Rattle.rules.specs.Text.{Sequence, end, acts, Level, innermost, outer, deepest}
-use Rattle.rules.specs.Working.{Context, noneRemain}
-use Rattle.rules.specs.Run.{Flow, refused, put, begin, choose, Frame, itemActs, leave, nested, run}
-use Rattle.rules.specs.Answer.{fit}
+use Rattle.rules.specs.Text.{Sequence, end, Level, innermost, outer, deepest}
+use Rattle.rules.specs.Working.{noneRemain}
+use Rattle.rules.specs.Run.{Flow, refused, begin, choose, Frame, itemActs, nested, run}
 use Rattle.rules.specs.declared.Item.{Item}
 use Rattle.rules.specs.declared.Item.the-variants.{Literal}
 use Rattle.rules.proofs.RunLaws.{begin-yes, begin-no, choose-yes, choose-no, run-acts, run-escapes, nested-yes, nested-no}
 use Rattle.acting.specs.declared.state.Stop.{Stop}
 use Rattle.acting.specs.declared.state.Stop.the-variants.{Ended, Left, Refused}
 use Rattle.acting.specs.declared.state.Ran.{Ran}
-use Rattle.acting.specs.Ran.{refusedRan, onward, Same, Does, hand, Acts}
+use Rattle.acting.specs.Ran.{refusedRan, hand, Acts}
 use Rattle.acting.proofs.Joining.{stays, here, said, from}
-use Rattle.acting.proofs.Buffer.{Put, put-byte, put-fits, put-full}
-use Rattle.running.specs.Runs.{ActsAt, EscapesAt, EndsAt, After, restAt, leaving, RunsTo, Runs, Steps, Blocks}
+use Rattle.acting.proofs.Buffer.{put-byte, put-fits, put-full}
+use Rattle.running.specs.Runs.{ActsAt, EscapesAt, restAt, leaving, Runs, Steps, Blocks}
 
 pub no-end : {o : Stop} {code x : ℕ} → o ≡ Refused code x → o ≡ Ended → ⊥
 no-end q r = let z : _≡_ {A = ℕ} 0 1 = cc in omega arith

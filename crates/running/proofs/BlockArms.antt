@@ -1,5 +1,5 @@
 -- What the runners of blocks make of a conditional, of an iteration and of its passes. Assumes nothing.
-use Prim.Native.Nat.{ℕ, suc, _+_, _-_, _<_, _≤_}
+use Prim.Native.Nat.{ℕ, _+_, _-_, _≤_}
 use mathlib.Core.Path.{_≡_, refl, sym, ap, _∙_}
 use mathlib.Core.Bool.{true, false}
 use mathlib.Core.List.{List, _∷_}
@@ -9,14 +9,14 @@ use Rattle.rules.specs.Directive.{either}
 use Rattle.rules.specs.Table.{View}
 use Rattle.rules.specs.Text.{Sequence, end, Level, innermost, outer, asClauses, deepest}
 use Rattle.rules.specs.Working.{Context, noneRemain}
-use Rattle.rules.specs.Run.{Flow, refused, begin, nested, Frame, iteration, conditional, Outside, sameArguments, other, afterwards, usedUp, oneLess, leave, run}
+use Rattle.rules.specs.Run.{Flow, refused, begin, nested, Frame, iteration, conditional, Outside, sameArguments, other, afterwards, usedUp, oneLess, run}
 use Rattle.rules.specs.declared.Directive.{Directive}
 use Rattle.rules.specs.declared.Setting.{Setting}
 use Rattle.rules.proofs.RunLaws.{begin-yes, begin-no, run-clause-end, run-passes-over, run-pass, run-chooses, run-iterates}
 use Rattle.acting.specs.declared.state.Stop.{Stop}
 use Rattle.acting.specs.declared.state.Stop.the-variants.{Ended, Left, Refused}
 use Rattle.acting.specs.declared.state.Ran.{Ran}
-use Rattle.acting.specs.Ran.{refusedRan, onward, Same, Does, hand}
+use Rattle.acting.specs.Ran.{refusedRan, onward, Same, hand}
 use Rattle.acting.proofs.Joining.{stays, here, joined, said, from, then-on, renamed, onward-ended, onward-left, onward-refused}
 use Rattle.running.specs.Runs.{ChoosesAt, IteratesAt, After, restAt, leaving, Runs, Blocks, Passes, opening}
 use Rattle.running.proofs.Arms.{no-end, no-end-left}

@@ -7,7 +7,7 @@ use lib.ListN.{length}
 use Rattle.rules.specs.Table.{View}
 use Rattle.rules.specs.Text.{Sequence, end, acts, escapes, iterates, chooses, Level, innermost, outer, before, asClauses, deepest}
 use Rattle.rules.specs.Working.{Context}
-use Rattle.rules.specs.Run.{Flow, Frame, iteration, conditional, Outside, other, afterwards, withSettings, withArgument, overList, pick, enter, leave, run}
+use Rattle.rules.specs.Run.{Flow, Frame, iteration, conditional, Outside, other, afterwards, withSettings, pick, enter, leave, run}
 use Rattle.rules.specs.declared.Code.{Code}
 use Rattle.rules.specs.declared.Code.the-variants.{Writes, Jump, Escape, Opens, Separator, Closes, Unknown}
 use Rattle.rules.specs.declared.Directive.{Directive}

@@ -5,11 +5,8 @@ use Rattle.working.proofs.Ranges.{form-in-range}
 use Rattle.working.proofs.Answers.{next-reaches, run-settled, run-refused}
 use Rattle.acting.proofs.Sources.{worked-in}
 use Rattle.working.specs.Settling.{handAt}
-use Rattle.rules.specs.Run.{Flow}
-use Rattle.rules.specs.declared.Code.{Code}
-use Rattle.rules.specs.declared.Form.{Form}
 use Rattle.rules.specs.Table.{viewOf}
-use mathlib.Core.Path.{_≡_, refl, _∙_, ap, sym}
+use mathlib.Core.Path.{refl, _∙_, sym}
 use borrow.Author.Needs.{needs}
 use Rattle.acting.proofs.acting.act_form.Statement.{statement}
 use Rattle.acting.proofs.acting.act_form.Tie as tie

@@ -1,5 +1,4 @@
 -- A jump acts as 01 has it. Assumes nothing.
-use Rattle.rules.specs.Working.{sourceOf}
 use native.Mathlib.Omega.{arith}
 use Rattle.working.proofs.WorkLaws.{hand-small}
 use Rattle.working.proofs.Ranges.{jump-in-range}
@@ -7,11 +6,8 @@ use Rattle.working.proofs.Answers.{next-reaches, run-settled, run-refused}
 use Rattle.acting.proofs.Sources.{numbered}
 use Rattle.acting.proofs.ActLaws.{performed-as, performed-refused, acts-jump, settings-ill}
 use Rattle.working.specs.Settling.{handAt}
-use Rattle.rules.specs.Run.{Flow}
-use Rattle.rules.specs.declared.Code.{Code}
-use Rattle.rules.specs.declared.Form.{Form}
 use Rattle.rules.specs.Table.{viewOf}
-use mathlib.Core.Path.{_≡_, refl, _∙_, ap, sym}
+use mathlib.Core.Path.{_∙_, sym}
 use borrow.Author.Needs.{needs}
 use Rattle.acting.proofs.acting.act_jump.Statement.{statement}
 use Rattle.acting.proofs.acting.act_jump.Tie as tie

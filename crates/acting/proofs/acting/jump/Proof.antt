@@ -2,11 +2,10 @@
 use Rattle.acting.proofs.Sources.{or-else-small}
 use Rattle.acting.proofs.ActLaws.{performed-as, performed-refused, jump-at, jump-back, jump-before, jump-forth}
 use Rattle.acting.specs.Ran.{hand}
-use Rattle.rules.specs.Piece.{orElse}
-use Rattle.rules.specs.Run.{Flow, jumpTo}
-use Prim.Native.Nat.{ℕ, _+_, _-_, _≤_, _<_}
+use Rattle.rules.specs.Run.{jumpTo}
+use Prim.Native.Nat.{ℕ, _+_, _-_}
 use native.Mathlib.Omega.{arith}
-use mathlib.Core.Path.{_≡_, _∙_, ap, sym}
+use mathlib.Core.Path.{_∙_, ap, sym}
 use borrow.Author.Needs.{needs}
 use Rattle.acting.proofs.acting.jump.Statement.{statement}
 use Rattle.acting.proofs.acting.jump.Tie as tie

@@ -1,5 +1,4 @@
 -- A piece is written whole or refused. Assumes nothing.
-use Rattle.acting.specs.declared.state.Ran.{Ran}
 use Rattle.acting.specs.Ran.{endedRan}
 use Rattle.acting.proofs.Buffer.{lent-length, put-lent}
 use Rattle.acting.proofs.ActLaws.{performed-put, performed-full}
@@ -7,7 +6,7 @@ use Rattle.pieces.specs.Bytes.{bytesOf}
 use lib.ListN.{length}
 use Prim.Native.Nat.{ℕ, _+_}
 use native.Mathlib.Omega.{arith}
-use mathlib.Core.Path.{_≡_, _∙_, ap, sym}
+use mathlib.Core.Path.{_≡_, _∙_, ap}
 use borrow.Author.Needs.{needs}
 use Rattle.acting.proofs.acting.put_piece.Statement.{statement}
 use Rattle.acting.proofs.acting.put_piece.Tie as tie

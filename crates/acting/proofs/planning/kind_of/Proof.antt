@@ -2,8 +2,6 @@
 use Rattle.rules.specs.declared.Argument.{Argument}
 use Rattle.rules.specs.Piece.{kindOf}
 use Rattle.rules.specs.Table.{meant}
-use Prim.Native.Nat.{ℕ}
-use mathlib.Core.List.{List}
 use mathlib.Core.Path.{sym, ap}
 use borrow.Author.Needs.{needs}
 use Rattle.acting.proofs.planning.kind_of.Statement.{statement}

@@ -1,6 +1,6 @@
 -- A call answers as 01 has it, whatever its bytes. Assumes nothing.
 use Rattle.engine.proofs.WholeLaws.{table-refused, text-refused}
-use mathlib.Core.Path.{_≡_, refl, sym, ap, _∙_}
+use mathlib.Core.Path.{sym, _∙_}
 use borrow.Author.Needs.{needs}
 use Rattle.engine.proofs.formatting.format_text.Statement.{statement}
 use Rattle.engine.proofs.formatting.format_text.Tie as tie
