@@ -13,3 +13,11 @@ pub enum Turn {
     Goes { next: usize, size: usize },
     Stops(u32),
 }
+
+// Where the ways through a conditional end: none is known yet; all at the argument `next`, the longest with `size` bytes;
+// or at more than one argument.
+pub enum Ends {
+    Nowhere,
+    Equal { next: usize, size: usize },
+    Unequal,
+}

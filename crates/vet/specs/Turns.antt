@@ -1,0 +1,26 @@
+-- What an item of a plain format does to a vet, by the kinds of the arguments. Assumes nothing: these are definitions.
+use Prim.Native.Nat.{ℕ}
+use mathlib.Core.Bool.{cond}
+use mathlib.Core.List.{List}
+use lib.ListN.{length, getD}
+use Rattle.rules.specs.Piece.{accepts}
+use Rattle.rules.specs.declared.Item.{Item}
+use Rattle.vet.specs.Use.{Use, writes, shows, stops, useOf}
+use Rattle.vet.specs.Worst.{worst}
+use Rattle.vet.specs.declared.Turn.{Turn}
+use Rattle.vet.specs.declared.Turn.the-variants.{Goes, Stops}
+
+-- the kind of argument i
+abbrev pub kindIn : List ℕ → ℕ → ℕ
+kindIn kinds i = getD kinds i 0
+
+module _ (kinds : List ℕ) (longest : ℕ) where
+  -- "kind 7", and else the piece's greatest length
+  abbrev pub turnBy : Use → Turn
+  turnBy (writes text next) = Goes next (length text)
+  turnBy (shows f d s i next) =
+      cond (accepts f (kindIn kinds i)) (Goes next (worst longest f (d .colon) (d .at) s (kindIn kinds i))) (Stops 7)
+  turnBy (stops code) = Stops code
+
+  unfoldable pub turnOf : Item → ℕ → Turn
+  turnOf item next = turnBy (useOf (length kinds) item next)

@@ -1,0 +1,115 @@
+-- The ways through a format, conditionals included: where they end, and how long the longest is (02, Thirteen). Assumes
+-- nothing: these are definitions.
+use Prim.Native.Nat.{ℕ, _+_}
+use mathlib.Core.Bool.{Bool, false, cond}
+use mathlib.Core.List.{List}
+use lib.Dec.{ltb, eqb}
+use lib.ListN.{length}
+use Rattle.rules.specs.Directive.{placesOf, inOrder}
+use Rattle.rules.specs.Text.{Sequence, end, acts, escapes, iterates, chooses, Clauses, none, clause}
+use Rattle.rules.specs.Working.{Settled, settled, unsettled, settle, settingsOf}
+use Rattle.rules.specs.declared.Bracket.the-variants.{Conditional}
+use Rattle.rules.specs.declared.Code.the-variants.{Opens}
+use Rattle.rules.specs.declared.Directive.{Directive}
+use Rattle.rules.specs.declared.Setting.{Setting}
+use Rattle.rules.specs.declared.Setting.the-variants.{Absent, Is}
+use Rattle.vet.specs.Turns.{kindIn, turnOf}
+use Rattle.vet.specs.Use.{inHand, noEntries}
+use Rattle.vet.specs.Worst.{larger}
+use Rattle.vet.specs.declared.Ends.{Ends}
+use Rattle.vet.specs.declared.Ends.the-variants.{Nowhere, Equal, Unequal}
+use Rattle.vet.specs.declared.Turn.{Turn}
+use Rattle.vet.specs.declared.Turn.the-variants.{Goes, Stops}
+
+-- A way through a sequence leads to the argument `next` with at most `size` bytes, or it fails with a code at a position
+pub data Way : Type 0 where
+  leads : ℕ → ℕ → Way
+  fails : ℕ → ℕ → Way
+
+-- The ways through the clauses of a block have their ends, or the first clause that fails does
+pub data Ways : Type 0 where
+  ending : Ends → Ways
+  failing : ℕ → ℕ → Ways
+
+-- "all ways through each block end at the same argument" and "a conditional counts as its longest clause": one way more,
+-- which ends at `next` with `size` bytes
+unfoldable pub meeting : Ends → ℕ → ℕ → Ends
+meeting Nowhere next size = Equal next size
+meeting (Equal n s) next size = cond (eqb n next) (Equal n (larger s size)) Unequal
+meeting Unequal next size = Unequal
+
+-- a `~:;` stands before the last clause
+unfoldable pub hasFallback : Clauses → Bool
+hasFallback none = false
+hasFallback (clause colon x none) = colon
+hasFallback (clause colon x (clause colon₂ y more)) = hasFallback (clause colon₂ y more)
+
+-- The way by which a block runs none of its clauses, from the argument `start`. "For `~[` without `~:;`, running none is
+-- a way." `~@[` takes `#f` and writes nothing, so that its clause must end "exactly one argument on". Of `~:[` one of
+-- the two clauses always runs
+abbrev pub withNone : Directive → Bool → ℕ → Ends → Ends
+withNone d fallback start e =
+    cond (d .colon) e (cond (d .at) (meeting e (start + 1) 0) (cond fallback e (meeting e start 0)))
+
+-- "pieces add": an item at p after `sum` bytes goes on, or fails there
+abbrev pub onTurn : ℕ → Turn → ℕ → (ℕ → ℕ → Way) → Way
+onTurn p (Goes next size) sum on = on next (sum + size)
+onTurn p (Stops code) sum on = fails code p
+
+-- "6 to 8 for a clause that fails, the first met"
+abbrev pub onWay : Way → (ℕ → ℕ → Ways) → Ways
+onWay (leads next size) on = on next size
+onWay (fails code p) on = failing code p
+
+-- "code 11 at the block's tilde .. for unequal ends"
+abbrev pub onEnds : ℕ → Ends → (ℕ → ℕ → Way) → Way
+onEnds p Nowhere on = fails 11 p
+onEnds p (Equal next size) on = on next size
+onEnds p Unequal on = fails 11 p
+
+-- "(ends at the closer)": when every clause was met, and the way by which none runs with them
+abbrev pub onWays : ℕ → (Ends → Ends) → Ways → (ℕ → ℕ → Way) → Way
+onWays p closing (ending e) on = onEnds p (closing e) on
+onWays p closing (failing code q) on = fails code q
+
+module _ (kinds : List ℕ) (longest : ℕ) where
+  abbrev pub count : ℕ
+  count = length kinds
+
+  -- a block that takes an argument of its own: "none left is 6"
+  abbrev pub onOwn : ℕ → Turn → Turn
+  onOwn next go = cond (ltb next count) go (Stops 6)
+
+  -- `~[`: "n, or an integer argument, picks a clause"
+  abbrev pub numberedStart : ℕ → Setting → Turn
+  numberedStart next Absent = onOwn next (cond (eqb (kindIn kinds next) 1) (Goes (next + 1) 0) (Stops 7))
+  numberedStart next (Is n) = Goes next 0
+
+  abbrev pub settledStart : Settled → Turn
+  settledStart (settled ss next) = numberedStart next (settingsOf ss .first)
+  settledStart (unsettled code) = Stops code
+
+  -- The argument from which the clauses of a conditional run. `~:[` takes one of any kind; "`~@[` is accepted only for a
+  -- boolean", "otherwise code 11 at the block's tilde for it", and leaves it to its clause
+  unfoldable pub startOf : Directive → ℕ → Turn
+  startOf d next =
+      cond (d .colon) (onOwn next (Goes (next + 1) 0))
+      (cond (d .at) (onOwn next (cond (eqb (kindIn kinds next) 0) (Goes next 0) (Stops 11)))
+      (settledStart (settle noEntries (inHand count next) (placesOf (Opens Conditional) false) (inOrder (d .parameters)) next)))
+
+  unfoldable mutual
+    -- the way through a sequence from the argument `next`, where the pieces before it are `sum` bytes at the most
+    pub wayOf : Sequence → ℕ → ℕ → Way
+    wayOf end next sum = leads next sum
+    wayOf (acts p x rest) next sum = onTurn p (turnOf kinds longest x next) sum (λ next₂ sum₂. wayOf rest next₂ sum₂)
+    wayOf (escapes p rest) next sum = fails 11 p
+    wayOf (iterates p d body rest) next sum = fails 11 p
+    wayOf (chooses p d cs rest) next sum =
+        onTurn p (startOf d next) sum
+        (λ start sum₂. onWays p (withNone d (hasFallback cs) start) (waysOf cs start Nowhere)
+        (λ next₂ size. wayOf rest next₂ (sum₂ + size)))
+
+    -- "every clause can run on those kinds": each from the argument `start`, after those with these ends
+    pub waysOf : Clauses → ℕ → Ends → Ways
+    waysOf none start e = ending e
+    waysOf (clause colon x more) start e = onWay (wayOf x start 0) (λ next size. waysOf more start (meeting e next size))
