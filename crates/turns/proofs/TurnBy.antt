@@ -23,7 +23,7 @@ use Rattle.rules.specs.declared.Setting.the-variants.{Absent, Is}
 use Rattle.rules.proofs.Code as code-declared
 use Rattle.rules.proofs.Item as item-declared
 use Rattle.vet.specs.Use.{workedOut, useOf}
-use Rattle.vet.specs.Vet.{kindIn, turnOf}
+use Rattle.vet.specs.Turns.{kindIn, turnOf}
 use Rattle.vet.specs.Worst.{worst}
 use Rattle.vet.specs.declared.Turn.the-variants.{Goes, Stops}
 use Rattle.vet.proofs.Codes.{Asked}

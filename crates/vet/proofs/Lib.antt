@@ -1,7 +1,6 @@
 pub mod Before
 pub mod Below
 pub mod Bound
-pub mod Causes
 pub mod Choices
 pub mod Codes
 pub mod Encoded
@@ -12,7 +11,7 @@ pub mod Loop
 pub mod Ordinary
 pub mod Padding
 pub mod PlainRun
-pub mod Promise
+pub mod PlainVet
 pub mod Settling
 pub mod Sizes
 pub mod Stages

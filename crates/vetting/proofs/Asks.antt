@@ -14,7 +14,8 @@ use Rattle.rules.specs.Text.{tokensAt, textVerdict, provided}
 use Rattle.rules.specs.declared.Verdict.{Verdict}
 use Rattle.rules.specs.declared.Verdict.the-variants.{Accepted, Refused}
 use Rattle.vet.specs.Plain.{plainVerdict}
-use Rattle.vet.specs.Vet.{knownTags, mayAsk, askedVerdict, declined, unlessDeclined, vetFrom, vetOf}
+use Rattle.vet.specs.Vet.{knownTags, mayAsk, askedVerdict, declined, unlessDeclined, vetOf}
+use Rattle.vet.proofs.PlainVet.{vetFrom}
 use Rattle.vet.specs.declared.Vetted.{Vetted}
 use Rattle.vet.specs.Demand.{Promised}
 use Rattle.vet.proofs.Codes.{asked-of}

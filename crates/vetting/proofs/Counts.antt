@@ -8,7 +8,9 @@ use Rattle.rules.specs.Directive.{itemAt}
 use Rattle.rules.specs.Text.{tokensAt}
 use Rattle.rules.specs.declared.Item.{Item}
 use Rattle.rules.proofs.TextLaws.{placeAfter, sound-start}
-use Rattle.vet.specs.Vet.{declined, counted, turnOf, vetFrom}
+use Rattle.vet.specs.Turns.{turnOf}
+use Rattle.vet.specs.Vet.{declined, counted}
+use Rattle.vet.proofs.PlainVet.{vetFrom}
 use Rattle.vet.specs.declared.Turn.{Turn}
 use Rattle.vet.specs.declared.Turn.the-variants.{Goes, Stops}
 use Rattle.vet.proofs.Loop.{vet-on, vet-stops, vet-end, ordinary-here}

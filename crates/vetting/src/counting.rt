@@ -6,7 +6,7 @@ use vet::Turn;
 use vet::Vetted;
 ghost use mathlib.Core.Path.{_≡_};
 ghost use Rattle.rules.specs.Text.{tokensAt};
-ghost use Rattle.vet.specs.Vet.{vetFrom};
+ghost use Rattle.vet.proofs.PlainVet.{vetFrom};
 ghost use Rattle.vet.proofs.Stages.{Running};
 
 // The items in order, where the pieces before them are `sum` bytes at the most.

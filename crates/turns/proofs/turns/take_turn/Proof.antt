@@ -2,7 +2,7 @@
 use mathlib.Core.Path.{sym, subst, ap, _∙_}
 use borrow.Author.Needs.{needs}
 use Rattle.rules.specs.declared.Item.{Item}
-use Rattle.vet.specs.Vet.{turnOf}
+use Rattle.vet.specs.Turns.{turnOf}
 use Rattle.vet.proofs.Ordinary.{Ordinary}
 use Rattle.turns.proofs.TurnBy.{literal-item, other-item}
 use Rattle.turns.proofs.turns.take_turn.Statement.{statement}

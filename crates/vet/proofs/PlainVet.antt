@@ -1,0 +1,20 @@
+-- A vet of a plain text, item by item: what the ways through a format come to where it has no conditional (Ways). Assumes
+-- nothing.
+use Prim.Native.Nat.{ℕ, _+_}
+use mathlib.Core.List.{List, [], _∷_}
+use Rattle.rules.specs.Text.{Token}
+use Rattle.vet.specs.declared.Turn.{Turn}
+use Rattle.vet.specs.declared.Turn.the-variants.{Goes, Stops}
+use Rattle.vet.specs.declared.Vetted.{Vetted}
+use Rattle.vet.specs.Turns.{turnOf}
+use Rattle.vet.specs.Vet.{declined, counted}
+
+abbrev pub onTurn : ℕ → Turn → ℕ → (ℕ → ℕ → Vetted) → Vetted
+onTurn p (Goes next size) sum on = on next (sum + size)
+onTurn p (Stops code) sum on = declined code p
+
+-- the items in order, from an argument on, where the pieces before them are `sum` bytes at the most
+unfoldable pub vetFrom : List ℕ → ℕ → List Token → ℕ → ℕ → Vetted
+vetFrom kinds longest [] next sum = counted sum
+vetFrom kinds longest (x ∷ xs) next sum =
+    onTurn (x .at) (turnOf kinds longest (x .item) next) sum (λ next₂ sum₂. vetFrom kinds longest xs next₂ sum₂)
