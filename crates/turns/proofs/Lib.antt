@@ -1,4 +1,5 @@
 pub mod Names
+pub mod StartBy
+pub mod TurnBy
 pub mod Worked
 pub mod WorstBy
-pub mod TurnBy

@@ -32,7 +32,7 @@ use Rattle.vet.proofs.Settling.{directive-suits}
 use Rattle.vet.proofs.TurnLaws.{turn-literal, turn-unsettled, turn-given, turn-none, turn-wrong, turn-own, turn-first, turn-back}
 use Rattle.vet.proofs.WorstLaws.{repeat-length, fold-length}
 use Rattle.turns.specs.Parts.{settingBy, Writing, Sizing, padding, numeralMost}
-use Rattle.turns.proofs.Worked.{object-width, object-step, object-least, object-settled, object-refused, numeral-settled, numeral-refused, repeat-settled, glyph-settled, glyph-refused, plural-settled, fold-settled}
+use Rattle.turns.proofs.Worked.{object-width, object-step, object-least, object-settled, object-refused, numeral-settled, numeral-refused, number-settled, glyph-settled, glyph-refused, plural-settled, fold-settled}
 use Rattle.turns.proofs.WorstBy.{object-worst, numeral-worst}
 
 -- a turn that goes on, with its size in other words
@@ -181,7 +181,7 @@ module _ (kinds : List ℕ) (d : Directive) (next left : ℕ) (is : left ≡ len
       goes-with next (e ∙ sym (repeat-length b (d .colon) (d .at)
       (settingsOf (settingBy left (d .parameters .first) ∷ [])) (boolean false)))
       ∙ sym (turn-given kinds longest d (Repeat b) (w .code) next (settingBy left (d .parameters .first) ∷ []) next
-      (repeat-settled (length kinds) next left is (omega arith) d b w) (boolean false) refl)
+      (number-settled (length kinds) next left is (omega arith) d (w .fixed) (w .suits)) (boolean false) refl)
 
 -- `~p`
 module _ (kinds : List ℕ) (d : Directive) (next : ℕ) (w : Writing Plural d) where
@@ -236,30 +236,3 @@ writing-of d w f e =
 
 pub of-form : {f g : Form} {d : Directive} → f ≡ g → Writing f d → Writing g d
 of-form {d = d} e w = rw e at w
-
--- the codes beside `Writes`, and the items beside `Literal` and `Written`
-abbrev other-codes : List ℕ
-other-codes = 1 ∷ 2 ∷ 3 ∷ 4 ∷ 5 ∷ 6 ∷ []
-
-abbrev other-items : List ℕ
-other-items = 0 ∷ 3 ∷ 4 ∷ []
-
-module _ (kinds : List ℕ) (longest next : ℕ) where
-  pub other-code : (d : Directive) → PlainDirective d → (c : Code) → c ≡ d .code
-      → OneOf other-codes (tagOf code-declared.the-type c)
-      → Goes next 0 ≡ turnOf kinds longest (Written d) next
-  other-code d w c e o =
-      let same : c ≡ Writes (w .form) = e ∙ w .code in
-      absurd (miss other-codes 0 tt (rw same at o))
-
-  pub other-item : (i : Item) → OneOf other-items (tagOf item-declared.the-type i)
-      → Goes next 0 ≡ turnOf kinds longest i next
-  unfolding turnOf useOf
-  other-item End o = refl
-  other-item (Literal b) o = absurd (miss other-items 1 tt o)
-  other-item (Written d) o = absurd (miss other-items 2 tt o)
-  other-item BadNumber o = refl
-  other-item Unfinished o = refl
-
-  pub literal-item : (i : Item) (b : ℕ) → i ≡ Literal b → Goes next 1 ≡ turnOf kinds longest i next
-  literal-item i b e = rw e (sym (turn-literal kinds longest b next))

@@ -235,16 +235,16 @@ module _ (count next left : ℕ) (is : left ≡ count - next) (few : left ≤ 10
         (number-low left 3 1 4096 count next is (d .parameters .fourth) (numeral-fixed .fourth)
         (numeral-suits .fourth) (omega arith) h))))
 
-  -- n
-  module _ (b : ℕ) (w : Writing (Repeat b) d) where
-    pub repeat-settled : workedOut count (Repeat b) d next ≡ settled (first ∷ []) next
-    repeat-settled =
-        one-in count next anyNumber _ (d .parameters .first) _
-        (number-in left 1 0 4096 count next is (d .parameters .first) (fixed-each (d .parameters) (w .fixed) .first)
-        (omega arith)
-        (number-most left 1 0 4096 (d .parameters .first) (single anyNumber (d .parameters) (w .suits)) (omega arith)
-        (omega arith)))
-        (none-in count next _)
+  -- n, of a directive or of a conditional
+  pub number-settled : noneNext (inOrder (d .parameters)) ≡ true → eachSuits (anyNumber ∷ []) (inOrder (d .parameters)) ≡ true
+      → settle noEntries (inHand count next) (anyNumber ∷ []) (inOrder (d .parameters)) next ≡ settled (first ∷ []) next
+  number-settled fixed suits =
+      one-in count next anyNumber _ (d .parameters .first) _
+      (number-in left 1 0 4096 count next is (d .parameters .first) (fixed-each (d .parameters) fixed .first)
+      (omega arith)
+      (number-most left 1 0 4096 (d .parameters .first) (single anyNumber (d .parameters) suits) (omega arith)
+      (omega arith)))
+      (none-in count next _)
 
 -- charnum
 module _ (count next left : ℕ) (is : left ≡ count - next) (d : Directive) (w : Writing Glyph d) where

@@ -19,7 +19,7 @@ fn less(a: usize, b: usize) -> usize
     if b < a { a - b } else { 0 }
 }
 
-fn larger(a: usize, b: usize) -> usize
+pub fn larger(a: usize, b: usize) -> usize
     ensures { λ r. ⌜ r ≡ largerOf a b ⌝ }
 {
     if a <= b { b } else { a }

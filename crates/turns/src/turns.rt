@@ -1,4 +1,4 @@
-// What an item of a plain format does to a vet.
+// What a directive that writes does to a vet.
 use crate::lengths::glyph_size;
 use crate::lengths::worst_glyph;
 use crate::lengths::worst_numeral;
@@ -6,10 +6,8 @@ use crate::lengths::worst_object;
 use crate::lengths::worst_plural;
 use crate::settings::number_of;
 use crate::settings::setting_of;
-use rules::Code;
 use rules::Directive;
 use rules::Form;
-use rules::Item;
 use rules::Setting;
 use vet::Turn;
 ghost use mathlib.Core.Path.{_≡_};
@@ -20,19 +18,18 @@ ghost use Rattle.rules.specs.declared.Form.the-variants.{Object, Numeral, Glyph
 ghost use Rattle.rules.specs.declared.Item.the-variants.{Written};
 ghost use Rattle.vet.specs.Turns.{turnOf};
 ghost use Rattle.vet.proofs.Codes.{Asked};
-ghost use Rattle.vet.proofs.Ordinary.{PlainDirective, Ordinary};
 ghost use Rattle.turns.specs.Parts.{Writing};
 
 // An argument is wanted, and none is left.
-const NONE_LEFT: u32 = 6;
+pub const NONE_LEFT: u32 = 6;
 
 // The argument is of a kind that the directive does not take.
-const WRONG_KIND: u32 = 7;
+pub const WRONG_KIND: u32 = 7;
 
 // The value of a `#` lies outside its place's range.
 const OUT_OF_RANGE: u32 = 8;
 
-const INTEGER: u8 = 1;
+pub const INTEGER: u8 = 1;
 
 const CHARACTER: u8 = 2;
 
@@ -181,7 +178,8 @@ fn turn_fold(d: Directive, next: usize) -> Turn
     Turn::Goes { next, size: 0 }
 }
 
-fn turn_form(d: Directive, form: Form, kinds: &[u8], next: usize, longest: usize) -> Turn
+// The turn of a directive of a form.
+pub fn turn_form(d: Directive, form: Form, kinds: &[u8], next: usize, longest: usize) -> Turn
     requires { ⌜ Writing form d ⌝ }
     requires { ⌜ Asked (now kinds) longest ⌝ }
     requires { ⌜ next ≤ length (now kinds) ⌝ }
@@ -194,33 +192,5 @@ fn turn_form(d: Directive, form: Form, kinds: &[u8], next: usize, longest: usize
         Form::Plural => turn_plural(d, kinds, next),
         Form::Repeat(_) => turn_repeat(d, kinds, next),
         Form::Fold => turn_fold(d, next),
-    }
-}
-
-// A directive that writes; a plain format has no other.
-fn turn_directive(d: Directive, kinds: &[u8], next: usize, longest: usize) -> Turn
-    requires { ⌜ PlainDirective d ⌝ }
-    requires { ⌜ Asked (now kinds) longest ⌝ }
-    requires { ⌜ next ≤ length (now kinds) ⌝ }
-    ensures { λ r. ⌜ r ≡ turnOf (now (kinds .entry)) longest (Written d) next ⌝ }
-{
-    let code = d.code;
-    match code {
-        Code::Writes(form) => turn_form(d, form, kinds, next, longest),
-        _ => Turn::Goes { next, size: 0 },
-    }
-}
-
-// A literal byte or a directive; an accepted text has nothing else.
-pub fn take_turn(item: Item, kinds: &[u8], next: usize, longest: usize) -> Turn
-    requires { ⌜ Ordinary item ⌝ }
-    requires { ⌜ Asked (now kinds) longest ⌝ }
-    requires { ⌜ next ≤ length (now kinds) ⌝ }
-    ensures { λ r. ⌜ r ≡ turnOf (now (kinds .entry)) longest item next ⌝ }
-{
-    match item {
-        Item::Literal(_) => Turn::Goes { next, size: 1 },
-        Item::Written(d) => turn_directive(d, kinds, next, longest),
-        _ => Turn::Goes { next, size: 0 },
     }
 }

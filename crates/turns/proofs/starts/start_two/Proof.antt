@@ -1,0 +1,19 @@
+-- `start_two` meets its contract. Assumes nothing.
+use Rattle.turns.proofs.StartBy.{own-none, own-any}
+use borrow.Author.Needs.{needs}
+use Rattle.turns.proofs.starts.start_two.Statement.{statement}
+use Rattle.turns.proofs.starts.start_two.Tie as tie
+
+returns : tie.Need-returns
+returns c =
+    own-none (c .before .args .kinds .now) (c .before .args .next) _ (c .if1 .taken)
+
+add-t3 : tie.Need-add-t3
+add-t3 c = search needs
+
+returns-2 : tie.Need-returns-2
+returns-2 c =
+    own-any (c .before .args .kinds .now) (c .before .args .next) _ (c .if1 .left)
+
+pub start-two-spec : {M : Type 1} → statement M
+start-two-spec = tie.close (tie.spec returns add-t3 returns-2)

@@ -1,0 +1,91 @@
+// The argument from which the clauses of a conditional run.
+use crate::settings::setting_of;
+use crate::turns::INTEGER;
+use crate::turns::NONE_LEFT;
+use crate::turns::WRONG_KIND;
+use rules::Directive;
+use rules::Setting;
+use vet::Turn;
+ghost use mathlib.Core.Path.{_≡_};
+ghost use mathlib.Core.Bool.{cond};
+ghost use Prim.Native.Nat.{ℕ, _+_, _≤_};
+ghost use lib.Dec.{eqb};
+ghost use lib.ListN.{length};
+ghost use Rattle.rules.specs.declared.Setting.the-variants.{Absent};
+ghost use Rattle.vet.specs.Turns.{kindIn};
+ghost use Rattle.vet.specs.Ways.{onOwn, numberedStart, startOf};
+ghost use Rattle.vet.specs.declared.Turn.the-variants.{Goes, Stops};
+ghost use Rattle.turns.specs.Parts.{Choosing};
+
+// Not for a vet: `~@[` for another kind than a boolean.
+const NOT_TAKEN: u32 = 11;
+
+const BOOLEAN: u8 = 0;
+
+// ~:[
+fn start_two(kinds: &[u8], next: usize) -> Turn
+    requires { ⌜ next ≤ length (now kinds) ⌝ }
+    ensures { λ r. ⌜ ((longest : ℕ) → r ≡ onOwn (now (kinds .entry)) longest next (Goes (next + 1) 0)) ⌝ }
+{
+    if kinds.len() <= next {
+        return Turn::Stops(NONE_LEFT);
+    }
+    Turn::Goes {
+        next: next + 1,
+        size: 0,
+    }
+}
+
+// ~@[
+fn start_one(kinds: &[u8], next: usize) -> Turn
+    requires { ⌜ next ≤ length (now kinds) ⌝ }
+    ensures { λ r. ⌜ ((longest : ℕ) → r ≡ onOwn (now (kinds .entry)) longest next (cond (eqb (kindIn (now (kinds .entry)) next) 0) (Goes next 0) (Stops 11))) ⌝ }
+{
+    if kinds.len() <= next {
+        return Turn::Stops(NONE_LEFT);
+    }
+    let kind = kinds[next];
+    if kind == BOOLEAN {
+        return Turn::Goes { next, size: 0 };
+    }
+    Turn::Stops(NOT_TAKEN)
+}
+
+// ~[ by an integer argument
+fn start_numbered(kinds: &[u8], next: usize) -> Turn
+    requires { ⌜ next ≤ length (now kinds) ⌝ }
+    ensures { λ r. ⌜ ((longest : ℕ) → r ≡ numberedStart (now (kinds .entry)) longest next Absent) ⌝ }
+{
+    if kinds.len() <= next {
+        return Turn::Stops(NONE_LEFT);
+    }
+    let kind = kinds[next];
+    if kind == INTEGER {
+        return Turn::Goes {
+            next: next + 1,
+            size: 0,
+        };
+    }
+    Turn::Stops(WRONG_KIND)
+}
+
+pub fn start_of(d: Directive, kinds: &[u8], next: usize) -> Turn
+    requires { ⌜ Choosing d ⌝ }
+    requires { ⌜ next ≤ length (now kinds) ⌝ }
+    requires { ⌜ length (now kinds) ≤ 1024 ⌝ }
+    ensures { λ r. ⌜ ((longest : ℕ) → r ≡ startOf (now (kinds .entry)) longest d next) ⌝ }
+{
+    if d.colon {
+        return start_two(kinds, next);
+    }
+    if d.at {
+        return start_one(kinds, next);
+    }
+    let ps = d.parameters;
+    let p1 = ps.first;
+    let setting = setting_of(p1, kinds.len() - next);
+    match setting {
+        Setting::Is(_) => Turn::Goes { next, size: 0 },
+        Setting::Absent => start_numbered(kinds, next),
+    }
+}
