@@ -10,17 +10,12 @@ use lib.ListN.{length, drop, getD, drop-of-length-le}
 use lib.Seq.{drop-cons}
 use borrow.Author.Tests.{le-leb, lt-leb}
 use Rattle.rules.specs.Choice.{both}
-use Rattle.rules.specs.Text.{tokensAt, textVerdict, provided}
+use Rattle.rules.specs.Text.{textVerdict, provided}
 use Rattle.rules.specs.declared.Verdict.{Verdict}
 use Rattle.rules.specs.declared.Verdict.the-variants.{Accepted, Refused}
-use Rattle.vet.specs.Plain.{plainVerdict}
-use Rattle.vet.specs.Vet.{knownTags, mayAsk, askedVerdict, declined, unlessDeclined, vetOf}
-use Rattle.vet.proofs.PlainVet.{vetFrom}
+use Rattle.vet.specs.Plain.{takenVerdict}
+use Rattle.vet.specs.Vet.{knownTags, mayAsk, askedVerdict, declined, unlessDeclined, runAnswer, vetOf}
 use Rattle.vet.specs.declared.Vetted.{Vetted}
-use Rattle.vet.specs.Demand.{Promised}
-use Rattle.vet.proofs.Codes.{asked-of}
-use Rattle.vet.proofs.Stages.{Running}
-use Rattle.vet.proofs.Promise.{promised}
 
 -- kinds of which the first i are known
 pub record KnownTo (kinds : List ℕ) (i : ℕ) : Type 0 where
@@ -58,43 +53,34 @@ module _ (kinds : List ℕ) (longest : ℕ) where
 -- the answer, stage by stage
 module _ (format kinds : List ℕ) (longest : ℕ) where
   abbrev counting : Bool → Vetted
-  counting _ = vetFrom kinds longest (tokensAt format 0) 0 0
+  counting _ = runAnswer format kinds longest
 
-  abbrev plainness : Bool → Vetted
-  plainness _ = unlessDeclined (plainVerdict format) counting
+  abbrev taking : Bool → Vetted
+  taking _ = unlessDeclined (takenVerdict format) counting
 
   abbrev reading : Bool → Vetted
-  reading _ = unlessDeclined (textVerdict format) plainness
+  reading _ = unlessDeclined (textVerdict format) taking
 
   pub not-asked : mayAsk kinds longest ≡ false → declined 12 0 ≡ vetOf format kinds longest
   unfolding vetOf askedVerdict
   not-asked e = sym (ap (λ (b : Bool). unlessDeclined (provided b 12 0 (λ _. Accepted)) reading) e)
 
   module _ (may : mayAsk kinds longest ≡ true) where
-    asked : vetOf format kinds longest ≡ unlessDeclined (textVerdict format) plainness
+    asked : vetOf format kinds longest ≡ unlessDeclined (textVerdict format) taking
     unfolding vetOf askedVerdict
     asked = ap (λ (b : Bool). unlessDeclined (provided b 12 0 (λ _. Accepted)) reading) may
 
     pub not-read : {code position : ℕ} → textVerdict format ≡ Refused code position
         → declined code position ≡ vetOf format kinds longest
-    not-read e = sym (asked ∙ ap (λ (x : Verdict). unlessDeclined x plainness) e)
+    not-read e = sym (asked ∙ ap (λ (x : Verdict). unlessDeclined x taking) e)
 
     module _ (text : textVerdict format ≡ Accepted) where
-      read : vetOf format kinds longest ≡ unlessDeclined (plainVerdict format) counting
-      read = asked ∙ ap (λ (x : Verdict). unlessDeclined x plainness) text
+      read : vetOf format kinds longest ≡ unlessDeclined (takenVerdict format) counting
+      read = asked ∙ ap (λ (x : Verdict). unlessDeclined x taking) text
 
-      pub not-plain : {code position : ℕ} → plainVerdict format ≡ Refused code position
+      pub not-taken : {code position : ℕ} → takenVerdict format ≡ Refused code position
           → declined code position ≡ vetOf format kinds longest
-      not-plain e = sym (read ∙ ap (λ (x : Verdict). unlessDeclined x counting) e)
+      not-taken e = sym (read ∙ ap (λ (x : Verdict). unlessDeclined x counting) e)
 
-      pub running : plainVerdict format ≡ Accepted → Running format kinds longest
-      running e = record { may = may; asked = asked-of kinds longest may; text = text; plain = e }
-
-      pub ran : plainVerdict format ≡ Accepted
-          → vetFrom kinds longest (tokensAt format 0) 0 0 ≡ vetOf format kinds longest
+      pub ran : takenVerdict format ≡ Accepted → runAnswer format kinds longest ≡ vetOf format kinds longest
       ran e = sym (read ∙ ap (λ (x : Verdict). unlessDeclined x counting) e)
-
--- the definition's answer keeps every promise
-pub keeps : (format kinds : List ℕ) (longest : ℕ) {r : Vetted} → r ≡ vetOf format kinds longest
-    → Promised format kinds longest r
-keeps format kinds longest e = rw e (promised format kinds longest)

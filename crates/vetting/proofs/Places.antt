@@ -1,4 +1,4 @@
--- Where a text goes on after an item, and what an item is to the test for plain. Assumes nothing.
+-- Where a text goes on after an item, and what an item is to the test whether a vet takes it. Assumes nothing.
 use Prim.Native.Nat.{ℕ, _≤_, _<_}
 use mathlib.Core.Path.{_≡_, refl, sym, ap, _∙_}
 use mathlib.Core.Bool.{Bool, true, false, not}
@@ -13,7 +13,7 @@ use Rattle.rules.specs.declared.Item.{Item}
 use Rattle.rules.specs.declared.Item.the-variants.{End, Literal, Written, BadNumber, Unfinished}
 use Rattle.rules.specs.declared.Verdict.the-variants.{Accepted, Refused}
 use Rattle.rules.proofs.TextLaws.{placeAfter, Stands, stands, tokens-is}
-use Rattle.vet.specs.Plain.{plainCode, isNext, noneNext, plainItem, plainFrom, plainVerdict}
+use Rattle.vet.specs.Plain.{plainCode, isNext, noneNext, plainItem, plainFrom, takenVerdict}
 use Rattle.vet.proofs.Loop.{Follows, plain-on, plain-not, plain-end}
 
 -- the text goes on after the item's first byte, inside the text
@@ -35,27 +35,27 @@ module _ (t : List ℕ) (p q : ℕ) (i : Item) (h : p < length t) (is : i ≡ it
   pub follows : Follows t p i q
   follows = record { is = rw e (tokens-is t p i (sym is) h) }
 
--- a text of which the items before p are plain
-pub record PlainTo (t : List ℕ) (p : ℕ) : Type 0 where
+-- a text of which a vet takes the items before p
+pub record TakenTo (t : List ℕ) (p : ℕ) : Type 0 where
   pub inside : p ≤ length t
-  pub rest : plainVerdict t ≡ plainFrom (tokensAt t p)
+  pub rest : takenVerdict t ≡ plainFrom true (tokensAt t p)
 
-pub plain-start : (t : List ℕ) → PlainTo t 0
-plain-start t = record { inside = omega arith; rest = refl }
+pub taken-start : (t : List ℕ) → TakenTo t 0
+taken-start t = record { inside = omega arith; rest = refl }
 
-module _ {t : List ℕ} {p : ℕ} (l : PlainTo t p) where
-  pub plain-done : length t ≤ p → Accepted ≡ plainVerdict t
-  plain-done h = sym (l .rest ∙ plain-end t p h)
+module _ {t : List ℕ} {p : ℕ} (l : TakenTo t p) where
+  pub taken-done : length t ≤ p → Accepted ≡ takenVerdict t
+  taken-done h = sym (l .rest ∙ plain-end true t p h)
 
-  module _ (i : Item) (h : p < length t) (is : i ≡ itemAt t p) (plain : Bool) (test : plain ≡ plainItem i) where
-    pub plain-refused : plain ≡ false → Refused 11 p ≡ plainVerdict t
-    plain-refused e =
-        sym (l .rest ∙ plain-not t p (placeAfter p i) i (follows t p (placeAfter p i) i h is refl) (sym test ∙ e))
+  module _ (i : Item) (h : p < length t) (is : i ≡ itemAt t p) (taken : Bool) (test : taken ≡ plainItem true i) where
+    pub taken-refused : taken ≡ false → Refused 11 p ≡ takenVerdict t
+    taken-refused e =
+        sym (l .rest ∙ plain-not t p (placeAfter p i) i (follows t p (placeAfter p i) i h is refl) true (sym test ∙ e))
 
-    pub plain-more : plain ≡ true → (q : ℕ) → q ≡ placeAfter p i → PlainTo t q
-    plain-more e q f = record {
+    pub taken-more : taken ≡ true → (q : ℕ) → q ≡ placeAfter p i → TakenTo t q
+    taken-more e q f = record {
       inside = goes-later t p q i h is f .inside;
-      rest = l .rest ∙ plain-on t p q i (follows t p q i h is f) (sym test ∙ e);
+      rest = l .rest ∙ plain-on t p q i (follows t p q i h is f) true (sym test ∙ e);
     }
 
 both-end : (b : Bool) → both b true ≡ b
@@ -63,11 +63,11 @@ both-end true = refl
 both-end false = refl
 
 -- a directive, from the tests of its code and of its four parameters
-pub directive-plain : (d : Directive) {k a b c e last more all r : Bool} → k ≡ plainCode (d .code)
+pub directive-taken : (d : Directive) {k a b c e last more all r : Bool} → k ≡ plainCode true (d .code)
     → a ≡ not (isNext (d .parameters .first)) → b ≡ not (isNext (d .parameters .second))
     → c ≡ not (isNext (d .parameters .third)) → e ≡ not (isNext (d .parameters .fourth))
     → last ≡ both c e → more ≡ both b last → all ≡ both a more → r ≡ both k all
-    → r ≡ both (plainCode (d .code)) (noneNext (inOrder (d .parameters)))
-directive-plain d {k} {a} {b} {c} {e} ek ea eb ec ee el em en er =
+    → r ≡ both (plainCode true (d .code)) (noneNext (inOrder (d .parameters)))
+directive-taken d {k} {a} {b} {c} {e} ek ea eb ec ee el em en er =
     er ∙ rw (en, em, el, ← ek, ← ea, ← eb, ← ec, ← ee)
     (ap (λ (x : Bool). both k (both a (both b (both c x)))) (sym (both-end e)))

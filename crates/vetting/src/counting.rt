@@ -1,43 +1,202 @@
-// The greatest count of a format, item by item.
-use crate::plainness::place_after;
+// The greatest count of a format, sequence by sequence: a conditional counts as its longest clause. A conditional's clauses
+// are counted by the function that counts the sequence in which it stands, so calls nest no deeper than its blocks.
+use crate::ends::meet;
+use crate::ends::with_none;
+use checking::ends::ClauseEnd;
 use reader::directive::item_at;
-use turns::turns::take_turn;
+use rules::Code;
+use rules::Directive;
+use rules::Item;
+use turns::starts::start_of;
+use turns::turns::turn_form;
+use vet::Ends;
 use vet::Turn;
 use vet::Vetted;
 ghost use mathlib.Core.Path.{_≡_};
-ghost use Rattle.rules.specs.Text.{tokensAt};
-ghost use Rattle.vet.proofs.PlainVet.{vetFrom};
-ghost use Rattle.vet.proofs.Stages.{Running};
+ghost use Prim.Native.Nat.{_≤_, _<_};
+ghost use lib.ListN.{length};
+ghost use Rattle.rules.specs.Directive.{itemAt};
+ghost use Rattle.rules.specs.Text.{textVerdict};
+ghost use Rattle.rules.specs.declared.Item.the-variants.{Written};
+ghost use Rattle.rules.specs.declared.Verdict.the-variants.{Accepted};
+ghost use Rattle.vet.specs.Plain.{takenVerdict};
+ghost use Rattle.vet.specs.Vet.{runAnswer};
+ghost use Rattle.vet.proofs.Codes.{Asked};
+ghost use Rattle.turns.specs.Parts.{Choosing};
+ghost use Rattle.vetting.specs.Counting.{TakenAt, elementBy, closedBy, ElementIs, SequenceIs, ClausesAre};
 
-// The items in order, where the pieces before them are `sum` bytes at the most.
-pub fn count_items(format: &[u8], kinds: &[u8], longest: usize) -> Vetted
-    requires { ⌜ Running (now format) (now kinds) longest ⌝ }
-    ensures { λ r. ⌜ r ≡ vetFrom (now (kinds .entry)) longest (tokensAt (now (format .entry)) 0) 0 0 ⌝ }
+// Not for a vet: a conditional whose ways end at more than one argument.
+const UNEQUAL_ENDS: u32 = 11;
+
+// One element of a sequence: it leads to the argument `next` with at most `size` bytes, and the text goes on at `place`;
+// it fails; or the sequence ends here.
+pub enum Element {
+    Leads { next: usize, size: usize, place: usize },
+    Fails { code: u32, position: usize },
+    Ends(ClauseEnd),
+}
+
+// A whole sequence: it leads to the argument `next` with at most `size` bytes, and so it ends; or it fails.
+pub enum Counted {
+    Leads { next: usize, size: usize, end: ClauseEnd },
+    Fails { code: u32, position: usize },
+}
+
+// What a directive at p does, after which the text goes on at `place`.
+fn element_by(turn: Turn, p: usize, place: usize) -> Element
+    ensures { λ r. ⌜ r ≡ elementBy turn p place ⌝ }
 {
-    let mut p: usize = 0;
-    let mut next: usize = 0;
-    let mut sum: usize = 0;
-    while p < format.len() {
-        let item = item_at(format, p);
-        let turn = take_turn(item, kinds, next, longest);
-        match turn {
-            Turn::Stops(code) => {
-                return Vetted {
-                    code,
-                    position: p,
-                    count: 0,
-                };
-            }
-            Turn::Goes { next: after, size } => {
-                next = after;
-                sum += size;
-                p = place_after(item, p);
+    match turn {
+        Turn::Goes { next, size } => Element::Leads { next, size, place },
+        Turn::Stops(code) => Element::Fails { code, position: p },
+    }
+}
+
+// The block at p is closed before `place`, and its ways end so.
+fn close_block(ends: Ends, p: usize, place: usize) -> Element
+    ensures { λ r. ⌜ r ≡ closedBy ends p place ⌝ }
+{
+    match ends {
+        Ends::Equal { next, size } => Element::Leads { next, size, place },
+        _ => Element::Fails {
+            code: UNEQUAL_ENDS,
+            position: p,
+        },
+    }
+}
+
+// The clauses of the conditional d at p, each from the argument `start`.
+fn count_clauses(format: &[u8], kinds: &[u8], longest: usize, p: usize, d: Directive, start: usize) -> Element
+    requires { ⌜ Asked (now kinds) longest ⌝ }
+    requires { ⌜ TakenAt (now format) (d .next) ⌝ }
+    requires { ⌜ start ≤ length (now kinds) ⌝ }
+    ensures { λ r. ⌜ ClausesAre (now (format .entry)) (now (kinds .entry)) longest p d start r ⌝ }
+{
+    let mut z = d.next;
+    let mut fallback = false;
+    let mut ends = Ends::Nowhere;
+    loop {
+        let c = count_sequence(format, kinds, longest, z, start);
+        match c {
+            Counted::Fails { code, position } => return Element::Fails { code, position },
+            Counted::Leads { next, size, end } => {
+                ends = meet(ends, next, size);
+                match end {
+                    ClauseEnd::Another { at: _, colon, next: q } => {
+                        fallback = colon;
+                        z = q;
+                    }
+                    ClauseEnd::Last { at: _, next: q } => {
+                        return close_block(with_none(d, fallback, start, ends), p, q);
+                    }
+                }
             }
         }
     }
-    Vetted {
-        code: 0,
-        position: 0,
-        count: sum,
+}
+
+// The conditional d at p, where `next` is the next argument.
+fn count_block(format: &[u8], kinds: &[u8], longest: usize, p: usize, d: Directive, next: usize) -> Element
+    requires { ⌜ Asked (now kinds) longest ⌝ }
+    requires { ⌜ TakenAt (now format) p ⌝ }
+    requires { ⌜ itemAt (now format) p ≡ Written d ⌝ }
+    requires { ⌜ Choosing d ⌝ }
+    requires { ⌜ next ≤ length (now kinds) ⌝ }
+    ensures { λ r. ⌜ ElementIs (now (format .entry)) (now (kinds .entry)) longest p next r ⌝ }
+{
+    let turn = start_of(d, kinds, next);
+    match turn {
+        Turn::Stops(code) => Element::Fails { code, position: p },
+        Turn::Goes { next: start, size: _ } => count_clauses(format, kinds, longest, p, d, start),
+    }
+}
+
+// The item at p, where `next` is the next argument. An accepted text that a vet takes has no others.
+fn count_element(format: &[u8], kinds: &[u8], longest: usize, p: usize, next: usize) -> Element
+    requires { ⌜ Asked (now kinds) longest ⌝ }
+    requires { ⌜ TakenAt (now format) p ⌝ }
+    requires { ⌜ next ≤ length (now kinds) ⌝ }
+    ensures { λ r. ⌜ ElementIs (now (format .entry)) (now (kinds .entry)) longest p next r ⌝ }
+{
+    let item = item_at(format, p);
+    match item {
+        Item::Literal(_) => Element::Leads {
+            next,
+            size: 1,
+            place: p + 1,
+        },
+        Item::Written(d) => {
+            let code = d.code;
+            match code {
+                Code::Writes(form) => element_by(turn_form(d, form, kinds, next, longest), p, d.next),
+                Code::Opens(_) => count_block(format, kinds, longest, p, d, next),
+                Code::Separator => Element::Ends(ClauseEnd::Another {
+                    at: p,
+                    colon: d.colon,
+                    next: d.next,
+                }),
+                _ => Element::Ends(ClauseEnd::Last {
+                    at: p,
+                    next: d.next,
+                }),
+            }
+        }
+        _ => Element::Ends(ClauseEnd::Last { at: p, next: p }),
+    }
+}
+
+// The sequence that is read at `start`, from the argument `first`.
+fn count_sequence(format: &[u8], kinds: &[u8], longest: usize, start: usize, first: usize) -> Counted
+    requires { ⌜ Asked (now kinds) longest ⌝ }
+    requires { ⌜ TakenAt (now format) start ⌝ }
+    requires { ⌜ first ≤ length (now kinds) ⌝ }
+    ensures { λ r. ⌜ SequenceIs (now (format .entry)) (now (kinds .entry)) longest start first r ⌝ }
+{
+    let mut p = start;
+    let mut next = first;
+    let mut sum: usize = 0;
+    loop {
+        let e = count_element(format, kinds, longest, p, next);
+        match e {
+            Element::Fails { code, position } => return Counted::Fails { code, position },
+            Element::Ends(end) => {
+                return Counted::Leads {
+                    next,
+                    size: sum,
+                    end,
+                };
+            }
+            Element::Leads {
+                next: after,
+                size,
+                place,
+            } => {
+                next = after;
+                sum += size;
+                p = place;
+            }
+        }
+    }
+}
+
+// The whole format, from the first argument on.
+pub fn count_format(format: &[u8], kinds: &[u8], longest: usize) -> Vetted
+    requires { ⌜ Asked (now kinds) longest ⌝ }
+    requires { ⌜ textVerdict (now format) ≡ Accepted ⌝ }
+    requires { ⌜ takenVerdict (now format) ≡ Accepted ⌝ }
+    ensures { λ r. ⌜ r ≡ runAnswer (now (format .entry)) (now (kinds .entry)) longest ⌝ }
+{
+    let c = count_sequence(format, kinds, longest, 0, 0);
+    match c {
+        Counted::Fails { code, position } => Vetted {
+            code,
+            position,
+            count: 0,
+        },
+        Counted::Leads { next: _, size, end: _ } => Vetted {
+            code: 0,
+            position: 0,
+            count: size,
+        },
     }
 }

@@ -1,13 +1,14 @@
-// What a plain format needs at the most, vetted over the kinds of its arguments.
+// What a format without jumps and loops needs at the most, vetted over the kinds of its arguments.
 pub mod asking;
 pub mod counting;
-pub mod plainness;
+pub mod ends;
+pub mod taking;
 
 use asking::may_ask;
 use checking::text::check_text;
-use counting::count_items;
-use plainness::check_plain;
+use counting::count_format;
 use rules::Verdict;
+use taking::check_taken;
 use vet::Vetted;
 ghost use mathlib.Core.Path.{_≡_};
 ghost use mathlib.Core.Bool.{true};
@@ -26,15 +27,15 @@ fn decline(code: u32, position: usize) -> Vetted
     }
 }
 
-// From the test for plain on.
+// From the test whether a vet takes the format on.
 fn vet_read(format: &[u8], kinds: &[u8], longest: usize) -> Vetted
     requires { ⌜ mayAsk (now kinds) longest ≡ true ⌝ }
     requires { ⌜ textVerdict (now format) ≡ Accepted ⌝ }
     ensures { λ r. ⌜ r ≡ vetOf (now (format .entry)) (now (kinds .entry)) longest ⌝ }
 {
-    let plain = check_plain(format);
-    match plain {
-        Verdict::Accepted => count_items(format, kinds, longest),
+    let taken = check_taken(format);
+    match taken {
+        Verdict::Accepted => count_format(format, kinds, longest),
         Verdict::Refused { code, position } => decline(code, position),
     }
 }
@@ -51,7 +52,7 @@ fn vet_asked(format: &[u8], kinds: &[u8], longest: usize) -> Vetted
     }
 }
 
-// Vets a plain format over the kinds of its arguments, of which no string is longer than `longest`.
+// Vets a format over the kinds of its arguments, of which no string is longer than `longest`.
 pub fn vet_format(format: &[u8], kinds: &[u8], longest: usize) -> Vetted
     ensures { λ r. ⌜ Promised (now (format .entry)) (now (kinds .entry)) longest r ⌝ }
 {

@@ -1,30 +1,34 @@
-// Which formats are plain.
+// Which formats a vet takes: those that are plain but for their conditionals.
 use fitting::places::both;
 use reader::directive::item_at;
+use rules::Bracket;
 use rules::Code;
 use rules::Directive;
 use rules::Item;
 use rules::Parameter;
 use rules::Verdict;
 ghost use mathlib.Core.Path.{_≡_};
-ghost use mathlib.Core.Bool.{not};
+ghost use mathlib.Core.Bool.{true, not};
 ghost use Prim.Native.Nat.{_<_};
 ghost use Rattle.rules.specs.Choice.{both};
 ghost use Rattle.rules.specs.Directive.{inOrder};
 ghost use Rattle.rules.proofs.TextLaws.{placeAfter};
-ghost use Rattle.vet.specs.Plain.{plainCode, isNext, noneNext, plainItem, plainVerdict};
+ghost use Rattle.vet.specs.Plain.{plainCode, isNext, noneNext, plainItem, takenVerdict};
 
-// Vet: not plain.
-const NOT_PLAIN: u32 = 11;
+// Not for a vet.
+const NOT_TAKEN: u32 = 11;
 
-fn is_plain_code(code: Code) -> bool
-    ensures { λ r. ⌜ r ≡ plainCode code ⌝ }
+fn is_taken_code(code: Code) -> bool
+    ensures { λ r. ⌜ r ≡ plainCode true code ⌝ }
 {
     match code {
         Code::Writes(_) => true,
         Code::Jump => false,
         Code::Escape => false,
-        Code::Opens(_) => false,
+        Code::Opens(bracket) => match bracket {
+            Bracket::Conditional => true,
+            Bracket::Iteration => false,
+        },
         Code::Separator => true,
         Code::Closes(_) => true,
         Code::Unknown => true,
@@ -44,8 +48,8 @@ fn is_fixed(x: Parameter) -> bool
     }
 }
 
-fn is_plain_directive(d: Directive) -> bool
-    ensures { λ r. ⌜ r ≡ both (plainCode (d .code)) (noneNext (inOrder (d .parameters))) ⌝ }
+fn is_taken_directive(d: Directive) -> bool
+    ensures { λ r. ⌜ r ≡ both (plainCode true (d .code)) (noneNext (inOrder (d .parameters))) ⌝ }
 {
     let code = d.code;
     let ps = d.parameters;
@@ -55,16 +59,16 @@ fn is_plain_directive(d: Directive) -> bool
     let p4 = ps.fourth;
     let last = both(is_fixed(p3), is_fixed(p4));
     let all = both(is_fixed(p1), both(is_fixed(p2), last));
-    both(is_plain_code(code), all)
+    both(is_taken_code(code), all)
 }
 
-fn is_plain(item: Item) -> bool
-    ensures { λ r. ⌜ r ≡ plainItem item ⌝ }
+fn is_taken(item: Item) -> bool
+    ensures { λ r. ⌜ r ≡ plainItem true item ⌝ }
 {
     match item {
         Item::End => true,
         Item::Literal(_) => true,
-        Item::Written(d) => is_plain_directive(d),
+        Item::Written(d) => is_taken_directive(d),
         Item::BadNumber => true,
         Item::Unfinished => true,
     }
@@ -84,16 +88,16 @@ pub fn place_after(item: Item, p: usize) -> usize
     }
 }
 
-// The first tilde that is not plain.
-pub fn check_plain(format: &[u8]) -> Verdict
-    ensures { λ r. ⌜ r ≡ plainVerdict (now (format .entry)) ⌝ }
+// The first tilde that no vet takes.
+pub fn check_taken(format: &[u8]) -> Verdict
+    ensures { λ r. ⌜ r ≡ takenVerdict (now (format .entry)) ⌝ }
 {
     let mut p = 0;
     while p < format.len() {
         let item = item_at(format, p);
-        if !is_plain(item) {
+        if !is_taken(item) {
             return Verdict::Refused {
-                code: NOT_PLAIN,
+                code: NOT_TAKEN,
                 position: p,
             };
         }

@@ -1,0 +1,114 @@
+-- What the parts of a count promise, in terms of the ways through the sequences that are open at a place of the text.
+-- Assumes nothing: these are definitions.
+use Prim.Native.Nat.{ℕ, _+_, _*_, _-_, _≤_, _<_}
+use mathlib.Core.Path.{_≡_}
+use mathlib.Core.Bool.{true, false}
+use mathlib.Core.List.{List}
+use lib.ListN.{length}
+use Rattle.rules.specs.Text.{Block, tokensAt, verdictAt, end, innermost, outer, asClauses, levelsAt}
+use Rattle.rules.specs.declared.Directive.{Directive}
+use Rattle.rules.specs.declared.Verdict.the-variants.{Accepted}
+use Rattle.checking.specs.Ends.{AfterBlock, EndsClause}
+use Rattle.checking.specs.declared.ends.ClauseEnd.{ClauseEnd}
+use Rattle.checking.specs.declared.ends.ClauseEnd.the-variants.{Last, Another}
+use Rattle.vet.specs.Plain.{plainFrom}
+use Rattle.vet.specs.Ways.{Way, leads, fails, withNone, hasFallback, onWays, wayOf, waysOf}
+use Rattle.vet.specs.declared.Ends.{Ends}
+use Rattle.vet.specs.declared.Ends.the-variants.{Nowhere, Equal, Unequal}
+use Rattle.vet.specs.declared.Turn.{Turn}
+use Rattle.vet.specs.declared.Turn.the-variants.{Goes, Stops}
+use Rattle.vet.proofs.Sizes.{mostPiece}
+use Rattle.vetting.specs.declared.counting.Element.{Element}
+use Rattle.vetting.specs.declared.counting.Element.the-variants.{Leads as elementLeads, Fails as elementFails, Ends as elementEnds}
+use Rattle.vetting.specs.declared.counting.Counted.{Counted}
+use Rattle.vetting.specs.declared.counting.Counted.the-variants.{Leads, Fails}
+
+-- Reading on from p meets no fault inside some open blocks, and nothing that a vet does not take
+pub record TakenAt (t : List ℕ) (p : ℕ) : Type 0 where
+  pub blocks : List Block
+  pub accepted : verdictAt t blocks p ≡ Accepted
+  pub plain : plainFrom true (tokensAt t p) ≡ Accepted
+  pub inside : p ≤ length t
+  pub short : length t ≤ 4096
+
+-- what a directive at p does, after which the text goes on at `place`, and what a block there comes to
+abbrev pub elementBy : Turn → ℕ → ℕ → Element
+elementBy (Goes next size) p place = elementLeads next size place
+elementBy (Stops code) p place = elementFails code p
+
+abbrev pub closedBy : Ends → ℕ → ℕ → Element
+closedBy Nowhere p place = elementFails 11 p
+closedBy (Equal next size) p place = elementLeads next size place
+closedBy Unequal p place = elementFails 11 p
+
+-- where a clause stops, and where the text goes on after its end
+abbrev pub stopOf : ClauseEnd → ℕ
+stopOf (Last q next) = q
+stopOf (Another q colon next) = q
+
+abbrev pub afterOf : ClauseEnd → ℕ
+afterOf (Last q next) = next
+afterOf (Another q colon next) = next
+
+module _ (t kinds : List ℕ) (longest : ℕ) where
+  -- the way through the rest of the sequence at p
+  abbrev pub wayAt : ℕ → ℕ → ℕ → Way
+  wayAt p next sum = wayOf kinds longest (innermost (levelsAt t p) .rest) next sum
+
+  -- From p on the text goes on at q with the argument `after`, and at most `size` bytes are between: no more than a
+  -- piece's for each byte of the text
+  pub record Reaches (p q after size : ℕ) : Type 0 where
+    pub least : p < q
+    pub reached : after ≤ length kinds
+    pub small : size ≤ mostPiece * (q - p)
+    pub taken : TakenAt t q
+
+  -- the element at p, and what follows it at q in the same sequence
+  pub record Onward (p next after size q : ℕ) : Type 0 where
+    pub way : (sum : ℕ) → wayAt p next sum ≡ wayAt q after (sum + size)
+    pub more : innermost (levelsAt t p) .more ≡ innermost (levelsAt t q) .more
+    pub outside : outer (levelsAt t p) ≡ outer (levelsAt t q)
+    pub reaches : Reaches p q after size
+
+  -- the sequence has no element at p
+  pub record AtEnd (p : ℕ) (e : ClauseEnd) : Type 0 where
+    pub rest : innermost (levelsAt t p) .rest ≡ end
+    pub ends : EndsClause t p e
+    pub here : stopOf e ≡ p
+    pub taken : TakenAt t (afterOf e)
+
+  abbrev pub ElementIs : ℕ → ℕ → Element → Type 0
+  ElementIs p next (elementLeads after size q) = Onward p next after size q
+  ElementIs p next (elementFails code position) = (sum : ℕ) → wayAt p next sum ≡ fails code position
+  ElementIs p next (elementEnds e) = AtEnd p e
+
+  -- the sequence at start from the argument `first`, to its end
+  pub record Walked (start first next size : ℕ) (e : ClauseEnd) : Type 0 where
+    pub way : wayAt start first 0 ≡ leads next size
+    pub ends : EndsClause t start e
+    pub least : start ≤ stopOf e
+    pub reached : next ≤ length kinds
+    pub small : size ≤ mostPiece * (stopOf e - start)
+    pub taken : TakenAt t (afterOf e)
+
+  abbrev pub SequenceIs : ℕ → ℕ → Counted → Type 0
+  SequenceIs start first (Leads next size e) = Walked start first next size e
+  SequenceIs start first (Fails code position) = wayAt start first 0 ≡ fails code position
+
+  -- the clauses of the conditional d at p, whose inside is at its next place, from the argument `start`, and what follows
+  abbrev pub clausesWay : ℕ → Directive → ℕ → ℕ → Way
+  clausesWay p d start sum =
+      let xs = levelsAt t (d .next) in
+      let cs = asClauses false xs in
+      onWays p (withNone d (hasFallback cs) start) (waysOf kinds longest cs start Nowhere)
+      (λ next size. wayOf kinds longest (innermost (outer xs) .rest) next (sum + size))
+
+  pub record Through (p : ℕ) (d : Directive) (start after size q : ℕ) : Type 0 where
+    pub way : (sum : ℕ) → clausesWay p d start sum ≡ wayAt q after (sum + size)
+    pub behind : AfterBlock t (d .next) q
+    pub reaches : Reaches (d .next) q after size
+
+  abbrev pub ClausesAre : ℕ → Directive → ℕ → Element → Type 0
+  ClausesAre p d start (elementLeads after size q) = Through p d start after size q
+  ClausesAre p d start (elementFails code position) = (sum : ℕ) → clausesWay p d start sum ≡ fails code position
+  ClausesAre p d start (elementEnds e) = ⊥
