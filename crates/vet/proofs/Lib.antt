@@ -15,6 +15,7 @@ pub mod PlainVet
 pub mod Settling
 pub mod Sizes
 pub mod Stages
+pub mod Starts
 pub mod TurnLaws
 pub mod Uses
 pub mod Values
