@@ -1,0 +1,114 @@
+-- What holds of every way through a conditional holds where they meet. Assumes nothing.
+use Prim.Native.Nat.{ℕ, _+_, _≤_}
+use mathlib.Core.Path.{_≡_, refl, subst⁻¹}
+use mathlib.Core.Bool.{Bool, true, false, cond}
+use mathlib.Core.List.{List}
+use lib.Dec.{eqb}
+use borrow.Author.Tests.{eqb-true}
+use Rattle.rules.specs.Text.{Sequence, Clauses, none, clause}
+use Rattle.rules.specs.declared.Directive.{Directive}
+use Rattle.rules.proofs.Tests.{not-both-ways}
+use Rattle.vet.specs.Ways.{Way, leads, fails, Ways, ending, failing, meeting, withNone, onWay, onWays, wayOf, waysOf}
+use Rattle.vet.specs.Worst.{larger}
+use Rattle.vet.specs.declared.Ends.{Ends}
+use Rattle.vet.specs.declared.Ends.the-variants.{Nowhere, Equal, Unequal}
+use Rattle.vet.proofs.Clauses.{Each}
+use Rattle.vet.proofs.Padding.{larger-left, larger-right}
+use Rattle.vet.proofs.Uses.{by-test}
+
+-- what holds of an argument and a number of bytes
+abbrev pub Fact : Type 1
+Fact = ℕ → ℕ → Type 0
+
+-- a fact of where a way leads
+abbrev pub Led : Fact → Way → Type 0
+Led P (leads n s) = P n s
+Led P (fails code p) = Unit {0}
+
+-- a fact of the argument at which all ways so far end, and of the bytes of the longest
+abbrev pub Met : Fact → Ends → Type 0
+Met P Nowhere = (n s : ℕ) → P n s
+Met P (Equal n s) = P n s
+Met P Unequal = Unit {0}
+
+abbrev pub AllMet : Fact → Ways → Type 0
+AllMet P (ending e) = Met P e
+AllMet P (failing code p) = Unit {0}
+
+-- that a longer way ends there does not change it
+abbrev pub Grows : Fact → Type 0
+Grows P = (n s more : ℕ) → s ≤ more → P n s → P n more
+
+module _ (P Q : Fact) (on : (n s : ℕ) → P n s → Q n s) where
+  pub led-on : (w : Way) → Led P w → Led Q w
+  led-on (leads n s) h = on n s h
+  led-on (fails code p) h = tt
+
+  met-on : (e : Ends) → Met P e → Met Q e
+  met-on Nowhere h = λ n s. on n s (h n s)
+  met-on (Equal n s) h = on n s h
+  met-on Unequal h = tt
+
+  all-on : (w : Ways) → AllMet P w → AllMet Q w
+  all-on (ending e) h = met-on e h
+  all-on (failing code p) h = tt
+
+-- one way more, of which Q holds
+meeting-met : (P Q : Fact) → Grows P → Grows Q → (e : Ends) (n s : ℕ) → Met P e → Q n s
+    → Met (λ a b. P a b × Q a b) (meeting e n s)
+unfolding meeting
+meeting-met P Q p q Nowhere n s h k = (h n s, k)
+meeting-met P Q p q (Equal a b) n s h k =
+    by-test (Met (λ a b. P a b × Q a b)) (eqb a n) _ _
+    (λ t. (p a b (larger b s) (larger-left b s) h, q a s (larger b s) (larger-right b s) (subst⁻¹ (λ (i : ℕ). Q i s) (eqb-true a n t) k)))
+    (λ _. tt)
+meeting-met P Q p q Unequal n s h k = tt
+
+module _ (kinds : List ℕ) (longest start : ℕ) where
+  -- Every clause leads where its own fact holds, so that all of them hold where they meet, and with them the fact P of the
+  -- ways before them
+  pub ways-met : (F : Sequence → Fact) → ((x : Sequence) → Grows (F x)) → (cs : Clauses)
+      → Each (λ x. Led (F x) (wayOf kinds longest x start 0)) cs → (P : Fact) → Grows P → (e : Ends) → Met P e
+      → AllMet (λ n s. P n s × Each (λ x. F x n s) cs) (waysOf kinds longest cs start e)
+  unfolding wayOf
+  ways-met F g none a P p e h = met-on P _ (λ n s h. (h, tt)) e h
+  ways-met F g (clause colon x more) a P p e h =
+      by (wayOf kinds longest x start 0) (a .0)
+      (λ n s k. ways-met F g more (a .1) (λ n s. P n s × F x n s) (λ n s m l h. (p n s m l (h .0), g x n s m l (h .1)))
+      (meeting e n s) (meeting-met P (F x) p (g x) e n s h k))
+    where
+      by : (w : Way) → Led (F x) w
+          → ((n s : ℕ) → F x n s
+          → AllMet (λ a b. (P a b × F x a b) × Each (λ x. F x a b) more) (waysOf kinds longest more start (meeting e n s)))
+          → AllMet (λ n s. P n s × Each (λ x. F x n s) (clause colon x more))
+          (onWay w (λ n s. waysOf kinds longest more start (meeting e n s)))
+      by (leads n s) k on =
+          all-on (λ a b. (P a b × F x a b) × Each (λ x. F x a b) more) (λ a b. P a b × Each (λ x. F x a b) (clause colon x more))
+          (λ a b h. (h .0 .0, (h .0 .1, h .1)))
+          (waysOf kinds longest more start (meeting e n s)) (on n s k)
+      by (fails code p) k on = tt
+
+-- the way by which none of the clauses runs, if there is one, ends at n
+pub record NoneEnds (d : Directive) (fallback : Bool) (start n : ℕ) : Type 0 where
+  pub boolean : d .colon ≡ false → d .at ≡ true → start + 1 ≡ n
+  pub number : d .colon ≡ false → d .at ≡ false → fallback ≡ false → start ≡ n
+
+pub none-met : (d : Directive) (fallback : Bool) (start : ℕ) (P : Fact) → Grows P → (e : Ends) → Met P e
+    → Met (λ n s. P n s × NoneEnds d fallback start n) (withNone d fallback start e)
+none-met d fallback start P p e h = by (d .colon) (d .at) fallback refl refl refl
+  where
+    by : (colon at last : Bool) → d .colon ≡ colon → d .at ≡ at → fallback ≡ last
+        → Met (λ n s. P n s × NoneEnds d fallback start n)
+        (cond colon e (cond at (meeting e (start + 1) 0) (cond last e (meeting e start 0))))
+    by true at last c a l =
+        met-on P (λ n s. P n s × NoneEnds d fallback start n)
+        (λ n s h. (h, record { boolean = λ z. absurd (not-both-ways c z); number = λ z. absurd (not-both-ways c z) })) e h
+    by false true last c a l =
+        meeting-met P (λ n s. NoneEnds d fallback start n) p (λ n s m l h. h) e (start + 1) 0 h
+        (record { boolean = λ _ _. refl; number = λ _ z. absurd (not-both-ways a z) })
+    by false false true c a l =
+        met-on P (λ n s. P n s × NoneEnds d fallback start n)
+        (λ n s h. (h, record { boolean = λ _ z. absurd (not-both-ways z a); number = λ _ _ z. absurd (not-both-ways l z) })) e h
+    by false false false c a l =
+        meeting-met P (λ n s. NoneEnds d fallback start n) p (λ n s m l h. h) e start 0 h
+        (record { boolean = λ _ z. absurd (not-both-ways z a); number = λ _ _ _. refl })

@@ -1,0 +1,85 @@
+-- Where the clauses of a conditional start: at an argument that there is or the one after the last, with no bytes; or a code.
+-- Assumes nothing.
+use Prim.Native.Nat.{ℕ, _+_, _≤_}
+use mathlib.Core.Path.{_≡_, refl}
+use mathlib.Core.Logic.{_⊎_, inl, inr}
+use mathlib.Core.Bool.{Bool, true, false, cond}
+use mathlib.Core.List.{List}
+use native.Mathlib.Omega.{arith}
+use lib.Dec.{ltb, eqb}
+use lib.ListN.{length}
+use borrow.Author.Tests.{ltb-true}
+use Rattle.rules.specs.Directive.{placesOf, either, inOrder, wellWritten}
+use Rattle.rules.specs.Working.{Settled, settled, unsettled, settle, settingsOf}
+use Rattle.rules.specs.declared.Bracket.the-variants.{Conditional}
+use Rattle.rules.specs.declared.Code.the-variants.{Opens}
+use Rattle.rules.specs.declared.Directive.{Directive}
+use Rattle.rules.specs.declared.Setting.{Setting}
+use Rattle.rules.specs.declared.Setting.the-variants.{Absent, Is}
+use Rattle.vet.specs.Plain.{noneNext}
+use Rattle.vet.specs.Turns.{kindIn}
+use Rattle.vet.specs.Use.{inHand, noEntries}
+use Rattle.vet.specs.Ways.{onOwn, numberedStart, settledStart, startOf}
+use Rattle.vet.specs.declared.Turn.{Turn}
+use Rattle.vet.specs.declared.Turn.the-variants.{Goes, Stops}
+use Rattle.vet.proofs.Settling.{Settles, settle-placed, written-suits}
+use Rattle.vet.proofs.Uses.{by-test}
+
+-- an opener of a conditional, well written and without `v`
+pub record Opener (d : Directive) : Type 0 where
+  pub code : d .code ≡ Opens Conditional
+  pub written : wellWritten d ≡ true
+  pub fixed : noneNext (inOrder (d .parameters)) ≡ true
+
+-- what a way through a format may fail with
+abbrev pub Reason : ℕ → Type 0
+Reason code = ((6 ≤ code) × (code ≤ 8)) ⊎ (code ≡ 11)
+
+abbrev pub Started : ℕ → Turn → Type 0
+Started count (Goes start size) = (start ≤ count) × (size ≡ 0)
+Started count (Stops code) = Reason code
+
+module _ (kinds : List ℕ) (longest : ℕ) where
+  abbrev count : ℕ
+  count = length kinds
+
+  own-started : (next : ℕ) (go : Turn) → (next + 1 ≤ count → Started count go) → Started count (onOwn kinds longest next go)
+  own-started next go h =
+      by-test (Started count) (ltb next count) go (Stops 6) (λ t. h (let b = ltb-true next count t in omega arith))
+      (λ _. inl (omega arith, omega arith))
+
+  numbered-started : (next : ℕ) (s : Setting) → next ≤ count → Started count (numberedStart kinds longest next s)
+  numbered-started next Absent h =
+      own-started next _
+      (λ b. by-test (Started count) (eqb (kindIn kinds next) 1) _ _ (λ _. (b, refl)) (λ _. inl (omega arith, omega arith)))
+  numbered-started next (Is n) h = (h, refl)
+
+  settled-started : (next : ℕ) (z : Settled) → next ≤ count → Settles (placesOf (Opens Conditional) false) next z
+      → Started count (settledStart kinds longest z)
+  settled-started next (settled ss after) h s = numbered-started after (settingsOf ss .first) (omega (arith, s .0))
+  settled-started next (unsettled code) h s = inl s
+
+  -- the worked-out parameters of `~[`
+  abbrev pub workedNumber : Directive → ℕ → Settled
+  workedNumber d next =
+      settle noEntries (inHand count next) (placesOf (Opens Conditional) false) (inOrder (d .parameters)) next
+
+  number-settles : (d : Directive) (next : ℕ) → Opener d → either (d .colon) (d .at) ≡ false
+      → Settles (placesOf (Opens Conditional) false) next (workedNumber d next)
+  number-settles d next o e =
+      settle-placed (inHand count next) (placesOf (Opens Conditional) false) (inOrder (d .parameters)) next (o .fixed)
+      (rw e at (written-suits d (Opens Conditional) (o .code) (o .written)))
+
+  pub start-turned : (d : Directive) (next : ℕ) → next ≤ count → Opener d → Started count (startOf kinds longest d next)
+  unfolding startOf
+  start-turned d next h o = by (d .colon) (d .at) refl refl
+    where
+      by : (colon at : Bool) → d .colon ≡ colon → d .at ≡ at
+          → Started count
+          (cond colon (onOwn kinds longest next (Goes (next + 1) 0))
+          (cond at (onOwn kinds longest next (cond (eqb (kindIn kinds next) 0) (Goes next 0) (Stops 11)))
+          (settledStart kinds longest (workedNumber d next))))
+      by true at e f = own-started next _ (λ b. (b, refl))
+      by false true e f =
+          own-started next _ (λ b. by-test (Started count) (eqb (kindIn kinds next) 0) _ _ (λ _. (h, refl)) (λ _. inr refl))
+      by false false e f = settled-started next (workedNumber d next) h (number-settles d next o (rw (e, f)))
