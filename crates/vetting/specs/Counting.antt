@@ -50,6 +50,13 @@ abbrev pub afterOf : ClauseEnd → ℕ
 afterOf (Last q next) = next
 afterOf (Another q colon next) = next
 
+-- the sequence has no element at p
+pub record AtEnd (t : List ℕ) (p : ℕ) (e : ClauseEnd) : Type 0 where
+  pub rest : innermost (levelsAt t p) .rest ≡ end
+  pub ends : EndsClause t p e
+  pub here : stopOf e ≡ p
+  pub taken : TakenAt t (afterOf e)
+
 module _ (t kinds : List ℕ) (longest : ℕ) where
   -- the way through the rest of the sequence at p
   abbrev pub wayAt : ℕ → ℕ → ℕ → Way
@@ -58,7 +65,6 @@ module _ (t kinds : List ℕ) (longest : ℕ) where
   -- From p on the text goes on at q with the argument `after`, and at most `size` bytes are between: no more than a
   -- piece's for each byte of the text
   pub record Reaches (p q after size : ℕ) : Type 0 where
-    pub least : p < q
     pub reached : after ≤ length kinds
     pub small : size ≤ mostPiece * (q - p)
     pub taken : TakenAt t q
@@ -68,19 +74,13 @@ module _ (t kinds : List ℕ) (longest : ℕ) where
     pub way : (sum : ℕ) → wayAt p next sum ≡ wayAt q after (sum + size)
     pub more : innermost (levelsAt t p) .more ≡ innermost (levelsAt t q) .more
     pub outside : outer (levelsAt t p) ≡ outer (levelsAt t q)
+    pub ahead : p < q
     pub reaches : Reaches p q after size
-
-  -- the sequence has no element at p
-  pub record AtEnd (p : ℕ) (e : ClauseEnd) : Type 0 where
-    pub rest : innermost (levelsAt t p) .rest ≡ end
-    pub ends : EndsClause t p e
-    pub here : stopOf e ≡ p
-    pub taken : TakenAt t (afterOf e)
 
   abbrev pub ElementIs : ℕ → ℕ → Element → Type 0
   ElementIs p next (elementLeads after size q) = Onward p next after size q
   ElementIs p next (elementFails code position) = (sum : ℕ) → wayAt p next sum ≡ fails code position
-  ElementIs p next (elementEnds e) = AtEnd p e
+  ElementIs p next (elementEnds e) = AtEnd t p e
 
   -- the sequence at start from the argument `first`, to its end
   pub record Walked (start first next size : ℕ) (e : ClauseEnd) : Type 0 where

@@ -1,20 +1,22 @@
+-- `close_block` meets its contract. Assumes nothing.
+use mathlib.Core.Path.{sym, ap}
+use Rattle.vet.specs.declared.Ends.{Ends}
+use Rattle.vetting.specs.Counting.{closedBy}
+use Rattle.vetting.proofs.EndsBy.{closed-not}
 use borrow.Author.Needs.{needs}
 use Rattle.vetting.proofs.counting.close_block.Statement.{statement}
 use Rattle.vetting.proofs.counting.close_block.Tie as tie
-use Rattle.vetting.proofs.counting.close_block.Reads as reads
-use Rattle.vetting.proofs.counting.close_block.Lts as lts
 
--- src/counting.rt:60:23
 enum-known-ends : tie.Need-enum-known-ends
 enum-known-ends c = search needs
 
--- src/counting.rt:56:1
 returns : tie.Need-returns
-returns c = ?
+returns c =
+    sym (ap (λ (e : Ends). closedBy e (c .before .before .before .args .p) (c .before .before .before .args .place)) (c .before .ends .given .1))
 
--- src/counting.rt:56:1
 returns-2 : tie.Need-returns-2
-returns-2 c = ?
+returns-2 c =
+    closed-not (c .before .args .ends) (c .before .args .p) (c .before .args .place) (c .match .keys2)
 
 pub close-block-spec : {M : Type 1} → statement M
 close-block-spec = tie.close (tie.spec enum-known-ends returns returns-2)

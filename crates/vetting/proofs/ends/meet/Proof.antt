@@ -1,41 +1,45 @@
+-- `meet` meets its contract, by the ends so far. Assumes nothing.
+use mathlib.Core.Path.{sym, ap}
+use Rattle.vet.specs.Ways.{meeting}
+use Rattle.vet.specs.declared.Ends.{Ends}
+use Rattle.vetting.proofs.EndsBy.{meet-same, meet-other}
 use borrow.Author.Needs.{needs}
 use Rattle.vetting.proofs.ends.meet.Statement.{statement}
 use Rattle.vetting.proofs.ends.meet.Tie as tie
-use Rattle.vetting.proofs.ends.meet.Reads as reads
-use Rattle.vetting.proofs.ends.meet.Lts as lts
-use Rattle.turns.proofs.lengths.larger.Reads as larger-reads
 
--- src/ends.rt:14:26
 enum-told : tie.Need-enum-told
 enum-told c = search needs
 
--- src/ends.rt:15:29
 enum-known-ends : tie.Need-enum-known-ends
 enum-known-ends c = search needs
 
--- src/ends.rt:19:27
 larger-requires : tie.Need-larger-requires
 larger-requires c κs = search needs
 
--- src/ends.rt:17:17
 returns : tie.Need-returns
-returns c = ?
+returns c =
+    let args = c .before .before .before .before .before .args in
+    meet-same (args .ends) (args .next) (args .size) _ _ (c .before .before .before .ends .given .1) (c .before .if1 .taken) (c .larger .result) (c .larger .ensures)
 
--- src/ends.rt:24:26
 enum-told-2 : tie.Need-enum-told-2
 enum-told-2 c = search needs
 
--- src/ends.rt:10:1
 returns-2 : tie.Need-returns-2
-returns-2 c = ?
+unfolding meeting
+returns-2 c =
+    let args = c .before .before .args in
+    sym (ap (λ (e : Ends). meeting e (args .next) (args .size)) (c .enum-told .given .1))
 
--- src/ends.rt:10:1
 returns-3 : tie.Need-returns-3
-returns-3 c = ?
+returns-3 c =
+    let args = c .before .before .before .before .args in
+    meet-other (args .ends) (args .next) (args .size) _ _ (c .before .before .ends .given .1) (c .if1 .left)
 
--- src/ends.rt:10:1
 returns-4 : tie.Need-returns-4
-returns-4 c = ?
+unfolding meeting
+returns-4 c =
+    let args = c .before .before .args in
+    sym (ap (λ (e : Ends). meeting e (args .next) (args .size)) (c .enum-told2 .given .1))
 
 pub meet-spec : {M : Type 1} → statement M
 meet-spec =

@@ -1,0 +1,75 @@
+-- A sequence, element by element, as the counting loop goes through it. Assumes nothing.
+use Prim.Native.Nat.{ℕ, _+_, _*_, _-_, _≤_, _<_}
+use mathlib.Core.Path.{_≡_, refl, sym, ap, subst, _∙_}
+use mathlib.Core.List.{List}
+use native.Mathlib.Omega.{arith}
+use lib.ListN.{length}
+use Rattle.rules.specs.Text.{Sequence, innermost, outer, levelsAt}
+use Rattle.checking.specs.Ends.{ClauseAt, EndsClause}
+use Rattle.checking.specs.declared.ends.ClauseEnd.{ClauseEnd}
+use Rattle.checking.specs.declared.ends.ClauseEnd.the-variants.{Last, Another}
+use Rattle.vet.specs.Ways.{leads, fails, wayOf}
+use Rattle.vet.proofs.Sizes.{mostPiece}
+use Rattle.vetting.specs.Counting.{TakenAt, stopOf, wayAt, Onward, AtEnd, Walked}
+
+-- from `start` with the argument `first` on, the elements before p are counted: `sum` bytes at the most, and the argument
+-- `next` comes next
+pub record Walking (t kinds : List ℕ) (longest start first p next sum : ℕ) : Type 0 where
+  pub way : wayAt t kinds longest start first 0 ≡ wayAt t kinds longest p next sum
+  pub more : innermost (levelsAt t p) .more ≡ innermost (levelsAt t start) .more
+  pub outside : outer (levelsAt t p) ≡ outer (levelsAt t start)
+  pub least : start ≤ p
+  pub reached : next ≤ length kinds
+  pub small : sum ≤ mostPiece * (p - start)
+  pub taken : TakenAt t p
+
+pub walk-start : (t kinds : List ℕ) (longest start first : ℕ) → TakenAt t start → first ≤ length kinds
+    → Walking t kinds longest start first start first 0
+walk-start t kinds longest start first k h =
+    record { way = refl; more = refl; outside = refl; least = omega arith; reached = h; small = omega arith; taken = k }
+
+-- a clause that is read from a later place on ends where it ends
+ends-from : (t : List ℕ) (start p : ℕ) (e : ClauseEnd) → innermost (levelsAt t p) .more ≡ innermost (levelsAt t start) .more
+    → outer (levelsAt t p) ≡ outer (levelsAt t start) → start ≤ p → EndsClause t p e → EndsClause t start e
+ends-from t start p e m o l = by e
+  where
+    here : (q : ℕ) → ClauseAt t p q → ClauseAt t start q
+    here q c = record { rest = c .rest; more = c .more ∙ m; outside = c .outside ∙ o; least = omega (arith, c .least) }
+
+    by : (e : ClauseEnd) → EndsClause t p e → EndsClause t start e
+    by (Last q next) c = record { here = here q (c .here); more = sym m ∙ c .more; on = c .on ∙ o; least = c .least; most = c .most }
+    by (Another q colon next) c =
+        record { here = here q (c .here); more = sym m ∙ c .more; on = c .on ∙ o; least = c .least; most = c .most }
+
+module _ {t kinds : List ℕ} {longest start first p next sum : ℕ} (w : Walking t kinds longest start first p next sum) where
+  -- the sum of all that a text of 4,096 bytes can come to
+  pub walk-small : {after size q : ℕ} → Onward t kinds longest p next after size q → sum + size ≤ 67112960
+  walk-small o =
+      omega (arith, w .small, w .least, o .ahead, o .reaches .small, o .reaches .taken .inside, o .reaches .taken .short)
+
+  pub walk-on : {after size q : ℕ} → Onward t kinds longest p next after size q
+      → Walking t kinds longest start first q after (sum + size)
+  walk-on o = record {
+    way = w .way ∙ o .way sum;
+    more = sym (o .more) ∙ w .more;
+    outside = sym (o .outside) ∙ w .outside;
+    least = omega (arith, w .least, o .ahead);
+    reached = o .reaches .reached;
+    small = omega (arith, w .small, w .least, o .ahead, o .reaches .small);
+    taken = o .reaches .taken;
+  }
+
+  pub walk-fails : {code position : ℕ} → ((n : ℕ) → wayAt t kinds longest p next n ≡ fails code position)
+      → wayAt t kinds longest start first 0 ≡ fails code position
+  walk-fails f = w .way ∙ f sum
+
+  pub walk-ends : (e : ClauseEnd) → AtEnd t p e → Walked t kinds longest start first next sum e
+  unfolding wayOf
+  walk-ends e a = record {
+    way = w .way ∙ ap (λ (x : Sequence). wayOf kinds longest x next sum) (a .rest);
+    ends = ends-from t start p e (w .more) (w .outside) (w .least) (a .ends);
+    least = omega (arith, w .least, a .here);
+    reached = w .reached;
+    small = subst (λ (q : ℕ). sum ≤ mostPiece * (q - start)) (sym (a .here)) (w .small);
+    taken = a .taken;
+  }
