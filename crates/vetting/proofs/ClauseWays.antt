@@ -14,6 +14,7 @@ use Rattle.rules.specs.declared.Directive.{Directive}
 use Rattle.rules.specs.declared.Item.the-variants.{Written}
 use Rattle.rules.proofs.TextLaws.{next-inside, levels-written}
 use Rattle.checking.specs.Ends.{AfterBlock}
+use Rattle.checking.specs.declared.ends.ClauseEnd.{ClauseEnd}
 use Rattle.checking.specs.declared.ends.ClauseEnd.the-variants.{Last, Another}
 use Rattle.vet.specs.Ways.{Way, fails, Ways, ending, onWay, onTurn, onWays, onEnds, meeting, withNone, hasFallback, startOf, wayOf, waysOf}
 use Rattle.vet.specs.declared.Ends.{Ends}
@@ -23,14 +24,23 @@ use Rattle.vet.specs.declared.Turn.the-variants.{Goes, Stops}
 use Rattle.vet.proofs.Sizes.{mostPiece}
 use Rattle.vet.proofs.Starts.{Started, start-turned}
 use Rattle.turns.specs.Parts.{Choosing}
-use Rattle.vetting.specs.Counting.{TakenAt, closedBy, wayAt, Walked, clausesWay, ClausesAre, ElementIs}
+use Rattle.vetting.specs.Counting.{TakenAt, closedBy, wayAt, Walked, SequenceIs, clausesWay, ClausesAre, ElementIs}
 use Rattle.vetting.specs.declared.counting.Element.{Element}
 use Rattle.vetting.specs.declared.counting.Element.the-variants.{Leads, Fails, Ends as EndsHere}
+use Rattle.vetting.specs.declared.counting.Counted.{Counted}
+use Rattle.vetting.specs.declared.counting.Counted.the-variants.{Leads as LeadsAll}
 use Rattle.vetting.proofs.EndsBy.{EndsIn, meet-some, meet-in, none-in}
 
 -- the clauses of the block whose inside is at p
 abbrev clausesAt : List ℕ → ℕ → Clauses
 clausesAt t p = asClauses false (levelsAt t p)
+
+-- what is said of a sequence that was counted, in other words
+pub walked-by : (t kinds : List ℕ) (longest start first : ℕ) (r : Counted) → SequenceIs t kinds longest start first r
+    → {next size : ℕ} {end same : ClauseEnd} → r ≡ LeadsAll next size end → end ≡ same
+    → Walked t kinds longest start first next size same
+walked-by t kinds longest start first r s {next} {size} e f =
+    subst (Walked t kinds longest start first next size) f (subst (SequenceIs t kinds longest start first) e s)
 
 -- The clauses before z are counted, with these ends; the one at z stands after a `~:;` or not
 pub record Gathering (t kinds : List ℕ) (longest : ℕ) (d : Directive) (start z : ℕ) (colon : Bool) (e : Ends) : Type 0 where
@@ -79,9 +89,9 @@ module _ {t kinds : List ℕ} {longest : ℕ} {d : Directive} {start z : ℕ} {c
   module _ {next size q after : ℕ} where
 
     pub gather-on : {colon₂ : Bool} → Walked t kinds longest z start next size (Another q colon₂ after)
-        → Gathering t kinds longest d start after colon₂ (meeting e next size)
+        → (f : Ends) → f ≡ meeting e next size → Gathering t kinds longest d start after colon₂ f
     unfolding hasFallback
-    gather-on {colon₂} w = record {
+    gather-on {colon₂} w f is = subst (Gathering t kinds longest d start after colon₂) (sym is) record {
       ways = clause-met _ (w .way) ∙ ap (λ (cs : Clauses). waysOf kinds longest cs start (meeting e next size)) (w .ends .more);
       last = g .last ∙ ap (λ (cs : Clauses). hasFallback (clause colon (innermost (levelsAt t z) .rest) cs)) (w .ends .more);
       outside = w .ends .on ∙ g .outside;

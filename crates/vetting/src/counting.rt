@@ -76,8 +76,8 @@ fn count_clauses(format: &[u8], kinds: &[u8], longest: usize, p: usize, d: Direc
     let mut fallback = false;
     let mut ends = Ends::Nowhere;
     loop {
-        let c = count_sequence(format, kinds, longest, z, start);
-        match c {
+        let counted = count_sequence(format, kinds, longest, z, start);
+        match counted {
             Counted::Fails { code, position } => return Element::Fails { code, position },
             Counted::Leads { next, size, end } => {
                 ends = meet(ends, next, size);
@@ -186,8 +186,8 @@ pub fn count_format(format: &[u8], kinds: &[u8], longest: usize) -> Vetted
     requires { ⌜ takenVerdict (now format) ≡ Accepted ⌝ }
     ensures { λ r. ⌜ r ≡ runAnswer (now (format .entry)) (now (kinds .entry)) longest ⌝ }
 {
-    let c = count_sequence(format, kinds, longest, 0, 0);
-    match c {
+    let counted = count_sequence(format, kinds, longest, 0, 0);
+    match counted {
         Counted::Fails { code, position } => Vetted {
             code,
             position,

@@ -1,4 +1,19 @@
-use Prim.Native.Nat.{ℕ, _<_}
+-- The count meets its contracts. The text that is left falls at each call and in each turn of a loop. The loops: whatever
+-- comes from here is what comes from the start. Assumes nothing.
+use mathlib.Core.Path.{refl, sym, ap, subst, _∙_}
+use native.Mathlib.Omega.{arith}
+use lib.ListN.{length}
+use borrow.Author.Needs.{needs}
+use Rattle.rules.specs.declared.Item.the-variants.{Literal}
+use Rattle.rules.proofs.TextLaws.{stands, next-inside}
+use Rattle.vet.specs.Ways.{withNone}
+use Rattle.turns.proofs.TurnBy.{writing-of}
+use Rattle.vetting.specs.Counting.{ElementIs, SequenceIs, ClausesAre}
+use Rattle.vetting.proofs.TakenPlaces.{next-taken, taken-writes, taken-opens}
+use Rattle.vetting.proofs.Elements.{literal-is, writes-is, separator-is, closer-is, end-is}
+use Rattle.vetting.proofs.Sequences.{Walking, walk-start, walk-small, walk-on, walk-fails, walk-ends}
+use Rattle.vetting.proofs.ClauseWays.{Gathering, walked-by, gather-start, gather-fails, gather-on, gather-last, start-inside, block-stops, block-is}
+use Prim.Native.Nat.{ℕ, _+_, _-_, _*_, _<_}
 use borrow.Fn.Kinds.{In}
 use borrow.Fn.PlainCycle.{Measures, is, falls, and}
 use Rattle.vetting.proofs.counting.count_block.Reads as count-block
@@ -28,16 +43,20 @@ use Rattle.vetting.proofs.counting.+count_block+count_clauses+count_ele
 }
 
 abbrev μ-count-block : Measures 2 count-block-kinds.ps ℕ
-μ-count-block κs a = ?
+μ-count-block κs a =
+    4 * (length (a .0 .now) - a .1 .1 .1 .1 .0 .next) + 4
 
 abbrev μ-count-clauses : Measures 2 count-clauses-kinds.ps ℕ
-μ-count-clauses κs a = ?
+μ-count-clauses κs a =
+    4 * (length (a .0 .now) - a .1 .1 .1 .1 .0 .next) + 3
 
 abbrev μ-count-element : Measures 2 count-element-kinds.ps ℕ
-μ-count-element κs a = ?
+μ-count-element κs a =
+    4 * (length (a .0 .now) - a .1 .1 .1 .0) + 1
 
 abbrev μ-count-sequence : Measures 2 count-sequence-kinds.ps ℕ
-μ-count-sequence κs a = ?
+μ-count-sequence κs a =
+    4 * (length (a .0 .now) - a .1 .1 .1 .0) + 2
 
 abbrev count-block-at : ℕ → In 2 count-block-kinds.ps
 count-block-at t =
@@ -87,67 +106,82 @@ count-sequence-below t =
     (falls 2 count-sequence-kinds.ps _<_ μ-count-sequence t)
     count-sequence.Pre
 
--- src/counting.rt:107:9
 count-block-start-of-requires : (t : ℕ) → count-block-lts.Need-start-of-requires (
   start-of-reads.Asked,
   start-of-reads.Learnt,
   count-clauses-below t,
   count-clauses.Post,
 ) (count-block-at t) count-block.Post
-count-block-start-of-requires t c κs = ?
+count-block-start-of-requires t c κs =
+    let args = c .before .before .args in
+    let pre = c .before .before .pre .1 in
+    (pre .1 .1 .1 .0, (pre .1 .1 .1 .1, pre .0 .many))
 
--- src/counting.rt:109:21
 count-block-enum-known-turn : (t : ℕ) → count-block-lts.Need-enum-known-turn (
   start-of-reads.Asked,
   start-of-reads.Learnt,
   count-clauses-below t,
   count-clauses.Post,
 ) (count-block-at t) count-block.Post
-count-block-enum-known-turn t c = ?
+count-block-enum-known-turn t c = search needs
 
--- src/counting.rt:110:28
 count-block-enum-known-turn-2 : (t : ℕ) → count-block-lts.Need-enum-known-turn-2 (
   start-of-reads.Asked,
   start-of-reads.Learnt,
   count-clauses-below t,
   count-clauses.Post,
 ) (count-block-at t) count-block.Post
-count-block-enum-known-turn-2 t c = ?
+count-block-enum-known-turn-2 t c = search needs
 
--- src/counting.rt:110:48
 count-block-count-clauses-requires : (t : ℕ) → count-block-lts.Need-count-clauses-requires (
   start-of-reads.Asked,
   start-of-reads.Learnt,
   count-clauses-below t,
   count-clauses.Post,
 ) (count-block-at t) count-block.Post
-count-block-count-clauses-requires t c κs = ?
+count-block-count-clauses-requires t c κs =
+    let args = c .before .before .before .before .before .before .args in
+    let pre = c .before .before .before .before .before .before .pre .1 in
+    let begun = sym (c .before .before .before .start-of .ensures (args .longest)) ∙ c .before .turn2 .given .1 in
+    (
+      omega (arith, c .before .before .before .before .before .before .pre .0),
+      (pre .0, (next-taken (pre .1 .0) (args .d) (pre .1 .1 .0), start-inside (args .format .now) (args .kinds .now) (args .longest) (args .p) (args .next) (args .d) (pre .1 .1 .0) (pre .1 .1 .1 .0) (pre .1 .1 .1 .1) _ _ begun)),
+    )
 
--- src/counting.rt:99:1
 count-block-returns : (t : ℕ) → count-block-lts.Need-returns (
   start-of-reads.Asked,
   start-of-reads.Learnt,
   count-clauses-below t,
   count-clauses.Post,
 ) (count-block-at t) count-block.Post
-count-block-returns t c = ?
+count-block-returns t c =
+    let args = c .before .before .before .before .before .before .args in
+    let pre = c .before .before .before .before .before .before .pre .1 in
+    let begun = sym (c .before .before .before .start-of .ensures (args .longest)) ∙ c .before .turn .given .1 in
+    block-stops (args .format .now) (args .kinds .now) (args .longest) (args .p) (args .next) (args .d) (pre .1 .1 .0)
+    (pre .1 .1 .1 .0) _ begun
 
--- src/counting.rt:99:1
 count-block-returns-2 : (t : ℕ) → count-block-lts.Need-returns-2 (
   start-of-reads.Asked,
   start-of-reads.Learnt,
   count-clauses-below t,
   count-clauses.Post,
 ) (count-block-at t) count-block.Post
-count-block-returns-2 t c = ?
+count-block-returns-2 t c =
+    let args = c .before .before .before .before .before .before .before .args in
+    let pre = c .before .before .before .before .before .before .before .pre .1 in
+    let begun = sym (c .before .before .before .before .start-of .ensures (args .longest)) ∙ c .before .before .turn2 .given .1 in
+    block-is (args .format .now) (args .kinds .now) (args .longest) (args .p) (args .next) (args .d) (pre .1 .1 .0)
+    (pre .1 .1 .1 .0) (pre .1 .1 .1 .1) _ _ begun (c .count-clauses .result) (c .count-clauses .ensures)
 
 abbrev count-clauses-Inv-loop : count-clauses-lts.InvT-loop
-count-clauses-Inv-loop format kinds longest p d start z₀ fallback₀ ends₀ z fallback ends = ?
+count-clauses-Inv-loop format kinds longest p d start z₀ fallback₀ ends₀ z fallback ends =
+    Gathering format kinds longest d start z fallback ends
 
 abbrev count-clauses-μ-loop : count-clauses-lts.MeasureT-loop
-count-clauses-μ-loop format kinds longest p d start z₀ fallback₀ ends₀ z fallback ends = ?
+count-clauses-μ-loop format kinds longest p d start z₀ fallback₀ ends₀ z fallback ends =
+    length format - z
 
--- src/counting.rt:78:5
 count-clauses-loop-holds : (t : ℕ) → count-clauses-lts.Need-loop-holds (
   count-sequence-below t,
   count-sequence.Post,
@@ -158,9 +192,11 @@ count-clauses-loop-holds : (t : ℕ) → count-clauses-lts.Need-loop-holds (
   close-block-reads.Asked,
   close-block-reads.Learnt,
 ) (count-clauses-at t) count-clauses.Post count-clauses-Inv-loop count-clauses-μ-loop
-count-clauses-loop-holds t c = ?
+count-clauses-loop-holds t c =
+    let args = c .before .before .args in
+    let pre = c .before .before .pre .1 in
+    gather-start (args .format .now) (args .kinds .now) (args .longest) (args .d) (args .start) (pre .1 .0)
 
--- src/counting.rt:79:13
 count-clauses-count-sequence-requires : (t : ℕ) → count-clauses-lts.Need-count-sequence-requires (
   count-sequence-below t,
   count-sequence.Post,
@@ -171,10 +207,12 @@ count-clauses-count-sequence-requires : (t : ℕ) → count-clauses-lts.Need-cou
   close-block-reads.Asked,
   close-block-reads.Learnt,
 ) (count-clauses-at t) count-clauses.Post count-clauses-Inv-loop count-clauses-μ-loop
-count-clauses-count-sequence-requires t c κs = ?
+count-clauses-count-sequence-requires t c κs =
+    let args = c .before .before .before .args in
+    let pre = c .before .before .before .pre .1 in
+    (omega (arith, c .before .before .before .pre .0, c .loop .inv .least), (pre .0, (c .loop .inv .taken, pre .1 .1)))
 
--- src/counting.rt:81:30
-count-clauses-enum-known-c : (t : ℕ) → count-clauses-lts.Need-enum-known-c (
+count-clauses-enum-known-counted : (t : ℕ) → count-clauses-lts.Need-enum-known-counted (
   count-sequence-below t,
   count-sequence.Post,
   meet-reads.Asked,
@@ -184,9 +222,8 @@ count-clauses-enum-known-c : (t : ℕ) → count-clauses-lts.Need-enum-known-c (
   close-block-reads.Asked,
   close-block-reads.Learnt,
 ) (count-clauses-at t) count-clauses.Post count-clauses-Inv-loop count-clauses-μ-loop
-count-clauses-enum-known-c t c = ?
+count-clauses-enum-known-counted t c = search needs
 
--- src/counting.rt:81:50
 count-clauses-returns : (t : ℕ) → count-clauses-lts.Need-returns (
   count-sequence-below t,
   count-sequence.Post,
@@ -197,10 +234,14 @@ count-clauses-returns : (t : ℕ) → count-clauses-lts.Need-returns (
   close-block-reads.Asked,
   close-block-reads.Learnt,
 ) (count-clauses-at t) count-clauses.Post count-clauses-Inv-loop count-clauses-μ-loop
-count-clauses-returns t c = ?
+count-clauses-returns t c =
+    let args = c .before .before .before .before .before .before .before .args in
+    let pre = c .before .before .before .before .before .before .before .pre .1 in
+    gather-fails (c .before .before .before .before .loop .inv) (args .p)
+    (subst (SequenceIs (args .format .now) (args .kinds .now) (args .longest) (c .before .before .before .before .loop .z) (args .start)) (c .before .counted .given .1)
+    (c .before .before .before .count-sequence .ensures))
 
--- src/counting.rt:82:30
-count-clauses-enum-known-c-2 : (t : ℕ) → count-clauses-lts.Need-enum-known-c-2 (
+count-clauses-enum-known-counted-2 : (t : ℕ) → count-clauses-lts.Need-enum-known-counted-2 (
   count-sequence-below t,
   count-sequence.Post,
   meet-reads.Asked,
@@ -210,9 +251,8 @@ count-clauses-enum-known-c-2 : (t : ℕ) → count-clauses-lts.Need-enum-known-c
   close-block-reads.Asked,
   close-block-reads.Learnt,
 ) (count-clauses-at t) count-clauses.Post count-clauses-Inv-loop count-clauses-μ-loop
-count-clauses-enum-known-c-2 t c = ?
+count-clauses-enum-known-counted-2 t c = search needs
 
--- src/counting.rt:83:17
 count-clauses-meet-requires : (t : ℕ) → count-clauses-lts.Need-meet-requires (
   count-sequence-below t,
   count-sequence.Post,
@@ -223,9 +263,8 @@ count-clauses-meet-requires : (t : ℕ) → count-clauses-lts.Need-meet-requires
   close-block-reads.Asked,
   close-block-reads.Learnt,
 ) (count-clauses-at t) count-clauses.Post count-clauses-Inv-loop count-clauses-μ-loop
-count-clauses-meet-requires t c κs = ?
+count-clauses-meet-requires t c κs = search needs
 
--- src/counting.rt:85:49
 count-clauses-enum-known-end : (t : ℕ) → count-clauses-lts.Need-enum-known-end (
   count-sequence-below t,
   count-sequence.Post,
@@ -236,9 +275,8 @@ count-clauses-enum-known-end : (t : ℕ) → count-clauses-lts.Need-enum-known-e
   close-block-reads.Asked,
   close-block-reads.Learnt,
 ) (count-clauses-at t) count-clauses.Post count-clauses-Inv-loop count-clauses-μ-loop
-count-clauses-enum-known-end t c = ?
+count-clauses-enum-known-end t c = search needs
 
--- src/counting.rt:78:5
 count-clauses-loop-less : (t : ℕ) → count-clauses-lts.Need-loop-less (
   count-sequence-below t,
   count-sequence.Post,
@@ -249,9 +287,13 @@ count-clauses-loop-less : (t : ℕ) → count-clauses-lts.Need-loop-less (
   close-block-reads.Asked,
   close-block-reads.Learnt,
 ) (count-clauses-at t) count-clauses.Post count-clauses-Inv-loop count-clauses-μ-loop
-count-clauses-loop-less t c = ?
+count-clauses-loop-less t c =
+    let args = c .before .before .before .before .before .before .before .before .before .before .before .args in
+    let head = c .before .before .before .before .before .before .before .before .loop in
+    let way = walked-by (args .format .now) (args .kinds .now) (args .longest) (head .z) (args .start) (c .before .before .before .before .before .before .before .count-sequence .result)
+        (c .before .before .before .before .before .before .before .count-sequence .ensures) (c .before .before .before .before .before .counted2 .given .1) (c .before .end .given .1) in
+    omega (arith, way .least, way .ends .least, way .ends .most)
 
--- src/counting.rt:78:5
 count-clauses-loop-again : (t : ℕ) → count-clauses-lts.Need-loop-again (
   count-sequence-below t,
   count-sequence.Post,
@@ -262,9 +304,13 @@ count-clauses-loop-again : (t : ℕ) → count-clauses-lts.Need-loop-again (
   close-block-reads.Asked,
   close-block-reads.Learnt,
 ) (count-clauses-at t) count-clauses.Post count-clauses-Inv-loop count-clauses-μ-loop
-count-clauses-loop-again t c = ?
+count-clauses-loop-again t c =
+    let args = c .before .before .before .before .before .before .before .before .before .before .before .args in
+    let head = c .before .before .before .before .before .before .before .before .loop in
+    let way = walked-by (args .format .now) (args .kinds .now) (args .longest) (head .z) (args .start) (c .before .before .before .before .before .before .before .count-sequence .result)
+        (c .before .before .before .before .before .before .before .count-sequence .ensures) (c .before .before .before .before .before .counted2 .given .1) (c .before .end .given .1) in
+    gather-on (head .inv) way (c .before .before .before .meet .result) (c .before .before .before .meet .ensures)
 
--- src/counting.rt:89:52
 count-clauses-enum-known-end-2 : (t : ℕ) → count-clauses-lts.Need-enum-known-end-2 (
   count-sequence-below t,
   count-sequence.Post,
@@ -275,9 +321,8 @@ count-clauses-enum-known-end-2 : (t : ℕ) → count-clauses-lts.Need-enum-known
   close-block-reads.Asked,
   close-block-reads.Learnt,
 ) (count-clauses-at t) count-clauses.Post count-clauses-Inv-loop count-clauses-μ-loop
-count-clauses-enum-known-end-2 t c = ?
+count-clauses-enum-known-end-2 t c = search needs
 
--- src/counting.rt:90:44
 count-clauses-with-none-requires : (t : ℕ) → count-clauses-lts.Need-with-none-requires (
   count-sequence-below t,
   count-sequence.Post,
@@ -288,9 +333,11 @@ count-clauses-with-none-requires : (t : ℕ) → count-clauses-lts.Need-with-non
   close-block-reads.Asked,
   close-block-reads.Learnt,
 ) (count-clauses-at t) count-clauses.Post count-clauses-Inv-loop count-clauses-μ-loop
-count-clauses-with-none-requires t c κs = ?
+count-clauses-with-none-requires t c κs =
+    let args = c .before .before .before .before .before .before .before .before .before .before .before .args in
+    let pre = c .before .before .before .before .before .before .before .before .before .before .before .pre .1 in
+    omega (arith, pre .1 .1, pre .0 .many)
 
--- src/counting.rt:90:25
 count-clauses-close-block-requires : (t : ℕ) → count-clauses-lts.Need-close-block-requires (
   count-sequence-below t,
   count-sequence.Post,
@@ -301,9 +348,8 @@ count-clauses-close-block-requires : (t : ℕ) → count-clauses-lts.Need-close-
   close-block-reads.Asked,
   close-block-reads.Learnt,
 ) (count-clauses-at t) count-clauses.Post count-clauses-Inv-loop count-clauses-μ-loop
-count-clauses-close-block-requires t c κs = ?
+count-clauses-close-block-requires t c κs = search needs
 
--- src/counting.rt:90:25
 count-clauses-returns-2 : (t : ℕ) → count-clauses-lts.Need-returns-2 (
   count-sequence-below t,
   count-sequence.Post,
@@ -314,9 +360,16 @@ count-clauses-returns-2 : (t : ℕ) → count-clauses-lts.Need-returns-2 (
   close-block-reads.Asked,
   close-block-reads.Learnt,
 ) (count-clauses-at t) count-clauses.Post count-clauses-Inv-loop count-clauses-μ-loop
-count-clauses-returns-2 t c = ?
+count-clauses-returns-2 t c =
+    let args = c .before .before .before .before .before .before .before .before .before .before .before .before .before .args in
+    let head = c .before .before .before .before .before .before .before .before .before .before .loop in
+    let way = walked-by (args .format .now) (args .kinds .now) (args .longest) (head .z) (args .start) (c .before .before .before .before .before .before .before .before .before .count-sequence .result)
+        (c .before .before .before .before .before .before .before .before .before .count-sequence .ensures) (c .before .before .before .before .before .before .before .counted2 .given .1) (c .before .before .before .end2 .given .1) in
+    subst (ClausesAre (args .format .now) (args .kinds .now) (args .longest) (args .p) (args .d) (args .start))
+    (sym (c .close-block .ensures))
+    (gather-last (head .inv) way (args .p) (c .before .with-none .result)
+    (c .before .with-none .ensures ∙ ap (withNone (args .d) (head .fallback) (args .start)) (c .before .before .before .before .before .meet .ensures)))
 
--- src/counting.rt:121:9
 count-element-item-at-requires : (t : ℕ) → count-element-lts.Need-item-at-requires (
   item-at-reads.Asked,
   item-at-reads.Learnt,
@@ -327,9 +380,8 @@ count-element-item-at-requires : (t : ℕ) → count-element-lts.Need-item-at-re
   count-block-below t,
   count-block.Post,
 ) (count-element-at t) count-element.Post
-count-element-item-at-requires t c κs = ?
+count-element-item-at-requires t c κs = search needs
 
--- src/counting.rt:126:20
 count-element-enum-told : (t : ℕ) → count-element-lts.Need-enum-told (
   item-at-reads.Asked,
   item-at-reads.Learnt,
@@ -340,9 +392,8 @@ count-element-enum-told : (t : ℕ) → count-element-lts.Need-enum-told (
   count-block-below t,
   count-block.Post,
 ) (count-element-at t) count-element.Post
-count-element-enum-told t c = ?
+count-element-enum-told t c = search needs
 
--- src/counting.rt:126:20
 count-element-add-t11 : (t : ℕ) → count-element-lts.Need-add-t11 (
   item-at-reads.Asked,
   item-at-reads.Learnt,
@@ -353,9 +404,11 @@ count-element-add-t11 : (t : ℕ) → count-element-lts.Need-add-t11 (
   count-block-below t,
   count-block.Post,
 ) (count-element-at t) count-element.Post
-count-element-add-t11 t c = ?
+count-element-add-t11 t c =
+    let args = c .before .before .before .before .before .args in
+    let pre = c .before .before .before .before .before .pre .1 in
+    omega (arith, stands (args .format .now) (args .p) (Literal _) (sym (c .before .before .item-at .ensures) ∙ c .enum-told .given .1), c .before .before .before .before .before .good)
 
--- src/counting.rt:128:23
 count-element-enum-known-item : (t : ℕ) → count-element-lts.Need-enum-known-item (
   item-at-reads.Asked,
   item-at-reads.Learnt,
@@ -366,9 +419,8 @@ count-element-enum-known-item : (t : ℕ) → count-element-lts.Need-enum-known-
   count-block-below t,
   count-block.Post,
 ) (count-element-at t) count-element.Post
-count-element-enum-known-item t c = ?
+count-element-enum-known-item t c = search needs
 
--- src/counting.rt:131:30
 count-element-enum-known-code : (t : ℕ) → count-element-lts.Need-enum-known-code (
   item-at-reads.Asked,
   item-at-reads.Learnt,
@@ -379,9 +431,8 @@ count-element-enum-known-code : (t : ℕ) → count-element-lts.Need-enum-known-
   count-block-below t,
   count-block.Post,
 ) (count-element-at t) count-element.Post
-count-element-enum-known-code t c = ?
+count-element-enum-known-code t c = search needs
 
--- src/counting.rt:131:50
 count-element-turn-form-requires : (t : ℕ) → count-element-lts.Need-turn-form-requires (
   item-at-reads.Asked,
   item-at-reads.Learnt,
@@ -392,9 +443,12 @@ count-element-turn-form-requires : (t : ℕ) → count-element-lts.Need-turn-for
   count-block-below t,
   count-block.Post,
 ) (count-element-at t) count-element.Post
-count-element-turn-form-requires t c κs = ?
+count-element-turn-form-requires t c κs =
+    let args = c .before .before .before .before .before .before .before .before .before .args in
+    let pre = c .before .before .before .before .before .before .before .before .before .pre .1 in
+    let is = sym (c .before .before .before .before .before .before .item-at .ensures) ∙ c .before .before .before .before .item .given .1 in
+    (writing-of _ (taken-writes (pre .1 .0) _ is _ (c .before .code .given .1)) _ (c .before .code .given .1), (pre .0, pre .1 .1))
 
--- src/counting.rt:131:39
 count-element-element-by-requires : (t : ℕ) → count-element-lts.Need-element-by-requires (
   item-at-reads.Asked,
   item-at-reads.Learnt,
@@ -405,9 +459,8 @@ count-element-element-by-requires : (t : ℕ) → count-element-lts.Need-element
   count-block-below t,
   count-block.Post,
 ) (count-element-at t) count-element.Post
-count-element-element-by-requires t c κs = ?
+count-element-element-by-requires t c κs = search needs
 
--- src/counting.rt:132:35
 count-element-enum-told-2 : (t : ℕ) → count-element-lts.Need-enum-told-2 (
   item-at-reads.Asked,
   item-at-reads.Learnt,
@@ -418,9 +471,8 @@ count-element-enum-told-2 : (t : ℕ) → count-element-lts.Need-enum-told-2 (
   count-block-below t,
   count-block.Post,
 ) (count-element-at t) count-element.Post
-count-element-enum-told-2 t c = ?
+count-element-enum-told-2 t c = search needs
 
--- src/counting.rt:132:35
 count-element-count-block-requires : (t : ℕ) → count-element-lts.Need-count-block-requires (
   item-at-reads.Asked,
   item-at-reads.Learnt,
@@ -431,9 +483,16 @@ count-element-count-block-requires : (t : ℕ) → count-element-lts.Need-count-
   count-block-below t,
   count-block.Post,
 ) (count-element-at t) count-element.Post
-count-element-count-block-requires t c κs = ?
+count-element-count-block-requires t c κs =
+    let args = c .before .before .before .before .before .before .before .before .args in
+    let pre = c .before .before .before .before .before .before .before .before .pre .1 in
+    let is = sym (c .before .before .before .before .before .item-at .ensures) ∙ c .before .before .before .item .given .1 in
+    let inside = next-inside (args .format .now) (args .p) _ is in
+    (
+      omega (arith, c .before .before .before .before .before .before .before .before .pre .0, inside .above, inside .most),
+      (pre .0, (pre .1 .0, (is, (taken-opens (pre .1 .0) _ is _ (c .enum-told2 .given .1), pre .1 .1)))),
+    )
 
--- src/counting.rt:133:50
 count-element-enum-told-3 : (t : ℕ) → count-element-lts.Need-enum-told-3 (
   item-at-reads.Asked,
   item-at-reads.Learnt,
@@ -444,9 +503,8 @@ count-element-enum-told-3 : (t : ℕ) → count-element-lts.Need-enum-told-3 (
   count-block-below t,
   count-block.Post,
 ) (count-element-at t) count-element.Post
-count-element-enum-told-3 t c = ?
+count-element-enum-told-3 t c = search needs
 
--- src/counting.rt:115:1
 count-element-returns : (t : ℕ) → count-element-lts.Need-returns (
   item-at-reads.Asked,
   item-at-reads.Learnt,
@@ -457,9 +515,11 @@ count-element-returns : (t : ℕ) → count-element-lts.Need-returns (
   count-block-below t,
   count-block.Post,
 ) (count-element-at t) count-element.Post
-count-element-returns t c = ?
+count-element-returns t c =
+    let args = c .before .before .before .before .before .args in
+    let pre = c .before .before .before .before .before .pre .1 in
+    literal-is (args .format .now) (args .kinds .now) (args .longest) (args .p) (args .next) (pre .1 .0) (pre .0) (pre .1 .1) _ (sym (c .before .before .item-at .ensures) ∙ c .enum-told .given .1)
 
--- src/counting.rt:115:1
 count-element-returns-2 : (t : ℕ) → count-element-lts.Need-returns-2 (
   item-at-reads.Asked,
   item-at-reads.Learnt,
@@ -470,9 +530,12 @@ count-element-returns-2 : (t : ℕ) → count-element-lts.Need-returns-2 (
   count-block-below t,
   count-block.Post,
 ) (count-element-at t) count-element.Post
-count-element-returns-2 t c = ?
+count-element-returns-2 t c =
+    let args = c .before .before .before .before .before .before .before .before .before .before .before .args in
+    let pre = c .before .before .before .before .before .before .before .before .before .before .before .pre .1 in
+    writes-is (args .format .now) (args .kinds .now) (args .longest) (args .p) (args .next) (pre .1 .0) (pre .0) (pre .1 .1) _ (sym (c .before .before .before .before .before .before .before .before .item-at .ensures) ∙ c .before .before .before .before .before .before .item .given .1) _ (c .before .before .before .code .given .1)
+    (c .before .turn-form .result) (c .before .turn-form .ensures) (c .element-by .result) (c .element-by .ensures)
 
--- src/counting.rt:115:1
 count-element-returns-3 : (t : ℕ) → count-element-lts.Need-returns-3 (
   item-at-reads.Asked,
   item-at-reads.Learnt,
@@ -483,9 +546,9 @@ count-element-returns-3 : (t : ℕ) → count-element-lts.Need-returns-3 (
   count-block-below t,
   count-block.Post,
 ) (count-element-at t) count-element.Post
-count-element-returns-3 t c = ?
+count-element-returns-3 t c =
+    c .count-block .ensures
 
--- src/counting.rt:115:1
 count-element-returns-4 : (t : ℕ) → count-element-lts.Need-returns-4 (
   item-at-reads.Asked,
   item-at-reads.Learnt,
@@ -496,9 +559,11 @@ count-element-returns-4 : (t : ℕ) → count-element-lts.Need-returns-4 (
   count-block-below t,
   count-block.Post,
 ) (count-element-at t) count-element.Post
-count-element-returns-4 t c = ?
+count-element-returns-4 t c =
+    let args = c .before .before .before .before .before .before .before .before .args in
+    let pre = c .before .before .before .before .before .before .before .before .pre .1 in
+    separator-is (args .format .now) (args .kinds .now) (args .longest) (args .p) (args .next) (pre .1 .0) (pre .0) (pre .1 .1) _ (sym (c .before .before .before .before .before .item-at .ensures) ∙ c .before .before .before .item .given .1) (c .enum-told3 .given .1)
 
--- src/counting.rt:115:1
 count-element-returns-5 : (t : ℕ) → count-element-lts.Need-returns-5 (
   item-at-reads.Asked,
   item-at-reads.Learnt,
@@ -509,9 +574,11 @@ count-element-returns-5 : (t : ℕ) → count-element-lts.Need-returns-5 (
   count-block-below t,
   count-block.Post,
 ) (count-element-at t) count-element.Post
-count-element-returns-5 t c = ?
+count-element-returns-5 t c =
+    let args = c .before .before .before .before .before .before .before .args in
+    let pre = c .before .before .before .before .before .before .before .pre .1 in
+    closer-is (args .format .now) (args .kinds .now) (args .longest) (args .p) (args .next) (pre .1 .0) (pre .0) (pre .1 .1) _ (sym (c .before .before .before .before .item-at .ensures) ∙ c .before .before .item .given .1) _ refl (c .match2 .keys4)
 
--- src/counting.rt:115:1
 count-element-returns-6 : (t : ℕ) → count-element-lts.Need-returns-6 (
   item-at-reads.Asked,
   item-at-reads.Learnt,
@@ -522,83 +589,109 @@ count-element-returns-6 : (t : ℕ) → count-element-lts.Need-returns-6 (
   count-block-below t,
   count-block.Post,
 ) (count-element-at t) count-element.Post
-count-element-returns-6 t c = ?
+count-element-returns-6 t c =
+    let args = c .before .before .before .before .args in
+    let pre = c .before .before .before .before .pre .1 in
+    end-is (args .format .now) (args .kinds .now) (args .longest) (args .p) (args .next) (pre .1 .0) (pre .0) (pre .1 .1) (c .before .item-at .result) (sym (c .before .item-at .ensures)) (c .match .keys3)
 
 abbrev count-sequence-Inv-loop : count-sequence-lts.InvT-loop
-count-sequence-Inv-loop format kinds longest start first p₀ next₀ sum₀ p next sum = ?
+count-sequence-Inv-loop format kinds longest start first p₀ next₀ sum₀ p next sum =
+    Walking format kinds longest start first p next sum
 
 abbrev count-sequence-μ-loop : count-sequence-lts.MeasureT-loop
-count-sequence-μ-loop format kinds longest start first p₀ next₀ sum₀ p next sum = ?
+count-sequence-μ-loop format kinds longest start first p₀ next₀ sum₀ p next sum =
+    length format - p
 
--- src/counting.rt:158:5
 count-sequence-loop-holds : (t : ℕ) → count-sequence-lts.Need-loop-holds (
   count-element-below t,
   count-element.Post,
 ) (count-sequence-at t) count-sequence.Post count-sequence-Inv-loop count-sequence-μ-loop
-count-sequence-loop-holds t c = ?
+count-sequence-loop-holds t c =
+    let args = c .before .before .args in
+    let pre = c .before .before .pre .1 in
+    walk-start (args .format .now) (args .kinds .now) (args .longest) (args .start) (args .first) (pre .1 .0) (pre .1 .1)
 
--- src/counting.rt:159:13
 count-sequence-count-element-requires : (t : ℕ) → count-sequence-lts.Need-count-element-requires (
   count-element-below t,
   count-element.Post,
 ) (count-sequence-at t) count-sequence.Post count-sequence-Inv-loop count-sequence-μ-loop
-count-sequence-count-element-requires t c κs = ?
+count-sequence-count-element-requires t c κs =
+    let args = c .before .before .before .args in
+    let pre = c .before .before .before .pre .1 in
+    (omega (arith, c .before .before .before .pre .0, c .loop .inv .least), (pre .0, (c .loop .inv .taken, c .loop .inv .reached)))
 
--- src/counting.rt:161:30
 count-sequence-enum-known-e : (t : ℕ) → count-sequence-lts.Need-enum-known-e (
   count-element-below t,
   count-element.Post,
 ) (count-sequence-at t) count-sequence.Post count-sequence-Inv-loop count-sequence-μ-loop
-count-sequence-enum-known-e t c = ?
+count-sequence-enum-known-e t c = search needs
 
--- src/counting.rt:161:50
 count-sequence-returns : (t : ℕ) → count-sequence-lts.Need-returns (
   count-element-below t,
   count-element.Post,
 ) (count-sequence-at t) count-sequence.Post count-sequence-Inv-loop count-sequence-μ-loop
-count-sequence-returns t c = ?
+count-sequence-returns t c =
+    let args = c .before .before .before .before .before .before .before .args in
+    let head = c .before .before .before .before .loop in
+    let element = subst (ElementIs (args .format .now) (args .kinds .now) (args .longest) (head .p) (head .next)) (c .before .e .given .1)
+        (c .before .before .before .count-element .ensures) in
+    walk-fails (head .inv) element
 
--- src/counting.rt:162:27
 count-sequence-enum-known-e-2 : (t : ℕ) → count-sequence-lts.Need-enum-known-e-2 (
   count-element-below t,
   count-element.Post,
 ) (count-sequence-at t) count-sequence.Post count-sequence-Inv-loop count-sequence-μ-loop
-count-sequence-enum-known-e-2 t c = ?
+count-sequence-enum-known-e-2 t c = search needs
 
--- src/counting.rt:163:17
 count-sequence-returns-2 : (t : ℕ) → count-sequence-lts.Need-returns-2 (
   count-element-below t,
   count-element.Post,
 ) (count-sequence-at t) count-sequence.Post count-sequence-Inv-loop count-sequence-μ-loop
-count-sequence-returns-2 t c = ?
+count-sequence-returns-2 t c =
+    let args = c .before .before .before .before .before .before .before .args in
+    let head = c .before .before .before .before .loop in
+    let element = subst (ElementIs (args .format .now) (args .kinds .now) (args .longest) (head .p) (head .next)) (c .before .e2 .given .1)
+        (c .before .before .before .count-element .ensures) in
+    walk-ends (head .inv) _ element
 
--- src/counting.rt:170:23
 count-sequence-enum-known-e-3 : (t : ℕ) → count-sequence-lts.Need-enum-known-e-3 (
   count-element-below t,
   count-element.Post,
 ) (count-sequence-at t) count-sequence.Post count-sequence-Inv-loop count-sequence-μ-loop
-count-sequence-enum-known-e-3 t c = ?
+count-sequence-enum-known-e-3 t c = search needs
 
--- src/counting.rt:175:17
 count-sequence-add-sum : (t : ℕ) → count-sequence-lts.Need-add-sum (
   count-element-below t,
   count-element.Post,
 ) (count-sequence-at t) count-sequence.Post count-sequence-Inv-loop count-sequence-μ-loop
-count-sequence-add-sum t c = ?
+count-sequence-add-sum t c =
+    let args = c .before .before .before .before .before .before .before .args in
+    let head = c .before .before .before .before .loop in
+    let element = subst (ElementIs (args .format .now) (args .kinds .now) (args .longest) (head .p) (head .next)) (c .before .e3 .given .1)
+        (c .before .before .before .count-element .ensures) in
+    omega (arith, walk-small (head .inv) element)
 
--- src/counting.rt:158:5
 count-sequence-loop-less : (t : ℕ) → count-sequence-lts.Need-loop-less (
   count-element-below t,
   count-element.Post,
 ) (count-sequence-at t) count-sequence.Post count-sequence-Inv-loop count-sequence-μ-loop
-count-sequence-loop-less t c = ?
+count-sequence-loop-less t c =
+    let args = c .before .before .before .before .before .before .before .args in
+    let head = c .before .before .before .before .loop in
+    let element = subst (ElementIs (args .format .now) (args .kinds .now) (args .longest) (head .p) (head .next)) (c .before .e3 .given .1)
+        (c .before .before .before .count-element .ensures) in
+    omega (arith, element .ahead, element .reaches .taken .inside)
 
--- src/counting.rt:158:5
 count-sequence-loop-again : (t : ℕ) → count-sequence-lts.Need-loop-again (
   count-element-below t,
   count-element.Post,
 ) (count-sequence-at t) count-sequence.Post count-sequence-Inv-loop count-sequence-μ-loop
-count-sequence-loop-again t c = ?
+count-sequence-loop-again t c =
+    let args = c .before .before .before .before .before .before .before .args in
+    let head = c .before .before .before .before .loop in
+    let element = subst (ElementIs (args .format .now) (args .kinds .now) (args .longest) (head .p) (head .next)) (c .before .e3 .given .1)
+        (c .before .before .before .count-element .ensures) in
+    walk-on (head .inv) element
 
 pub +count-block+count-clauses+count-element+count-sequence-spec : {M : Type 1} → statement M
 +count-block+count-clauses+count-element+count-sequence-spec =
@@ -637,9 +730,9 @@ pub +count-block+count-clauses+count-element+count-sequence-spec : {M : Type 1} 
     count-clauses-μ-loop
     (count-clauses-loop-holds t)
     (count-clauses-count-sequence-requires t)
-    (count-clauses-enum-known-c t)
+    (count-clauses-enum-known-counted t)
     (count-clauses-returns t)
-    (count-clauses-enum-known-c-2 t)
+    (count-clauses-enum-known-counted-2 t)
     (count-clauses-meet-requires t)
     (count-clauses-enum-known-end t)
     (count-clauses-loop-less t)
