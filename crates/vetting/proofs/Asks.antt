@@ -16,6 +16,8 @@ use Rattle.rules.specs.declared.Verdict.the-variants.{Accepted, Refused}
 use Rattle.vet.specs.Plain.{takenVerdict}
 use Rattle.vet.specs.Vet.{knownTags, mayAsk, askedVerdict, declined, unlessDeclined, runAnswer, vetOf}
 use Rattle.vet.specs.declared.Vetted.{Vetted}
+use Rattle.vet.specs.Demand.{Promised}
+use Rattle.vet.proofs.Promise.{promised}
 
 -- kinds of which the first i are known
 pub record KnownTo (kinds : List ℕ) (i : ℕ) : Type 0 where
@@ -84,3 +86,8 @@ module _ (format kinds : List ℕ) (longest : ℕ) where
 
       pub ran : takenVerdict format ≡ Accepted → runAnswer format kinds longest ≡ vetOf format kinds longest
       ran e = sym (read ∙ ap (λ (x : Verdict). unlessDeclined x counting) e)
+
+-- the definition's answer keeps every promise
+pub keeps : (format kinds : List ℕ) (longest : ℕ) {r : Vetted} → r ≡ vetOf format kinds longest
+    → Promised format kinds longest r
+keeps format kinds longest e = rw e (promised format kinds longest)

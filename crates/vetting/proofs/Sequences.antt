@@ -8,9 +8,12 @@ use Rattle.rules.specs.Text.{Sequence, innermost, outer, levelsAt}
 use Rattle.checking.specs.Ends.{ClauseAt, EndsClause}
 use Rattle.checking.specs.declared.ends.ClauseEnd.{ClauseEnd}
 use Rattle.checking.specs.declared.ends.ClauseEnd.the-variants.{Last, Another}
-use Rattle.vet.specs.Ways.{leads, fails, wayOf}
+use Rattle.vet.specs.Ways.{fails, wayOf}
 use Rattle.vet.proofs.Sizes.{mostPiece}
-use Rattle.vetting.specs.Counting.{TakenAt, stopOf, wayAt, Onward, AtEnd, Walked}
+use Rattle.vet.specs.Vet.{declined, counted, answerBy, runAnswer}
+use Rattle.vetting.specs.Counting.{TakenAt, stopOf, wayAt, Onward, AtEnd, Walked, SequenceIs}
+use Rattle.vetting.specs.declared.counting.Counted.{Counted}
+use Rattle.vetting.specs.declared.counting.Counted.the-variants.{Leads, Fails}
 
 -- from `start` with the argument `first` on, the elements before p are counted: `sum` bytes at the most, and the argument
 -- `next` comes next
@@ -73,3 +76,11 @@ module _ {t kinds : List ℕ} {longest start first p next sum : ℕ} (w : Walkin
     small = subst (λ (q : ℕ). sum ≤ mostPiece * (q - start)) (sym (a .here)) (w .small);
     taken = a .taken;
   }
+
+-- the whole text, from the first argument on
+module _ (t kinds : List ℕ) (longest : ℕ) (r : Counted) (s : SequenceIs t kinds longest 0 0 r) where
+  pub answer-fails : {code position : ℕ} → r ≡ Fails code position → declined code position ≡ runAnswer t kinds longest
+  answer-fails e = sym (ap answerBy (subst (SequenceIs t kinds longest 0 0) e s))
+
+  pub answer-leads : {next size : ℕ} {end : ClauseEnd} → r ≡ Leads next size end → counted size ≡ runAnswer t kinds longest
+  answer-leads e = sym (ap answerBy (subst (SequenceIs t kinds longest 0 0) e s .way))

@@ -17,7 +17,7 @@ count-format-requires c κs =
     let args = c .before .before .before .before .before .args in
     let pre = c .before .before .before .before .before .pre in
     let check-taken = c .before .before .check-taken in
-    (asked-of (args .kinds .now) (args .longest) (pre .0), pre .1, sym (check-taken .ensures) ∙ (c .enum-told .given .1))
+    (asked-of (args .kinds .now) (args .longest) (pre .0), (pre .1, sym (check-taken .ensures) ∙ (c .enum-told .given .1)))
 
 enum-known-taken : tie.Need-enum-known-taken
 enum-known-taken c = search needs
