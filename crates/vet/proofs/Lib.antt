@@ -15,6 +15,7 @@ pub mod Padding
 pub mod Picks
 pub mod PlainRun
 pub mod PlainVet
+pub mod Reached
 pub mod Settling
 pub mod Sizes
 pub mod Stages
@@ -23,6 +24,7 @@ pub mod Taken
 pub mod TurnLaws
 pub mod Uses
 pub mod Values
+pub mod WayRuns
 pub mod Weights
 pub mod Witness
 pub mod WorstLaws

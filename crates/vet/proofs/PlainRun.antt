@@ -100,7 +100,7 @@ module _ (v : View) (count : ℕ) where
   settled-same p m d f from on (unsettled code) = refl
 
   -- one item
-  item-same : (p m : ℕ) (x : Item) (next : ℕ) (on : ℕ → Flow) → Ordinary x
+  pub item-same : (p m : ℕ) (x : Item) (next : ℕ) (on : ℕ → Flow) → Ordinary x
       → itemActs v p m x (inHand count next) on ≡ flowBy p m (useOf count x next) on
   unfolding itemActs useOf
   item-same p m End next on o = absurd o
@@ -122,7 +122,7 @@ module _ (v : View) (count : ℕ) where
   item-same p m Unfinished next on o = absurd o
 
   -- an ordinary item opens and closes nothing
-  before-ordinary : (p : ℕ) (x : Item) (ls : List Level) → Ordinary x
+  pub before-ordinary : (p : ℕ) (x : Item) (ls : List Level) → Ordinary x
       → innermost (itemBefore p x ls) .rest ≡ acts p x (innermost ls .rest)
   before-ordinary p End ls o = absurd o
   before-ordinary p (Literal b) ls o = refl
