@@ -5,6 +5,7 @@ pub mod Choices
 pub mod Clauses
 pub mod Codes
 pub mod Encoded
+pub mod Enough
 pub mod Filled
 pub mod Items
 pub mod Lengths
@@ -15,6 +16,7 @@ pub mod Padding
 pub mod Picks
 pub mod PlainRun
 pub mod PlainVet
+pub mod PlainWays
 pub mod Reached
 pub mod Settling
 pub mod Sizes

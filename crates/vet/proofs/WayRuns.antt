@@ -24,7 +24,7 @@ use Rattle.vet.specs.declared.Turn.{Turn}
 use Rattle.vet.specs.declared.Turn.the-variants.{Goes, Stops}
 use Rattle.vet.proofs.Clauses.{Each, each-on}
 use Rattle.vet.proofs.Lengths.{piece-bound}
-use Rattle.vet.proofs.Meetings.{Grows, Led, Met, AllMet, led-on, NoneEnds, ways-met, none-met}
+use Rattle.vet.proofs.Meetings.{Grows, Led, Met, AllMet, led-on, NoneEnds, clauses-met, none-met}
 use Rattle.vet.proofs.Ordinary.{Ordinary}
 use Rattle.vet.proofs.Picks.{Begun, Any, picks}
 use Rattle.vet.proofs.PlainRun.{valueIn, flowBy, item-same}
@@ -116,7 +116,7 @@ module _ (kinds : List ℕ) (longest : ℕ) (v : View)
 
     -- what is known where the ways meet
     abbrev Clear : ℕ → ℕ → ℕ → Type 0
-    Clear start n s = (Unit {0} × Each (λ x. Runs v count k most x start 0 n s) cs) × NoneEnds d (hasFallback cs) start n
+    Clear start n s = Each (λ x. Runs v count k most x start 0 n s) cs × NoneEnds d (hasFallback cs) start n
 
     -- whatever the values, it picks a way that is clear
     abbrev Starts : ℕ → Type 1
@@ -135,7 +135,7 @@ module _ (kinds : List ℕ) (longest : ℕ) (v : View)
         let nothing : P (on end a) = reached-end v count m inside (m - most) 0 a c (omega arith) (omega arith) in
         let one = starts m on P (record {
           each =
-              each-on (λ x. Runs v count k most x start 0 a c) (λ x. P (on x start)) (λ x r. r inside (omega arith) m (omega arith)) cs (clear .0 .1);
+              each-on (λ x. Runs v count k most x start 0 a c) (λ x. P (on x start)) (λ x r. r inside (omega arith) m (omega arith)) cs (clear .0);
           boolean = λ q r. rw (clear .1 .boolean q r) nothing;
           number = λ q r t. rw (clear .1 .number q r t) nothing;
         }) in
@@ -147,12 +147,12 @@ module _ (kinds : List ℕ) (longest : ℕ) (v : View)
     Goal w = Led (Runs v count (suc k) (weight (chooses p d cs rest)) (chooses p d cs rest) next sum) w
 
     abbrev Together : ℕ → ℕ → ℕ → Type 0
-    Together start n s = Unit {0} × Each (λ x. Runs v count k most x start 0 n s) cs
+    Together start n s = Each (λ x. Runs v count k most x start 0 n s) cs
 
     together-grows : (start : ℕ) → Grows (Together start)
     together-grows start n s more l r =
-        (tt, each-on (λ x. Runs v count k most x start 0 n s) (λ x. Runs v count k most x start 0 n more)
-        (λ x r ks g left t. reached-weaker v count (omega arith) (omega arith) l (r ks g left t)) cs (r .1))
+        each-on (λ x. Runs v count k most x start 0 n s) (λ x. Runs v count k most x start 0 n more)
+        (λ x r ks g left t. reached-weaker v count (omega arith) (omega arith) l (r ks g left t)) cs r
 
     by-ends : (start z : ℕ) → Starts start → (e : Ends) → Met (Clear start) e
         → Goal (onEnds p e (λ n size. wayOf kinds longest rest n (sum + z + size)))
@@ -180,9 +180,9 @@ module _ (kinds : List ℕ) (longest : ℕ) (v : View)
         (λ n size. wayOf kinds longest rest n (sum₂ + size))))
     by-start (Goes start z) starts =
         by-ways start z starts (waysOf kinds longest cs start Nowhere)
-        (ways-met kinds longest start (λ x. Runs v count k most x start 0)
+        (clauses-met kinds longest start (λ x. Runs v count k most x start 0)
         (λ x n s more l r ks g left t. reached-weaker v count (omega arith) (omega arith) l (r ks g left t)) cs
-        (clauses-walk k most start cs (omega arith) walks) (λ _ _. Unit {0}) (λ n s more l h. h) Nowhere (λ _ _. tt))
+        (clauses-walk k most start cs (omega arith) walks))
     by-start (Stops code) starts = tt
 
   chooses-walks : (k p : ℕ) (d : Directive) (cs : Clauses) (rest : Sequence) → Choosing d cs → Each (Walks k) cs
