@@ -14,6 +14,7 @@ pub mod Meetings
 pub mod Ordinary
 pub mod Padding
 pub mod Picks
+pub mod PieceSizes
 pub mod PlainRun
 pub mod PlainVet
 pub mod PlainWays

@@ -16,7 +16,6 @@ use Rattle.rules.specs.declared.Verdict.the-variants.{Accepted, Refused}
 use Rattle.rules.proofs.Tests.{both-true, true-both, not-both-ways}
 use Rattle.vet.specs.Plain.{plainCode, noneNext, plainItem, plainFrom, plainVerdict, takenVerdict}
 use Rattle.vet.specs.Turns.{turnOf}
-use Rattle.vet.specs.Use.{noEntries}
 use Rattle.vet.specs.Vet.{askedVerdict, unlessDeclined, answerBy, runAnswer, vetOf}
 use Rattle.vet.specs.Ways.{Way, onTurn, wayOf}
 use Rattle.vet.specs.declared.Turn.{Turn}
@@ -70,11 +69,10 @@ module _ (kinds : List ℕ) (longest : ℕ) where
   unfolding wayOf vetFrom levelsOf
   items-way [] o next sum = refl
   items-way (x ∷ xs) o next sum =
-      ap (λ (y : Sequence). answerBy (wayOf kinds longest y next sum))
-      (before-ordinary noEntries 0 (x .at) (x .item) (levelsOf xs) (o .0))
-      ∙ same-turn (x .at) (turnOf kinds longest (x .item) next) sum
+      rw (before-ordinary (x .at) (x .item) (levelsOf xs) (o .0))
+      (same-turn (x .at) (turnOf kinds longest (x .item) next) sum
       (λ n s. wayOf kinds longest (innermost (levelsOf xs) .rest) n s) (λ n s. vetFrom kinds longest xs n s)
-      (items-way xs (o .1))
+      (items-way xs (o .1)))
 
 module _ (format kinds : List ℕ) (longest : ℕ) (plain : plainVerdict format ≡ Accepted) where
   pub plain-answer : textVerdict format ≡ Accepted
