@@ -1,6 +1,7 @@
 pub mod Before
 pub mod Below
 pub mod Bound
+pub mod Causes
 pub mod Choices
 pub mod Clauses
 pub mod Codes
