@@ -1,6 +1,5 @@
 pub mod Before
 pub mod Below
-pub mod Bound
 pub mod Causes
 pub mod Choices
 pub mod Clauses
@@ -16,9 +15,12 @@ pub mod Ordinary
 pub mod Padding
 pub mod Picks
 pub mod PieceSizes
+pub mod PlainEnds
+pub mod PlainPromise
 pub mod PlainRun
 pub mod PlainVet
 pub mod PlainWays
+pub mod Promise
 pub mod Reached
 pub mod Settling
 pub mod Sizes

@@ -35,6 +35,10 @@ pub record Opener (d : Directive) : Type 0 where
 abbrev pub Reason : ℕ → Type 0
 Reason code = ((6 ≤ code) × (code ≤ 8)) ⊎ (code ≡ 11)
 
+pub reason-range : {code : ℕ} → Reason code → (6 ≤ code) × (code ≤ 11)
+reason-range (inl h) = (h .0, omega arith)
+reason-range (inr e) = (omega arith, omega arith)
+
 abbrev pub Started : ℕ → Turn → Type 0
 Started count (Goes start size) = (start ≤ count) × (size ≡ 0)
 Started count (Stops code) = Reason code

@@ -58,8 +58,8 @@ module _ (kinds : List ℕ) (longest : ℕ) (v : View)
     piece-walks w after most sum h is =
         led-on (Runs v count k (weight rest) rest after (sum + most)) (Runs v count k (suc (weight rest)) (acts p x rest) next sum)
         (λ n s r ks d left l. (
-          let e : left - suc (weight rest) ≡ left - 1 - weight rest = omega arith in
-          rw (is ks left l, e) (reached-piece v count p (left - 1) w sum most h (r ks d (left - 1) (omega arith)))))
+        let e : left - suc (weight rest) ≡ left - 1 - weight rest = omega arith in
+        rw (is ks left l, e) (reached-piece v count p (left - 1) w sum most h (r ks d (left - 1) (omega arith)))))
         (wayOf kinds longest rest after (sum + most)) (walk after (sum + most))
 
     use-walks : (u : Use) → Within count next u → Gives (λ m on. flowBy v count p m u on) → (sum : ℕ)
@@ -103,10 +103,12 @@ module _ (kinds : List ℕ) (longest : ℕ) (v : View)
       → Each (λ x. Led (Runs v count k most x start 0) (wayOf kinds longest x start 0)) cs
   unfolding weight
   clauses-walk k most start none h a = tt
-  clauses-walk k most start (clause colon x more) h a =
-      (led-on (Runs v count k (weight x) x start 0) (Runs v count k most x start 0)
-      (λ n s r ks d left l. reached-weaker v count (omega arith) (omega arith) (omega arith) (r ks d left (omega arith)))
-      (wayOf kinds longest x start 0) (a .0 start 0), clauses-walk k most start more (omega arith) (a .1))
+  clauses-walk k most start (clause colon x more) h a = (
+    led-on (Runs v count k (weight x) x start 0) (Runs v count k most x start 0)
+        (λ n s r ks d left l. reached-weaker v count (omega arith) (omega arith) (omega arith) (r ks d left (omega arith)))
+        (wayOf kinds longest x start 0) (a .0 start 0),
+    clauses-walk k most start more (omega arith) (a .1),
+  )
 
   -- a conditional and what follows it
   module _ (k p : ℕ) (d : Directive) (cs : Clauses) (rest : Sequence) (b : Choosing d cs) (walks : Each (Walks k) cs)
@@ -194,6 +196,7 @@ module _ (kinds : List ℕ) (longest : ℕ) (v : View)
 
   mutual
     unfolding Taken wayOf weight
+
     pub sequence-walks : (x : Sequence) (k : ℕ) → Taken k x → Walks k x
     sequence-walks end k t = λ next sum ks h left l. reached-end v count left ks (left - 0) sum next sum (omega arith) (omega arith)
     sequence-walks (acts p x rest) k t = acts-walks k p x rest (t .0) (sequence-walks rest k (t .1))
