@@ -1,23 +1,21 @@
 -- For a format that a vet accepts, no table of those kinds is refused in a buffer of the count or larger. Assumes nothing.
 use Prim.Native.Nat.{ℕ, _-_, _≤_}
-use mathlib.Core.Path.{_≡_, refl, ap, _∙_, subst}
-use mathlib.Core.List.{List, [], _++_, append-nil}
+use mathlib.Core.Path.{_≡_, ap, _∙_, subst}
+use mathlib.Core.List.{List, [], append-nil}
 use native.Mathlib.Omega.{arith}
 use lib.ListN.{length}
 use Rattle.rules.specs.Answer.{limit, answerOf}
-use Rattle.rules.specs.Flow.{Flow, givenText, finishOf}
-use Rattle.rules.specs.Piece.{kindOf}
+use Rattle.rules.specs.Flow.{givenText, finishOf}
 use Rattle.rules.specs.Run.{doneWith, run}
 use Rattle.rules.specs.Table.{View, viewOf}
 use Rattle.rules.specs.Text.{end, deepest, sequenceOf, textVerdict}
 use Rattle.rules.specs.declared.Verdict.the-variants.{Accepted}
 use Rattle.rules.proofs.FlowLaws.{stretch-text, stretch-finish, finished, fit-all}
 use Rattle.rules.proofs.RunLaws.{run-done}
-use Rattle.rules.proofs.ViewLaws.{view-arguments}
 use Rattle.vet.specs.Demand.{Suits, runOf, Enough}
 use Rattle.vet.specs.Plain.{takenVerdict}
 use Rattle.vet.specs.Use.{inHand}
-use Rattle.vet.specs.Ways.{Way, leads, wayOf}
+use Rattle.vet.specs.Ways.{leads, wayOf}
 use Rattle.vet.proofs.Meetings.{Led}
 use Rattle.vet.proofs.Reached.{Reached, Runs, reached-weaker}
 use Rattle.vet.proofs.Taken.{text-taken}

@@ -7,6 +7,7 @@ pub mod Codes
 pub mod Encoded
 pub mod Enough
 pub mod Filled
+pub mod ItemRuns
 pub mod Items
 pub mod Lengths
 pub mod Loop

@@ -8,7 +8,7 @@ use borrow.Author.Tests.{eqb-true}
 use Rattle.rules.specs.Text.{Sequence, Clauses, none, clause}
 use Rattle.rules.specs.declared.Directive.{Directive}
 use Rattle.rules.proofs.Tests.{not-both-ways}
-use Rattle.vet.specs.Ways.{Way, leads, fails, Ways, ending, failing, meeting, withNone, onWay, onWays, wayOf, waysOf}
+use Rattle.vet.specs.Ways.{Way, leads, fails, Ways, ending, failing, meeting, withNone, onWay, wayOf, waysOf}
 use Rattle.vet.specs.Worst.{larger}
 use Rattle.vet.specs.declared.Ends.{Ends}
 use Rattle.vet.specs.declared.Ends.the-variants.{Nowhere, Equal, Unequal}

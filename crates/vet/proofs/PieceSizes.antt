@@ -1,13 +1,12 @@
 -- How long a piece is: at most 16,385 bytes. Assumes nothing.
-use Prim.Native.Nat.{ℕ, zero, suc, _+_, _*_, _-_, _≤_}
+use Prim.Native.Nat.{ℕ, zero, suc, _+_, _-_, _≤_}
 use mathlib.Core.Logic.{inl, inr}
 use mathlib.Core.Bool.{Bool, true, false, cond}
-use mathlib.Core.List.{List, [], _∷_, _++_}
+use mathlib.Core.List.{List, _++_}
 use native.Mathlib.Omega.{arith}
 use lib.Dec.{ltb}
 use lib.ListN.{length}
 use Rattle.rules.specs.Number.{digitsOf, magnitudeOf, signOf}
-use Rattle.rules.specs.Text.{Token, tokensAt}
 use Rattle.rules.specs.Piece.{orElse, digitsIn, numeralOf, accepts}
 use Rattle.rules.specs.declared.Form.{Form}
 use Rattle.rules.specs.declared.Form.the-variants.{Object, Numeral, Glyph, Plural, Repeat, Fold}
@@ -17,17 +16,13 @@ use Rattle.rules.proofs.Digits.{count-word}
 use Rattle.rules.proofs.Groups.{grouped-most}
 use Rattle.vet.specs.declared.Turn.{Turn}
 use Rattle.vet.specs.declared.Turn.the-variants.{Goes, Stops}
-use Rattle.vet.specs.declared.Vetted.{Vetted}
 use Rattle.vet.specs.Use.{Use, writes, shows, stops, useOf}
 use Rattle.vet.specs.Worst.{larger, roundUp, paddedSize, topOf, greatest, spansOf, greatestOver, leastInteger, worst}
 use Rattle.vet.specs.Turns.{kindIn, turnBy, turnOf}
-use Rattle.vet.specs.Vet.{vetOf}
-use Rattle.vet.proofs.PlainVet.{onTurn, vetFrom}
 use Rattle.vet.proofs.Lengths.{Proper, left-length}
-use Rattle.vet.proofs.Ordinary.{Ordinary, AllOrdinary, items-few, items-ordinary}
+use Rattle.vet.proofs.Ordinary.{Ordinary}
 use Rattle.vet.proofs.Padding.{larger-one, up-near}
 use Rattle.vet.proofs.Settling.{Small}
-use Rattle.vet.proofs.Stages.{stages}
 use Rattle.vet.proofs.Uses.{Shown, Within, use-within}
 
 abbrev pub mostPiece : ℕ

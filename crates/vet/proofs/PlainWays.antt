@@ -1,11 +1,10 @@
 -- No answer of a plain format is changed by conditionals: its vet is that of its items, one by one. Assumes nothing.
 use Prim.Native.Nat.{ℕ, _+_}
-use mathlib.Core.Path.{_≡_, refl, ap, _∙_}
+use mathlib.Core.Path.{_≡_, refl}
 use mathlib.Core.Bool.{true, false}
 use mathlib.Core.List.{List, [], _∷_}
-use Rattle.rules.specs.Choice.{both}
 use Rattle.rules.specs.Directive.{inOrder}
-use Rattle.rules.specs.Text.{Token, tokensAt, textVerdict, provided, Sequence, innermost, levelsOf, levelsAt}
+use Rattle.rules.specs.Text.{Token, tokensAt, textVerdict, innermost, levelsOf, levelsAt}
 use Rattle.rules.specs.declared.Bracket.the-variants.{Conditional, Iteration}
 use Rattle.rules.specs.declared.Code.{Code}
 use Rattle.rules.specs.declared.Code.the-variants.{Writes, Jump, Escape, Opens, Separator, Closes, Unknown}
@@ -13,7 +12,7 @@ use Rattle.rules.specs.declared.Item.{Item}
 use Rattle.rules.specs.declared.Item.the-variants.{End, Literal, Written, BadNumber, Unfinished}
 use Rattle.rules.specs.declared.Verdict.{Verdict}
 use Rattle.rules.specs.declared.Verdict.the-variants.{Accepted, Refused}
-use Rattle.rules.proofs.Tests.{both-true, true-both, not-both-ways}
+use Rattle.rules.proofs.Tests.{both-true, true-both}
 use Rattle.vet.specs.Plain.{plainCode, noneNext, plainItem, plainFrom, plainVerdict, takenVerdict}
 use Rattle.vet.specs.Turns.{turnOf}
 use Rattle.vet.specs.Vet.{askedVerdict, unlessDeclined, answerBy, runAnswer, vetOf}

@@ -10,6 +10,9 @@ use Rattle.rules.specs.Text.{Sequence, end, deepest}
 use Rattle.rules.proofs.FlowLaws.{Stretch, still, onward, stretch-join}
 use Rattle.rules.proofs.RunLaws.{run-clause-end}
 use Rattle.vet.specs.Use.{inHand}
+use Rattle.vet.specs.Ways.{wayOf}
+use Rattle.vet.proofs.Meetings.{Led, Grows}
+use Rattle.vet.proofs.Weights.{weight}
 
 module _ (v : View) (count : ℕ) where
   -- A flow gets to the end of a sequence at the argument n with `least` steps left at the least; what it gives, and `sum`
@@ -27,6 +30,7 @@ module _ (v : View) (count : ℕ) where
       (ks : List Frame) → length ks + k ≤ deepest → (left : ℕ) → most ≤ left
       → Reached (run v left x ks (inHand count next)) ks (left - most) sum n s
 
+  -- what may be left, and what is given, are bounds
   pub reached-weaker : {f : Flow} {ks : List Frame} {least less sum fewer n s more : ℕ} → less ≤ least → fewer ≤ sum
       → s ≤ more → Reached f ks least sum n s → Reached f ks less fewer n more
   reached-weaker h k l r = record {
@@ -36,6 +40,9 @@ module _ (v : View) (count : ℕ) where
     short = omega (arith, r .short);
     enough = omega (arith, r .enough);
   }
+
+  pub runs-grow : (k most : ℕ) (x : Sequence) (next sum : ℕ) → Grows (Runs k most x next sum)
+  runs-grow k most x next sum n s more l r ks h left t = reached-weaker (omega arith) (omega arith) l (r ks h left t)
 
   -- at the end already
   pub reached-end : (left : ℕ) (ks : List Frame) (least sum n s : ℕ) → least ≤ left → sum ≤ s
@@ -68,3 +75,8 @@ module _ (v : View) (count : ℕ) where
         short = omega (arith, one .short, two .short, length-append (one .text) (two .text));
         enough = omega (arith, one .enough, two .enough);
       }
+
+-- a sequence runs to wherever its way leads, from any argument, in as many steps as it has elements
+abbrev pub Walks : List ℕ → ℕ → View → ℕ → Sequence → Type 0
+Walks kinds longest v k x =
+    (next sum : ℕ) → Led (Runs v (length kinds) k (weight x) x next sum) (wayOf kinds longest x next sum)
