@@ -12,6 +12,10 @@ abbrev pub Each : (Sequence → Type 0) → Clauses → Type 0
 Each P none = Unit {0}
 Each P (clause colon x more) = P x × Each P more
 
+pub each-on : (P Q : Sequence → Type 0) → ((x : Sequence) → P x → Q x) → (cs : Clauses) → Each P cs → Each Q cs
+each-on P Q f none a = tt
+each-on P Q f (clause colon x more) a = (f x (a .0), each-on P Q f more (a .1))
+
 unfoldable pub clausesIn : Clauses → ℕ
 clausesIn none = 0
 clausesIn (clause colon x more) = suc (clausesIn more)

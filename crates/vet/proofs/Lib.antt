@@ -1,11 +1,13 @@
 pub mod Before
 pub mod Below
-pub mod Bound
+pub mod Causes
 pub mod Choices
 pub mod Clauses
 pub mod Codes
 pub mod Encoded
+pub mod Enough
 pub mod Filled
+pub mod ItemRuns
 pub mod Items
 pub mod Lengths
 pub mod Loop
@@ -13,8 +15,14 @@ pub mod Meetings
 pub mod Ordinary
 pub mod Padding
 pub mod Picks
+pub mod PieceSizes
+pub mod PlainEnds
+pub mod PlainPromise
 pub mod PlainRun
 pub mod PlainVet
+pub mod PlainWays
+pub mod Promise
+pub mod Reached
 pub mod Settling
 pub mod Sizes
 pub mod Stages
@@ -23,6 +31,7 @@ pub mod Taken
 pub mod TurnLaws
 pub mod Uses
 pub mod Values
+pub mod WayRuns
 pub mod Weights
 pub mod Witness
 pub mod WorstLaws

@@ -8,7 +8,7 @@ use borrow.Author.Tests.{eqb-true}
 use Rattle.rules.specs.Text.{Sequence, Clauses, none, clause}
 use Rattle.rules.specs.declared.Directive.{Directive}
 use Rattle.rules.proofs.Tests.{not-both-ways}
-use Rattle.vet.specs.Ways.{Way, leads, fails, Ways, ending, failing, meeting, withNone, onWay, onWays, wayOf, waysOf}
+use Rattle.vet.specs.Ways.{Way, leads, fails, Ways, ending, failing, meeting, withNone, onWay, wayOf, waysOf}
 use Rattle.vet.specs.Worst.{larger}
 use Rattle.vet.specs.declared.Ends.{Ends}
 use Rattle.vet.specs.declared.Ends.the-variants.{Nowhere, Equal, Unequal}
@@ -67,7 +67,7 @@ meeting-met P Q p q Unequal n s h k = tt
 module _ (kinds : List ℕ) (longest start : ℕ) where
   -- Every clause leads where its own fact holds, so that all of them hold where they meet, and with them the fact P of the
   -- ways before them
-  pub ways-met : (F : Sequence → Fact) → ((x : Sequence) → Grows (F x)) → (cs : Clauses)
+  ways-met : (F : Sequence → Fact) → ((x : Sequence) → Grows (F x)) → (cs : Clauses)
       → Each (λ x. Led (F x) (wayOf kinds longest x start 0)) cs → (P : Fact) → Grows P → (e : Ends) → Met P e
       → AllMet (λ n s. P n s × Each (λ x. F x n s) cs) (waysOf kinds longest cs start e)
   unfolding wayOf
@@ -87,6 +87,15 @@ module _ (kinds : List ℕ) (longest start : ℕ) where
           (λ a b h. (h .0 .0, (h .0 .1, h .1)))
           (waysOf kinds longest more start (meeting e n s)) (on n s k)
       by (fails code p) k on = tt
+
+  -- of all clauses from the first
+  pub clauses-met : (F : Sequence → Fact) → ((x : Sequence) → Grows (F x)) → (cs : Clauses)
+      → Each (λ x. Led (F x) (wayOf kinds longest x start 0)) cs
+      → AllMet (λ n s. Each (λ x. F x n s) cs) (waysOf kinds longest cs start Nowhere)
+  clauses-met F g cs a =
+      all-on (λ n s. Unit {0} × Each (λ x. F x n s) cs) (λ n s. Each (λ x. F x n s) cs) (λ n s h. h .1)
+      (waysOf kinds longest cs start Nowhere)
+      (ways-met F g cs a (λ _ _. Unit {0}) (λ n s m l h. h) Nowhere (λ _ _. tt))
 
 -- the way by which none of the clauses runs, if there is one, ends at n
 pub record NoneEnds (d : Directive) (fallback : Bool) (start n : ℕ) : Type 0 where

@@ -1,14 +1,14 @@
--- What a conditional runs, whatever the values of its arguments are: a clause from where the clauses start, or none of them.
+-- What a conditional runs, whatever the values of its arguments: a clause from where the clauses start, or none of them.
 -- Assumes nothing.
 use Prim.Native.Nat.{ℕ, _+_, _<_}
-use mathlib.Core.Path.{_≡_, refl, sym, ap, _∙_, subst, subst⁻¹}
+use mathlib.Core.Path.{_≡_, _∙_}
 use mathlib.Core.Bool.{Bool, true, false, cond}
 use mathlib.Core.List.{List}
 use native.Mathlib.Omega.{arith}
 use lib.Dec.{ltb, eqb}
 use lib.ListN.{length}
 use borrow.Author.Tests.{ltb-true, eqb-true}
-use Rattle.rules.specs.Directive.{placesOf, either, inOrder}
+use Rattle.rules.specs.Directive.{placesOf, inOrder}
 use Rattle.rules.specs.Piece.{kindOf}
 use Rattle.rules.specs.Run.{Flow, clauseAt, isFalse, onSettled, withSettings, pickBy, pickNumbered, pick}
 use Rattle.rules.specs.Table.{Value, boolean, integer, character, string, list, View}
@@ -19,7 +19,6 @@ use Rattle.rules.specs.declared.Code.the-variants.{Opens}
 use Rattle.rules.specs.declared.Directive.{Directive}
 use Rattle.rules.specs.declared.Setting.{Setting}
 use Rattle.rules.specs.declared.Setting.the-variants.{Absent, Is}
-use Rattle.rules.specs.declared.Settings.{Settings}
 use Rattle.vet.specs.Turns.{kindIn}
 use Rattle.vet.specs.Use.{inHand}
 use Rattle.vet.specs.Ways.{hasFallback, onOwn, numberedStart, settledStart, startOf}
@@ -28,14 +27,20 @@ use Rattle.vet.specs.declared.Turn.the-variants.{Goes, Stops}
 use Rattle.vet.proofs.Clauses.{Each, each-within, each-number, each-integer}
 use Rattle.vet.proofs.PlainRun.{valueIn}
 use Rattle.vet.proofs.Settling.{settle-plain}
-use Rattle.vet.proofs.Starts.{workedNumber}
+use Rattle.vet.proofs.Starts.{Begun, workedNumber, by-opener}
 use Rattle.vet.proofs.Taken.{Choosing}
 use Rattle.vet.proofs.Uses.{by-test}
 
--- a fact of where the clauses start, if they do
-abbrev pub Begun : (ℕ → Type 0) → Turn → Type 0
-Begun P (Goes start size) = P start
-Begun P (Stops code) = Unit {0}
+-- what a conditional gives once it is begun, where `on` runs a clause from an argument
+abbrev pub chosen : View → ℕ → ℕ → ℕ → Directive → Clauses → ℕ → (Sequence → ℕ → Flow) → Flow
+chosen v count p m d cs next on =
+    withSettings v p m d (inHand count next) (λ s i. pick v p m d cs (inHand count next) s i on)
+
+-- P holds of every clause from the argument `start`, and of the end of the block where none of them is run
+pub record Any (d : Directive) (cs : Clauses) (P : Sequence → ℕ → Type 0) (start : ℕ) : Type 0 where
+  pub each : Each (λ x. P x start) cs
+  pub boolean : d .colon ≡ false → d .at ≡ true → P end (start + 1)
+  pub number : d .colon ≡ false → d .at ≡ false → hasFallback cs ≡ false → P end start
 
 module _ (kinds : List ℕ) (longest : ℕ) (v : View)
     (agree : (i : ℕ) → i < length kinds → kindOf (valueIn v (length kinds) i) ≡ kindIn kinds i)
@@ -48,17 +53,14 @@ module _ (kinds : List ℕ) (longest : ℕ) (v : View)
   here = inHand count next
 
   abbrev flow : Flow
-  flow = withSettings v p m d here (λ s i. pick v p m d cs here s i on)
+  flow = chosen v count p m d cs next on
 
-  -- P holds of the run of each clause from `start`, and of running none where that is a way
-  pub record Any (start : ℕ) : Type 0 where
-    pub each : Each (λ x. P (on x start)) cs
-    pub boolean : d .colon ≡ false → d .at ≡ true → P (on end (start + 1))
-    pub number : d .colon ≡ false → d .at ≡ false → hasFallback cs ≡ false → P (on end start)
+  abbrev AnyRun : ℕ → Type 0
+  AnyRun start = Any d cs (λ x i. P (on x i)) start
 
-  -- so that it holds of the conditional
+  -- what holds of whatever may be run holds of the conditional
   abbrev Picks : Turn → Type 0
-  Picks t = Begun (λ start. Any start → P flow) t
+  Picks t = Begun (λ start. AnyRun start → P flow) t
 
   own-picks : (i : ℕ) (go : Turn) → (ltb i count ≡ true → Picks go) → Picks (onOwn kinds longest i go)
   own-picks i go h = by-test Picks (ltb i count) go (Stops 6) h (λ _. tt)
@@ -70,7 +72,7 @@ module _ (kinds : List ℕ) (longest : ℕ) (v : View)
       own-picks next (Goes (next + 1) 0)
       (λ t a. rw (b .opener .written, b .opener .code, e, t) (by (isFalse (valueIn v count next)) a))
     where
-      by : (f : Bool) → Any (next + 1) → P (on (clauseAt cs (cond f 0 1) end) (next + 1))
+      by : (f : Bool) → AnyRun (next + 1) → P (on (clauseAt cs (cond f 0 1) end) (next + 1))
       by true a = each-within (λ x. P (on x (next + 1))) cs (a .each) 0 end (b .some)
       by false a = each-within (λ x. P (on x (next + 1))) cs (a .each) 1 end (b .two e)
 
@@ -83,13 +85,13 @@ module _ (kinds : List ℕ) (longest : ℕ) (v : View)
       (λ t. by-test Picks (eqb (kindIn kinds next) 0) (Goes next 0) (Stops 11)
       (λ _ a. rw (b .opener .written, b .opener .code, e, f, t) (by (isFalse (valueIn v count next)) a)) (λ _. tt))
     where
-      by : (y : Bool) → Any next → P (on (cond y end (clauseAt cs 0 end)) (cond y (next + 1) next))
+      by : (y : Bool) → AnyRun next → P (on (cond y end (clauseAt cs 0 end)) (cond y (next + 1) next))
       by true a = a .boolean e f
       by false a = each-within (λ x. P (on x next)) cs (a .each) 0 end (b .some)
 
   -- `~[` with its parameters worked out
   module _ (e : d .colon ≡ false) (f : d .at ≡ false) where
-    by-value : (i : ℕ) (x : Value) → kindOf x ≡ 1 → Any (i + 1) → P (pickBy v p m cs here i on x)
+    by-value : (i : ℕ) (x : Value) → kindOf x ≡ 1 → AnyRun (i + 1) → P (pickBy v p m cs here i on x)
     by-value i (boolean y) k a = absurd (omega arith)
     by-value i (integer z) k a = each-integer (λ x. P (on x (i + 1))) cs (a .each) (a .number e f) z
     by-value i (character c) k a = absurd (omega arith)
@@ -97,7 +99,7 @@ module _ (kinds : List ℕ) (longest : ℕ) (v : View)
     by-value i (list first n) k a = absurd (omega arith)
 
     by-number : (i : ℕ) (s : Setting)
-        → Begun (λ start. Any start → P (pickNumbered v p m cs here i on s)) (numberedStart kinds longest i s)
+        → Begun (λ start. AnyRun start → P (pickNumbered v p m cs here i on s)) (numberedStart kinds longest i s)
     by-number i Absent =
         by-test Goal (ltb i count) _ (Stops 6)
         (λ t. by-test Goal (eqb (kindIn kinds i) 1) (Goes (i + 1) 0) (Stops 7)
@@ -105,7 +107,7 @@ module _ (kinds : List ℕ) (longest : ℕ) (v : View)
         (λ _. tt)
       where
         Goal : Turn → Type 0
-        Goal = Begun (λ start. Any start → P (pickNumbered v p m cs here i on Absent))
+        Goal = Begun (λ start. AnyRun start → P (pickNumbered v p m cs here i on Absent))
     by-number i (Is n) = λ a. each-number (λ x. P (on x i)) cs (a .each) (a .number e f) n
 
     by-settled : (z : Settled) → flow ≡ onSettled p m z (λ s i. pick v p m d cs here s i on) → Picks (settledStart kinds longest z)
@@ -122,14 +124,4 @@ module _ (kinds : List ℕ) (longest : ℕ) (v : View)
         (rw (o .written, o .code, e, f, settle-plain v here places (inOrder (d .parameters)) next (o .fixed)))
 
   pub picks : Picks (startOf kinds longest d next)
-  unfolding startOf
-  picks = by (d .colon) (d .at) refl refl
-    where
-      by : (colon at : Bool) → d .colon ≡ colon → d .at ≡ at
-          → Picks
-          (cond colon (onOwn kinds longest next (Goes (next + 1) 0))
-          (cond at (onOwn kinds longest next (cond (eqb (kindIn kinds next) 0) (Goes next 0) (Stops 11)))
-          (settledStart kinds longest (workedNumber kinds longest d next))))
-      by true at e f = two-picks e
-      by false true e f = one-picks e f
-      by false false e f = number-picks e f
+  picks = by-opener kinds longest Picks d next two-picks one-picks number-picks

@@ -27,6 +27,15 @@ use Rattle.vet.specs.Use.{Use, writes, shows, stops, inHand, workedOut, 
 use Rattle.vet.proofs.Ordinary.{Ordinary, AllOrdinary}
 use Rattle.vet.proofs.Settling.{settle-plain}
 
+-- an ordinary item opens and closes nothing
+pub before-ordinary : (p : ℕ) (x : Item) (ls : List Level) → Ordinary x
+    → innermost (itemBefore p x ls) .rest ≡ acts p x (innermost ls .rest)
+before-ordinary p End ls o = absurd o
+before-ordinary p (Literal b) ls o = refl
+before-ordinary p (Written d) ls w = rw (w .code)
+before-ordinary p BadNumber ls o = absurd o
+before-ordinary p Unfinished ls o = absurd o
+
 module _ (v : View) (count : ℕ) where
   -- argument i
   abbrev pub valueIn : ℕ → Value
@@ -100,7 +109,7 @@ module _ (v : View) (count : ℕ) where
   settled-same p m d f from on (unsettled code) = refl
 
   -- one item
-  item-same : (p m : ℕ) (x : Item) (next : ℕ) (on : ℕ → Flow) → Ordinary x
+  pub item-same : (p m : ℕ) (x : Item) (next : ℕ) (on : ℕ → Flow) → Ordinary x
       → itemActs v p m x (inHand count next) on ≡ flowBy p m (useOf count x next) on
   unfolding itemActs useOf
   item-same p m End next on o = absurd o
@@ -120,15 +129,6 @@ module _ (v : View) (count : ℕ) where
       ∙ sym (ap (λ (k : Code). flowBy p m (useCode count d k next) on) (w .code))
   item-same p m BadNumber next on o = absurd o
   item-same p m Unfinished next on o = absurd o
-
-  -- an ordinary item opens and closes nothing
-  before-ordinary : (p : ℕ) (x : Item) (ls : List Level) → Ordinary x
-      → innermost (itemBefore p x ls) .rest ≡ acts p x (innermost ls .rest)
-  before-ordinary p End ls o = absurd o
-  before-ordinary p (Literal b) ls o = refl
-  before-ordinary p (Written d) ls w = rw (w .code)
-  before-ordinary p BadNumber ls o = absurd o
-  before-ordinary p Unfinished ls o = absurd o
 
   pub plain-run : (xs : List Token) (n next : ℕ) → AllOrdinary xs → length xs ≤ n
       → run v n (innermost (levelsOf xs) .rest) [] (inHand count next) ≡ flowFrom xs n next

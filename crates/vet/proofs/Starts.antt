@@ -1,14 +1,13 @@
--- Where the clauses of a conditional start: at an argument that there is or the one after the last, with no bytes; or a code.
--- Assumes nothing.
+-- Where the clauses of a conditional start: at an argument or after the last, with no bytes; or a code. Assumes nothing.
 use Prim.Native.Nat.{ℕ, _+_, _≤_}
 use mathlib.Core.Path.{_≡_, refl}
 use mathlib.Core.Logic.{_⊎_, inl, inr}
-use mathlib.Core.Bool.{Bool, true, false, cond}
+use mathlib.Core.Bool.{true, false, cond}
 use mathlib.Core.List.{List}
 use native.Mathlib.Omega.{arith}
 use lib.Dec.{ltb, eqb}
 use lib.ListN.{length}
-use borrow.Author.Tests.{ltb-true}
+use borrow.Author.Tests.{ltb-true, eqb-true}
 use Rattle.rules.specs.Directive.{placesOf, either, inOrder, wellWritten}
 use Rattle.rules.specs.Working.{Settled, settled, unsettled, settle, settingsOf}
 use Rattle.rules.specs.declared.Bracket.the-variants.{Conditional}
@@ -16,6 +15,7 @@ use Rattle.rules.specs.declared.Code.the-variants.{Opens}
 use Rattle.rules.specs.declared.Directive.{Directive}
 use Rattle.rules.specs.declared.Setting.{Setting}
 use Rattle.rules.specs.declared.Setting.the-variants.{Absent, Is}
+use Rattle.rules.proofs.Tests.{not-both-ways}
 use Rattle.vet.specs.Plain.{noneNext}
 use Rattle.vet.specs.Turns.{kindIn}
 use Rattle.vet.specs.Use.{inHand, noEntries}
@@ -34,6 +34,15 @@ pub record Opener (d : Directive) : Type 0 where
 -- what a way through a format may fail with
 abbrev pub Reason : ℕ → Type 0
 Reason code = ((6 ≤ code) × (code ≤ 8)) ⊎ (code ≡ 11)
+
+pub reason-range : {code : ℕ} → Reason code → (6 ≤ code) × (code ≤ 11)
+reason-range (inl h) = (h .0, omega arith)
+reason-range (inr e) = (omega arith, omega arith)
+
+-- a fact of where the clauses start, if they do
+abbrev pub Begun : (ℕ → Type 0) → Turn → Type 0
+Begun P (Goes start size) = P start
+Begun P (Stops code) = Unit {0}
 
 abbrev pub Started : ℕ → Turn → Type 0
 Started count (Goes start size) = (start ≤ count) × (size ≡ 0)
@@ -70,16 +79,28 @@ module _ (kinds : List ℕ) (longest : ℕ) where
       settle-placed (inHand count next) (placesOf (Opens Conditional) false) (inOrder (d .parameters)) next (o .fixed)
       (rw e at (written-suits d (Opens Conditional) (o .code) (o .written)))
 
-  pub start-turned : (d : Directive) (next : ℕ) → next ≤ count → Opener d → Started count (startOf kinds longest d next)
+  -- what holds of each of the three openers holds of where a conditional starts
+  pub by-opener : (P : Turn → Type 0) (d : Directive) (next : ℕ)
+      → (d .colon ≡ true → P (onOwn kinds longest next (Goes (next + 1) 0)))
+      → (d .colon ≡ false → d .at ≡ true → P (onOwn kinds longest next (cond (eqb (kindIn kinds next) 0) (Goes next 0) (Stops 11))))
+      → (d .colon ≡ false → d .at ≡ false → P (settledStart kinds longest (workedNumber d next)))
+      → P (startOf kinds longest d next)
   unfolding startOf
-  start-turned d next h o = by (d .colon) (d .at) refl refl
-    where
-      by : (colon at : Bool) → d .colon ≡ colon → d .at ≡ at
-          → Started count
-          (cond colon (onOwn kinds longest next (Goes (next + 1) 0))
-          (cond at (onOwn kinds longest next (cond (eqb (kindIn kinds next) 0) (Goes next 0) (Stops 11)))
-          (settledStart kinds longest (workedNumber d next))))
-      by true at e f = own-started next _ (λ b. (b, refl))
-      by false true e f =
-          own-started next _ (λ b. by-test (Started count) (eqb (kindIn kinds next) 0) _ _ (λ _. (h, refl)) (λ _. inr refl))
-      by false false e f = settled-started next (workedNumber d next) h (number-settles d next o (rw (e, f)))
+  by-opener P d next two one number =
+      by-test P (d .colon) _ _ two (λ e. by-test P (d .at) _ _ (λ f. one e f) (λ f. number e f))
+
+  pub start-turned : (d : Directive) (next : ℕ) → next ≤ count → Opener d → Started count (startOf kinds longest d next)
+  start-turned d next h o =
+      by-opener (Started count) d next (λ _. own-started next _ (λ b. (b, refl)))
+      (λ _ _. own-started next _ (λ b. by-test (Started count) (eqb (kindIn kinds next) 0) _ _ (λ _. (h, refl)) (λ _. inr refl)))
+      (λ e f. settled-started next (workedNumber d next) h (number-settles d next o (rw (e, f))))
+
+  -- "`~@[` is accepted only for a boolean"
+  pub only-boolean : (d : Directive) (next : ℕ) → d .colon ≡ false → d .at ≡ true
+      → Begun (λ _. kindIn kinds next ≡ 0) (startOf kinds longest d next)
+  only-boolean d next e f =
+      by-opener (Begun (λ _. kindIn kinds next ≡ 0)) d next (λ z. absurd (not-both-ways z e))
+      (λ _ _. by-test (Begun (λ _. kindIn kinds next ≡ 0)) (ltb next count) _ _
+      (λ _. by-test (Begun (λ _. kindIn kinds next ≡ 0)) (eqb (kindIn kinds next) 0) _ _
+      (λ k. eqb-true (kindIn kinds next) 0 k) (λ _. tt)) (λ _. tt))
+      (λ _ z. absurd (not-both-ways f z))

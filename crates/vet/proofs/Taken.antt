@@ -1,15 +1,15 @@
 -- The sequences of an accepted text that a vet takes: ordinary items, and conditionals whose blocks have the clauses that
 -- they must and levels left for them. Assumes nothing.
 use Prim.Native.Nat.{ℕ, zero, suc, _+_, _≤_, _<_}
-use mathlib.Core.Path.{_≡_, refl, subst}
-use mathlib.Core.Bool.{Bool, true, false}
+use mathlib.Core.Path.{_≡_, refl}
+use mathlib.Core.Bool.{true, false}
 use mathlib.Core.List.{List, [], _∷_}
 use native.Mathlib.Omega.{arith}
 use lib.Dec.{eqb}
 use lib.ListN.{length}
 use borrow.Author.Tests.{eqb-true, not-true}
 use Rattle.rules.specs.Choice.{both}
-use Rattle.rules.specs.Directive.{CodeRight, inOrder, itemAt, wellWritten}
+use Rattle.rules.specs.Directive.{CodeRight, inOrder, itemAt}
 use Rattle.rules.specs.Text.{Block, opened, separated, isConditional, rightCount, isCloserOf, isWhole, deepest, tokensAt, textVerdict, Sequence, end, acts, escapes, iterates, chooses, Clauses, none, clause, Level, innermost, outer, before, asClauses, levelsAt, sequenceOf}
 use Rattle.rules.specs.declared.Bracket.{Bracket}
 use Rattle.rules.specs.declared.Bracket.the-variants.{Conditional, Iteration}
@@ -20,7 +20,7 @@ use Rattle.rules.specs.declared.Item.{Item}
 use Rattle.rules.specs.declared.Item.the-variants.{End, Literal, Written, BadNumber, Unfinished}
 use Rattle.rules.specs.declared.Verdict.the-variants.{Accepted}
 use Rattle.rules.proofs.Bases.{code-right}
-use Rattle.rules.proofs.Tests.{both-true, not-both-ways}
+use Rattle.rules.proofs.Tests.{not-both-ways}
 use Rattle.rules.proofs.TextLaws.{placeAfter, stands, next-inside, tokens-is, levels-end, levels-literal, levels-writes, levels-conditional, levels-separator, levels-closer, Sound, sound-start, sound-end, sound-literal, sound-bad, sound-unfinished, sound-known, sound-writes, sound-opener, sound-separator, sound-closer}
 use Rattle.vet.specs.Plain.{plainCode, noneNext, plainItem, plainFrom, takenVerdict}
 use Rattle.vet.proofs.Clauses.{clausesIn}
