@@ -87,7 +87,6 @@ module _ {t kinds : List ℕ} {longest : ℕ} {d : Directive} {start z : ℕ} {c
       h (omega (arith, g .least))
 
   module _ {next size q after : ℕ} where
-
     pub gather-on : {colon₂ : Bool} → Walked t kinds longest z start next size (Another q colon₂ after)
         → (f : Ends) → f ≡ meeting e next size → Gathering t kinds longest d start after colon₂ f
     unfolding hasFallback

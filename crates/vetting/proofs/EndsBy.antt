@@ -10,7 +10,7 @@ use denote.Enum.Declared.{tagOf}
 use types.Run.{OneOf, miss}
 use Rattle.rules.specs.declared.Directive.{Directive}
 use Rattle.vet.proofs.Ends as ends-declared
-use Rattle.vet.proofs.Sizes.{larger-most}
+use Rattle.vet.proofs.PieceSizes.{larger-most}
 use Rattle.vet.specs.Ways.{meeting, withNone}
 use Rattle.vet.specs.Worst.{larger}
 use Rattle.vet.specs.declared.Ends.{Ends}

@@ -31,15 +31,29 @@ const UNEQUAL_ENDS: u32 = 11;
 // One element of a sequence: it leads to the argument `next` with at most `size` bytes, and the text goes on at `place`;
 // it fails; or the sequence ends here.
 pub enum Element {
-    Leads { next: usize, size: usize, place: usize },
-    Fails { code: u32, position: usize },
+    Leads {
+        next: usize,
+        size: usize,
+        place: usize,
+    },
+    Fails {
+        code: u32,
+        position: usize,
+    },
     Ends(ClauseEnd),
 }
 
 // A whole sequence: it leads to the argument `next` with at most `size` bytes, and so it ends; or it fails.
 pub enum Counted {
-    Leads { next: usize, size: usize, end: ClauseEnd },
-    Fails { code: u32, position: usize },
+    Leads {
+        next: usize,
+        size: usize,
+        end: ClauseEnd,
+    },
+    Fails {
+        code: u32,
+        position: usize,
+    },
 }
 
 // What a directive at p does, after which the text goes on at `place`.
@@ -66,7 +80,14 @@ fn close_block(ends: Ends, p: usize, place: usize) -> Element
 }
 
 // The clauses of the conditional d at p, each from the argument `start`.
-fn count_clauses(format: &[u8], kinds: &[u8], longest: usize, p: usize, d: Directive, start: usize) -> Element
+fn count_clauses(
+    format: &[u8],
+    kinds: &[u8],
+    longest: usize,
+    p: usize,
+    d: Directive,
+    start: usize,
+) -> Element
     requires { ⌜ Asked (now kinds) longest ⌝ }
     requires { ⌜ TakenAt (now format) (d .next) ⌝ }
     requires { ⌜ start ≤ length (now kinds) ⌝ }
@@ -82,7 +103,11 @@ fn count_clauses(format: &[u8], kinds: &[u8], longest: usize, p: usize, d: Direc
             Counted::Leads { next, size, end } => {
                 ends = meet(ends, next, size);
                 match end {
-                    ClauseEnd::Another { at: _, colon, next: q } => {
+                    ClauseEnd::Another {
+                        at: _,
+                        colon,
+                        next: q,
+                    } => {
                         fallback = colon;
                         z = q;
                     }
@@ -96,7 +121,14 @@ fn count_clauses(format: &[u8], kinds: &[u8], longest: usize, p: usize, d: Direc
 }
 
 // The conditional d at p, where `next` is the next argument.
-fn count_block(format: &[u8], kinds: &[u8], longest: usize, p: usize, d: Directive, next: usize) -> Element
+fn count_block(
+    format: &[u8],
+    kinds: &[u8],
+    longest: usize,
+    p: usize,
+    d: Directive,
+    next: usize,
+) -> Element
     requires { ⌜ Asked (now kinds) longest ⌝ }
     requires { ⌜ TakenAt (now format) p ⌝ }
     requires { ⌜ itemAt (now format) p ≡ Written d ⌝ }
@@ -107,7 +139,10 @@ fn count_block(format: &[u8], kinds: &[u8], longest: usize, p: usize, d: Directi
     let turn = start_of(d, kinds, next);
     match turn {
         Turn::Stops(code) => Element::Fails { code, position: p },
-        Turn::Goes { next: start, size: _ } => count_clauses(format, kinds, longest, p, d, start),
+        Turn::Goes {
+            next: start,
+            size: _,
+        } => count_clauses(format, kinds, longest, p, d, start),
     }
 }
 
@@ -128,7 +163,11 @@ fn count_element(format: &[u8], kinds: &[u8], longest: usize, p: usize, next: us
         Item::Written(d) => {
             let code = d.code;
             match code {
-                Code::Writes(form) => element_by(turn_form(d, form, kinds, next, longest), p, d.next),
+                Code::Writes(form) => element_by(
+                    turn_form(d, form, kinds, next, longest),
+                    p,
+                    d.next,
+                ),
                 Code::Opens(_) => count_block(format, kinds, longest, p, d, next),
                 Code::Separator => Element::Ends(ClauseEnd::Another {
                     at: p,
@@ -146,7 +185,13 @@ fn count_element(format: &[u8], kinds: &[u8], longest: usize, p: usize, next: us
 }
 
 // The sequence that is read at `start`, from the argument `first`.
-fn count_sequence(format: &[u8], kinds: &[u8], longest: usize, start: usize, first: usize) -> Counted
+fn count_sequence(
+    format: &[u8],
+    kinds: &[u8],
+    longest: usize,
+    start: usize,
+    first: usize,
+) -> Counted
     requires { ⌜ Asked (now kinds) longest ⌝ }
     requires { ⌜ TakenAt (now format) start ⌝ }
     requires { ⌜ first ≤ length (now kinds) ⌝ }
@@ -193,7 +238,11 @@ pub fn count_format(format: &[u8], kinds: &[u8], longest: usize) -> Vetted
             position,
             count: 0,
         },
-        Counted::Leads { next: _, size, end: _ } => Vetted {
+        Counted::Leads {
+            next: _,
+            size,
+            end: _,
+        } => Vetted {
             code: 0,
             position: 0,
             count: size,

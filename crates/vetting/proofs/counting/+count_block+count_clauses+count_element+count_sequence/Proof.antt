@@ -142,8 +142,7 @@ count-block-count-clauses-requires : (t : ℕ) → count-block-lts.Need-count-cl
 count-block-count-clauses-requires t c κs =
     let args = c .before .before .before .before .before .before .args in
     let pre = c .before .before .before .before .before .before .pre .1 in
-    let begun = sym (c .before .before .before .start-of .ensures (args .longest)) ∙ c .before .turn2 .given .1 in
-    (
+    let begun = sym (c .before .before .before .start-of .ensures (args .longest)) ∙ c .before .turn2 .given .1 in (
       omega (arith, c .before .before .before .before .before .before .pre .0),
       (pre .0, (next-taken (pre .1 .0) (args .d) (pre .1 .1 .0), start-inside (args .format .now) (args .kinds .now) (args .longest) (args .p) (args .next) (args .d) (pre .1 .1 .0) (pre .1 .1 .1 .0) (pre .1 .1 .1 .1) _ _ begun)),
     )
@@ -291,7 +290,7 @@ count-clauses-loop-less t c =
     let args = c .before .before .before .before .before .before .before .before .before .before .before .args in
     let head = c .before .before .before .before .before .before .before .before .loop in
     let way = walked-by (args .format .now) (args .kinds .now) (args .longest) (head .z) (args .start) (c .before .before .before .before .before .before .before .count-sequence .result)
-        (c .before .before .before .before .before .before .before .count-sequence .ensures) (c .before .before .before .before .before .counted2 .given .1) (c .before .end .given .1) in
+    (c .before .before .before .before .before .before .before .count-sequence .ensures) (c .before .before .before .before .before .counted2 .given .1) (c .before .end .given .1) in
     omega (arith, way .least, way .ends .least, way .ends .most)
 
 count-clauses-loop-again : (t : ℕ) → count-clauses-lts.Need-loop-again (
@@ -308,7 +307,7 @@ count-clauses-loop-again t c =
     let args = c .before .before .before .before .before .before .before .before .before .before .before .args in
     let head = c .before .before .before .before .before .before .before .before .loop in
     let way = walked-by (args .format .now) (args .kinds .now) (args .longest) (head .z) (args .start) (c .before .before .before .before .before .before .before .count-sequence .result)
-        (c .before .before .before .before .before .before .before .count-sequence .ensures) (c .before .before .before .before .before .counted2 .given .1) (c .before .end .given .1) in
+    (c .before .before .before .before .before .before .before .count-sequence .ensures) (c .before .before .before .before .before .counted2 .given .1) (c .before .end .given .1) in
     gather-on (head .inv) way (c .before .before .before .meet .result) (c .before .before .before .meet .ensures)
 
 count-clauses-enum-known-end-2 : (t : ℕ) → count-clauses-lts.Need-enum-known-end-2 (
@@ -364,7 +363,7 @@ count-clauses-returns-2 t c =
     let args = c .before .before .before .before .before .before .before .before .before .before .before .before .before .args in
     let head = c .before .before .before .before .before .before .before .before .before .before .loop in
     let way = walked-by (args .format .now) (args .kinds .now) (args .longest) (head .z) (args .start) (c .before .before .before .before .before .before .before .before .before .count-sequence .result)
-        (c .before .before .before .before .before .before .before .before .before .count-sequence .ensures) (c .before .before .before .before .before .before .before .counted2 .given .1) (c .before .before .before .end2 .given .1) in
+    (c .before .before .before .before .before .before .before .before .before .count-sequence .ensures) (c .before .before .before .before .before .before .before .counted2 .given .1) (c .before .before .before .end2 .given .1) in
     subst (ClausesAre (args .format .now) (args .kinds .now) (args .longest) (args .p) (args .d) (args .start))
     (sym (c .close-block .ensures))
     (gather-last (head .inv) way (args .p) (c .before .with-none .result)
@@ -487,8 +486,7 @@ count-element-count-block-requires t c κs =
     let args = c .before .before .before .before .before .before .before .before .args in
     let pre = c .before .before .before .before .before .before .before .before .pre .1 in
     let is = sym (c .before .before .before .before .before .item-at .ensures) ∙ c .before .before .before .item .given .1 in
-    let inside = next-inside (args .format .now) (args .p) _ is in
-    (
+    let inside = next-inside (args .format .now) (args .p) _ is in (
       omega (arith, c .before .before .before .before .before .before .before .before .pre .0, inside .above, inside .most),
       (pre .0, (pre .1 .0, (is, (taken-opens (pre .1 .0) _ is _ (c .enum-told2 .given .1), pre .1 .1)))),
     )
@@ -634,7 +632,7 @@ count-sequence-returns t c =
     let args = c .before .before .before .before .before .before .before .args in
     let head = c .before .before .before .before .loop in
     let element = subst (ElementIs (args .format .now) (args .kinds .now) (args .longest) (head .p) (head .next)) (c .before .e .given .1)
-        (c .before .before .before .count-element .ensures) in
+    (c .before .before .before .count-element .ensures) in
     walk-fails (head .inv) element
 
 count-sequence-enum-known-e-2 : (t : ℕ) → count-sequence-lts.Need-enum-known-e-2 (
@@ -651,7 +649,7 @@ count-sequence-returns-2 t c =
     let args = c .before .before .before .before .before .before .before .args in
     let head = c .before .before .before .before .loop in
     let element = subst (ElementIs (args .format .now) (args .kinds .now) (args .longest) (head .p) (head .next)) (c .before .e2 .given .1)
-        (c .before .before .before .count-element .ensures) in
+    (c .before .before .before .count-element .ensures) in
     walk-ends (head .inv) _ element
 
 count-sequence-enum-known-e-3 : (t : ℕ) → count-sequence-lts.Need-enum-known-e-3 (
@@ -668,7 +666,7 @@ count-sequence-add-sum t c =
     let args = c .before .before .before .before .before .before .before .args in
     let head = c .before .before .before .before .loop in
     let element = subst (ElementIs (args .format .now) (args .kinds .now) (args .longest) (head .p) (head .next)) (c .before .e3 .given .1)
-        (c .before .before .before .count-element .ensures) in
+    (c .before .before .before .count-element .ensures) in
     omega (arith, walk-small (head .inv) element)
 
 count-sequence-loop-less : (t : ℕ) → count-sequence-lts.Need-loop-less (
@@ -679,7 +677,7 @@ count-sequence-loop-less t c =
     let args = c .before .before .before .before .before .before .before .args in
     let head = c .before .before .before .before .loop in
     let element = subst (ElementIs (args .format .now) (args .kinds .now) (args .longest) (head .p) (head .next)) (c .before .e3 .given .1)
-        (c .before .before .before .count-element .ensures) in
+    (c .before .before .before .count-element .ensures) in
     omega (arith, element .ahead, element .reaches .taken .inside)
 
 count-sequence-loop-again : (t : ℕ) → count-sequence-lts.Need-loop-again (
@@ -690,7 +688,7 @@ count-sequence-loop-again t c =
     let args = c .before .before .before .before .before .before .before .args in
     let head = c .before .before .before .before .loop in
     let element = subst (ElementIs (args .format .now) (args .kinds .now) (args .longest) (head .p) (head .next)) (c .before .e3 .given .1)
-        (c .before .before .before .count-element .ensures) in
+    (c .before .before .before .count-element .ensures) in
     walk-on (head .inv) element
 
 pub +count-block+count-clauses+count-element+count-sequence-spec : {M : Type 1} → statement M
