@@ -229,37 +229,41 @@ fn eight_deep() {
     accepts(&format!("{chosen}abc{}", "~]".repeat(8)), &[BOOL; 8], 0, 7);
 }
 
-/// A clause that is chosen for certain does what it does alone, three bytes on.
+const PLAIN: &[&str] = &[
+    "~a",
+    "~s",
+    "~5,4a",
+    "~9,7s",
+    "~20,10a~:p",
+    "~:d",
+    "~@x",
+    "~b",
+    "~c",
+    "~:c",
+    "~@c",
+    "~p",
+    "~:p",
+    "~@:p",
+    "x",
+    "~#%",
+    "~,#a",
+    "~#c",
+    "~\n ",
+];
+
+fn next_kinds(random: &Random) -> Vec<u8> {
+    let kind = |_| random.below(5) as u8;
+    (0..random.below(5)).map(kind).collect()
+}
+
+/// A clause does what it does alone, three bytes on.
 #[test]
 fn plain_formats_inside_a_clause() {
     let random = Random::new(13);
-    let pieces = [
-        "~a",
-        "~s",
-        "~5,4a",
-        "~9,7s",
-        "~20,10a~:p",
-        "~:d",
-        "~@x",
-        "~b",
-        "~c",
-        "~:c",
-        "~@c",
-        "~p",
-        "~:p",
-        "~@:p",
-        "x",
-        "~#%",
-        "~,#a",
-        "~#c",
-        "~\n ",
-    ];
     let mut accepted = 0;
     for _ in 0..5000 {
-        let text: String = (0..random.below(6)).map(|_| random.pick(&pieces)).collect();
-        let kinds: Vec<u8> = (0..random.below(5))
-            .map(|_| random.below(5) as u8)
-            .collect();
+        let text: String = (0..random.below(6)).map(|_| random.pick(PLAIN)).collect();
+        let kinds = next_kinds(&random);
         let alone = vet(text.as_bytes(), &kinds, 4);
         let clause = vet(format!("~0[{text}~:;{text}~]").as_bytes(), &kinds, 4);
         let position = if alone.code == 0 {
@@ -305,9 +309,7 @@ fn no_table_is_refused() {
     let (mut accepted, mut reached) = (0, 0);
     while accepted < 1500 {
         let text = drawn(&random, 3);
-        let kinds: Vec<u8> = (0..random.below(5))
-            .map(|_| random.below(5) as u8)
-            .collect();
+        let kinds = next_kinds(&random);
         let longest = random.below(4);
         let vetted = vet(text.as_bytes(), &kinds, longest);
         let conditional = !conditionals(text.as_bytes()).is_empty();
