@@ -6,12 +6,14 @@ mod drawing;
 use drawing::vets::{self, Case, Vetted};
 use drawing::{damage, texts, values, Tally};
 use random::Random;
-use reference::{conditionals, picks, Conditional, Value};
+use reference::{conditionals, picks, Conditional, Value, MOST_FORMAT};
 
 const SEED: u64 = 6;
 const VETS: usize = 260_000;
 /// Each accepted format is run over so many tables.
 const TABLES: usize = 2;
+/// A longer format is long.
+const LONG: usize = 500;
 const SMALL: usize = 6_000;
 /// Kinds are small if their values make no more tables than this.
 const FEW: usize = 1_200;
@@ -74,6 +76,7 @@ struct Seen {
     accepted: usize,
     nested: usize,
     deepest: usize,
+    long: usize,
     one_clause: usize,
     default: usize,
     uneven: usize,
@@ -91,6 +94,7 @@ impl Seen {
         if code == 0 {
             self.accepted += any(|_| true);
             self.deepest += any(|block| block.depth == 8);
+            self.long += usize::from(format.len() > LONG);
         }
         let refused = blocks.iter().find(|block| block.tilde == position);
         let by_next = || matches!(format[position + 1], b'v' | b'V');
@@ -106,7 +110,7 @@ impl Seen {
         let others = [self.nested, self.one_clause, self.default, self.uneven];
         assert!(others.iter().all(|&count| count > VETS / 50), "{self}");
         assert!(
-            self.deepest > 300 && self.one_clause_refused > 300,
+            self.deepest > 300 && self.long > 300 && self.one_clause_refused > 300,
             "{self}"
         );
     }
@@ -119,6 +123,7 @@ impl std::fmt::Display for Seen {
             accepted,
             nested,
             deepest,
+            long,
             one_clause,
             default,
             uneven,
@@ -128,7 +133,10 @@ impl std::fmt::Display for Seen {
             out,
             "{conditional} had conditionals, of them {accepted} accepted, "
         )?;
-        write!(out, "{deepest} of these with blocks eight deep; ")?;
+        write!(
+            out,
+            "{deepest} of these with blocks eight deep and {long} of more than {LONG} bytes; "
+        )?;
         write!(
             out,
             "{nested} had nested blocks, {one_clause} a ~@[, {default} a ~:;; "
@@ -161,6 +169,10 @@ fn next_case(random: &Random) -> Case {
         5 if !kinds.is_empty() => {
             let at = random.below(kinds.len());
             kinds[at] = random.below(5) as u8;
+        }
+        6 => {
+            let times = random.below(MOST_FORMAT / format.len().max(30)).max(1);
+            (format, kinds) = (format.repeat(times), kinds.repeat(times));
         }
         _ => {}
     }

@@ -51,6 +51,7 @@ impl Writer<'_> {
             }
             6 => self.put(&format!("~{}c", self.random.below(128))),
             7 if self.strays() => self.put(self.random.pick(FORBIDDEN)),
+            8 if self.random.once_in(30) => self.put(&"x".repeat(self.random.below(400))),
             _ => {}
         }
     }
