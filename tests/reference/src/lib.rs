@@ -1,6 +1,6 @@
 //! An ordinary formatter for the rules of "Build requirements and exact
-//! rules": a format string is parsed once into a tree, and the tree is run
-//! over an argument table.
+//! rules", with request Thirteen of "After the base": a format string is
+//! parsed once into a tree, and the tree is run over an argument table.
 
 #![forbid(unsafe_code)]
 
@@ -17,8 +17,8 @@ pub use encode::{encode, entry, table_of, Value};
 pub use job::{hex, job_line};
 pub use run::{format, Answer};
 pub use table::{check_table, ENTRY, HEADER};
-pub use tree::check_format;
-pub use vet::{brute_tables, vet, vet_brute, Vetted};
+pub use tree::{check_format, conditionals, Conditional};
+pub use vet::{brute_tables, picks, try_tables, vet, vet_brute, Vetted};
 
 /// "n (2 bytes, at most 1,024)"; also the most kinds that vet takes.
 pub const MOST_ENTRIES: usize = 1024;

@@ -167,6 +167,48 @@ fn block_fault(directive: &Directive, opened: &[Open]) -> Result<(), Fault> {
     }
 }
 
+/// A conditional of a format, with 1 as the depth of one that stands in no
+/// other block.
+#[derive(Clone, Copy, Debug, PartialEq, Eq)]
+pub struct Conditional {
+    pub tilde: usize,
+    pub depth: usize,
+    pub at: bool,
+    pub clauses: usize,
+    pub has_default: bool,
+}
+
+/// The conditionals in text order; none if the text has a fault.
+pub fn conditionals(format: &[u8]) -> Vec<Conditional> {
+    let mut found = Vec::new();
+    collect(&parse(format).unwrap_or_default(), 1, &mut found);
+    found
+}
+
+fn collect(nodes: &[Node], depth: usize, found: &mut Vec<Conditional>) {
+    for node in nodes {
+        match node {
+            Node::Text { .. } | Node::Single(_) => {}
+            Node::Iteration { body, .. } => collect(body, depth + 1, found),
+            Node::Conditional {
+                opener,
+                clauses,
+                has_default,
+            } => {
+                found.push(Conditional {
+                    tilde: opener.tilde,
+                    depth,
+                    at: opener.at,
+                    clauses: clauses.len(),
+                    has_default: *has_default,
+                });
+                let inside = |clause: &Vec<Node>| collect(clause, depth + 1, found);
+                clauses.iter().for_each(inside);
+            }
+        }
+    }
+}
+
 /// Codes 2 to 5 over the whole text.
 pub fn check_format(format: &[u8]) -> Result<(), (u32, usize)> {
     parse(format).map(|_| ())

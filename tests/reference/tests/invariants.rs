@@ -3,7 +3,7 @@
 mod common;
 use common::*;
 use random::{pieced, Random};
-use reference::{check_format, check_table, encode, format, vet, Value};
+use reference::{check_format, check_table, conditionals, encode, format, vet, Value};
 
 fn value(random: &Random, depth: usize) -> Value {
     match random.below(if depth == 0 { 4 } else { 6 }) {
@@ -68,6 +68,8 @@ fn answers_hold_together() {
                 "{text:?}"
             ),
             11 => {}
+            // The clause that fails need not be the one that this table runs.
+            6..=8 if !conditionals(text.as_bytes()).is_empty() => {}
             _ => assert_eq!(
                 (whole.code, whole.position),
                 (vetted.code, vetted.position),

@@ -1,4 +1,4 @@
-//! Vet: its refusals, its counts, and the counts against trying.
+//! Vet of plain formats: its refusals, its counts, and the counts against trying.
 
 mod common;
 use common::*;
@@ -40,8 +40,8 @@ fn refused_inputs() {
 #[test]
 fn not_plain() {
     for text in [
-        "~*", "~:*", "~@*", "~0*", "~[~]", "~:[~;~]", "~@[~]", "~{x~}", "~@{x~}", "~^", "~va",
-        "~V%", "~,,,Va", "~vc", "~,vd",
+        "~*", "~:*", "~@*", "~0*", "~v[~]", "~V[~:;~]", "~{x~}", "~@{x~}", "~^", "~va", "~V%",
+        "~,,,Va", "~vc", "~,vd",
     ] {
         refuses(format!("ab~%{text}~^").as_bytes(), &[1, 1, 1], 0, 11, 4);
         // 11 before 6 to 8 of earlier directives.

@@ -2,7 +2,7 @@
 
 mod drawing;
 
-use drawing::texts;
+use drawing::{texts, values};
 use random::Random;
 use reference::{encode, hex, Value};
 
@@ -79,7 +79,10 @@ fn every(kind: u8, longest: usize) -> Vec<Value> {
         0 => vec![Value::Bool(false), Value::Bool(true)],
         1 => integers().into_iter().map(Value::Int).collect(),
         2 => (0..128).map(Value::Char).collect(),
-        3 => (0..=longest).flat_map(strings).map(Value::Str).collect(),
+        3 => (0..=longest)
+            .flat_map(values::strings)
+            .map(Value::Str)
+            .collect(),
         _ => vec![Value::List(Vec::new())],
     }
 }
@@ -91,9 +94,4 @@ fn integers() -> Vec<i64> {
     let mut both: Vec<i64> = binary.chain(decimal).flat_map(|n| [n, -n]).collect();
     both.extend([0, i64::MIN]);
     both
-}
-
-fn strings(length: usize) -> Vec<Vec<u8>> {
-    let with = |quotes: usize| [vec![b'"'; quotes], vec![b'a'; length - quotes]].concat();
-    (0..=length).map(with).collect()
 }

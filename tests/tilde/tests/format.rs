@@ -3,6 +3,7 @@
 
 mod drawing;
 
+use drawing::smallest::{fewer, shorter, smallest, Steps};
 use drawing::{damage, tables, texts, Tally};
 use random::{pieced, Random};
 use reference::{hex, Answer, Value};
@@ -110,7 +111,7 @@ impl Field {
 fn compare(field: &mut Field, format: &[u8], table: &[u8], room: usize) -> u32 {
     match difference(field, format, table, room) {
         Ok(code) => code,
-        Err(first) => panic!("{}", smallest(format, table, room).unwrap_or(first)),
+        Err(first) => panic!("{}", least(format, table, room).unwrap_or(first)),
     }
 }
 
@@ -142,42 +143,21 @@ fn difference(field: &mut Field, format: &[u8], table: &[u8], room: usize) -> Re
     ))
 }
 
+type Call = (Vec<u8>, Vec<u8>, usize);
+
 /// Bytes are left out of the format and the table, and room is taken away, as long as a difference is left.
-fn smallest(format: &[u8], table: &[u8], room: usize) -> Option<String> {
-    let (mut format, mut table, mut room) = (format.to_vec(), table.to_vec(), room);
-    let mut told = None;
-    loop {
-        let found = smaller(&format, &table, room).find_map(|(f, t, r)| {
-            let wrong = difference(&mut Field::new(), &f, &t, r).err()?;
-            Some((f, t, r, wrong))
-        });
-        let Some((f, t, r, wrong)) = found else {
-            return told;
-        };
-        (format, table, room, told) = (f, t, r, Some(wrong));
-    }
-}
-
-/// The calls that are one step smaller, those with the longest runs of bytes left out first.
-fn smaller<'a>(
-    format: &'a [u8],
-    table: &'a [u8],
-    room: usize,
-) -> impl Iterator<Item = (Vec<u8>, Vec<u8>, usize)> + 'a {
-    let formats = shorter(format).map(move |f| (f, table.to_vec(), room));
-    let tables = shorter(table).map(move |t| (format.to_vec(), t, room));
-    let rooms = [0, room / 2, room.saturating_sub(1)];
-    let rooms = rooms.into_iter().filter(move |&less| less < room);
-    let rooms = rooms.map(move |less| (format.to_vec(), table.to_vec(), less));
-    formats.chain(tables).chain(rooms)
-}
-
-fn shorter(bytes: &[u8]) -> impl Iterator<Item = Vec<u8>> + '_ {
-    let runs = (1..=bytes.len().min(64)).rev();
-    runs.flat_map(move |run| {
-        let starts = 0..=bytes.len() - run;
-        starts.map(move |at| [&bytes[..at], &bytes[at + run..]].concat())
+fn least(format: &[u8], table: &[u8], room: usize) -> Option<String> {
+    let call = (format.to_vec(), table.to_vec(), room);
+    smallest(call, smaller, |(format, table, room)| {
+        difference(&mut Field::new(), format, table, *room).err()
     })
+}
+
+fn smaller((format, table, room): &Call) -> Steps<'_, Call> {
+    let formats = shorter(format).map(move |f| (f, table.clone(), *room));
+    let tables = shorter(table).map(move |t| (format.clone(), t, *room));
+    let rooms = fewer(*room).map(move |less| (format.clone(), table.clone(), less));
+    Box::new(formats.chain(tables).chain(rooms))
 }
 
 // ---- calls ----------------------------------------------------------------

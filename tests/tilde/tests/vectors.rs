@@ -1,4 +1,4 @@
-//! The proved calls against every case of lines.txt and formats.txt.
+//! The proved calls against every case of lines.txt, formats.txt, tables.txt and vets.txt.
 
 use reference::encode;
 
@@ -66,6 +66,17 @@ fn vetted_texts() {
         "formats.txt: {} format texts agree with the proved vet",
         cases.len()
     );
+}
+
+#[test]
+fn vets() {
+    let cases = vectors::vets();
+    for case in &cases {
+        let answer = tilde::vet(&case.format, &case.kinds, case.longest);
+        let expected = (case.code, case.position, case.count);
+        assert_eq!(answer, expected, "{:?}", case.place);
+    }
+    println!("vets.txt: {} vets agree with the proved vet", cases.len());
 }
 
 /// An empty format over each table: the codes of the check of the table.

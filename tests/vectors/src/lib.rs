@@ -1,5 +1,5 @@
-//! The cases of formats.txt, lines.txt and tables.txt. README.md has their
-//! notation. A line that is not in it is a panic that names the line.
+//! The cases of formats.txt, lines.txt, tables.txt and vets.txt. README.md has
+//! their notation. A line that is not in it is a panic that names the line.
 
 #![forbid(unsafe_code)]
 
@@ -39,6 +39,17 @@ pub struct LineCase {
     pub format: Vec<u8>,
     pub arguments: Vec<Value>,
     pub room: usize,
+}
+
+/// A vet, and its whole answer.
+pub struct VetCase {
+    pub place: Place,
+    pub code: u32,
+    pub position: usize,
+    pub count: usize,
+    pub format: Vec<u8>,
+    pub kinds: Vec<u8>,
+    pub longest: usize,
 }
 
 pub fn formats() -> Vec<FormatCase> {
@@ -94,6 +105,22 @@ pub fn lines() -> Vec<LineCase> {
     )
 }
 
+pub fn vets() -> Vec<VetCase> {
+    cases("vets.txt", include_str!("../vets.txt"), |place, fields| {
+        let [answer, format, kinds, longest] = split(fields, " | ", &place);
+        let [code, position, count] = split(answer, " ", &place);
+        VetCase {
+            code: number(code, &place),
+            position: number(position, &place),
+            count: number(count, &place),
+            format: text_field(format, &place),
+            kinds: kinds_field(kinds, &place),
+            longest: number(longest, &place),
+            place,
+        }
+    })
+}
+
 fn cases<T>(file: &'static str, content: &str, read: impl Fn(Place, &str) -> T) -> Vec<T> {
     let read_line = |(index, line): (usize, &str)| {
         let line_number = index + 1;
@@ -110,7 +137,9 @@ fn cases<T>(file: &'static str, content: &str, read: impl Fn(Place, &str) -> T) 
             fields,
         )
     };
-    content.lines().enumerate().map(read_line).collect()
+    let lines = content.lines().enumerate();
+    let own = lines.filter(|(_, line)| !line.starts_with('#'));
+    own.map(read_line).collect()
 }
 
 /// The fields, exactly so many; the last may hold the separator.
@@ -156,6 +185,15 @@ fn arguments_field(field: &str, place: &Place) -> Vec<Value> {
         arguments.push(reader.value());
     }
     arguments
+}
+
+/// The tag of each kind.
+fn kinds_field(field: &str, place: &Place) -> Vec<u8> {
+    let tag = |letter: u8| match b"bicsl".iter().position(|&known| known == letter) {
+        Some(tag) => tag as u8,
+        None => panic!("{place:?}: {letter} is no kind"),
+    };
+    text_field(field, place).into_iter().map(tag).collect()
 }
 
 fn hex_field(field: &str, place: &Place) -> Vec<u8> {
@@ -322,6 +360,8 @@ mod tests {
             hex_field(r"00\*2(01ff)7f", &place()),
             [0, 1, 255, 1, 255, 127]
         );
+        assert_eq!(kinds_field(r"bicsl\*2(s)", &place()), [0, 1, 2, 3, 4, 3, 3]);
+        assert_eq!(kinds_field(r"\e", &place()), []);
         assert_eq!(arguments_field(r"\e", &place()), []);
         let read = arguments_field(r#"-5 "a\s)" #\x41 #t (1 () (#f))"#, &place());
         let expected = [
@@ -340,15 +380,17 @@ mod tests {
 
     #[test]
     fn every_file_is_whole() {
-        assert_eq!(
-            formats().len(),
-            include_str!("../formats.txt").lines().count()
-        );
-        assert_eq!(
-            tables().len(),
-            include_str!("../tables.txt").lines().count()
-        );
-        assert_eq!(lines().len(), include_str!("../lines.txt").lines().count());
-        assert!(formats().len() >= 855 && tables().len() >= 132 && lines().len() >= 367);
+        let whole = |content: &str| {
+            content
+                .lines()
+                .filter(|line| !line.starts_with('#'))
+                .count()
+        };
+        assert_eq!(formats().len(), whole(include_str!("../formats.txt")));
+        assert_eq!(tables().len(), whole(include_str!("../tables.txt")));
+        assert_eq!(lines().len(), whole(include_str!("../lines.txt")));
+        assert_eq!(vets().len(), whole(include_str!("../vets.txt")));
+        assert!(formats().len() >= 855 && tables().len() >= 132);
+        assert!(lines().len() >= 367 && vets().len() >= 70);
     }
 }

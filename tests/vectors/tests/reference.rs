@@ -1,8 +1,8 @@
-//! The reference formatter and the cases, each written from document 01
+//! The reference formatter and the cases, each written from the documents
 //! alone, agree on every case.
 
-use reference::{check_format, check_table, encode, format, Answer};
-use vectors::{formats, lines, tables};
+use reference::{check_format, check_table, encode, format, vet, Answer, Vetted};
+use vectors::{formats, lines, tables, vets};
 
 fn code_and_position(result: Result<(), (u32, usize)>) -> (u32, usize) {
     result.err().unwrap_or((0, 0))
@@ -42,4 +42,19 @@ fn calls() {
         assert_eq!(answer, expected, "{:?}", case.place);
     }
     println!("lines.txt: {} calls agree", cases.len());
+}
+
+#[test]
+fn vetted_formats() {
+    let cases = vets();
+    for case in &cases {
+        let expected = Vetted {
+            code: case.code,
+            position: case.position,
+            count: case.count,
+        };
+        let answer = vet(&case.format, &case.kinds, case.longest);
+        assert_eq!(answer, expected, "{:?}", case.place);
+    }
+    println!("vets.txt: {} vets agree", cases.len());
 }

@@ -1,10 +1,13 @@
-//! What the tests of random calls share: formats, arguments and tables drawn at random, and damage to them.
-#![allow(dead_code)]
+//! What the tests of random calls share: formats, arguments and tables drawn at random, damage to them, and the smallest
+//! of those that show a difference.
+#![allow(dead_code, unused_imports)]
 
 pub mod damage;
+pub mod smallest;
 pub mod tables;
 pub mod texts;
 pub mod values;
+pub mod vets;
 
 /// How often each code was answered, with one line that says so.
 #[derive(Default)]

@@ -1,6 +1,7 @@
 //! Sound formats drawn at random, each with arguments that suit it as long as no jump goes astray.
 
 mod blocks;
+mod clauses;
 mod long;
 
 use super::values;
@@ -37,11 +38,26 @@ pub fn plain(random: &Random) -> (Vec<u8>, Vec<Value>) {
     (writer.text, writer.arguments)
 }
 
+/// A format with a conditional that takes exactly these kinds, and is plain but for conditionals; two in three stray from
+/// that now and then. Blocks nest at most so many levels, and more than four only if they go down to the last.
+pub fn conditional(random: &Random, kinds: &[u8], levels: usize) -> Vec<u8> {
+    let mut writer = Writer::new(random, true);
+    writer.deep = levels > 4;
+    writer.steady = random.once_in(3);
+    let (before, after) = kinds.split_at(random.below(kinds.len() + 1));
+    writer.taking(before, 0);
+    let taken = writer.choosing(after, levels);
+    writer.taking(&after[taken..], 1);
+    writer.text
+}
+
 struct Writer<'a> {
     random: &'a Random,
     plain: bool,
     /// Each sequence begins with a block, down to the last level.
     deep: bool,
+    /// No conditional strays.
+    steady: bool,
     text: Vec<u8>,
     /// What the directives written so far take.
     arguments: Vec<Value>,
@@ -53,6 +69,7 @@ impl Writer<'_> {
             random,
             plain,
             deep: false,
+            steady: true,
             text: Vec::new(),
             arguments: Vec::new(),
         }

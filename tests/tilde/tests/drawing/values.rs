@@ -76,3 +76,30 @@ fn string(random: &Random, longest: usize) -> Vec<u8> {
     };
     (0..length).map(byte).collect()
 }
+
+/// Few values of a kind: one for each of so many clauses that it can choose and for none of them, one for each length that
+/// it has in `~a` and `~s`, and the longest in any other directive.
+pub fn few(kind: u8, longest: usize, clauses: usize) -> Vec<Value> {
+    match kind {
+        0 => vec![Value::Bool(false), Value::Bool(true)],
+        1 => {
+            let decimal = (1..19).map(|zeros| 10i64.pow(zeros));
+            let chosen = -1..=clauses as i64;
+            let numbers = decimal.chain(chosen).chain([i64::MIN]);
+            numbers.map(Value::Int).collect()
+        }
+        // All lengths from 3 to 9, and 11.
+        2 => b"a\x01\x10\0\x07\r\n\x08"
+            .iter()
+            .map(|&c| Value::Char(c))
+            .collect(),
+        3 => (0..=longest).flat_map(strings).map(Value::Str).collect(),
+        _ => vec![Value::List(Vec::new())],
+    }
+}
+
+/// With every number of bytes that `~s` escapes.
+pub fn strings(length: usize) -> Vec<Vec<u8>> {
+    let with = |quotes: usize| [vec![b'"'; quotes], vec![b'a'; length - quotes]].concat();
+    (0..=length).map(with).collect()
+}
