@@ -104,20 +104,26 @@ pub record NoneEnds (d : Directive) (fallback : Bool) (start n : ℕ) : Type 0 w
 
 pub none-met : (d : Directive) (fallback : Bool) (start : ℕ) (P : Fact) → Grows P → (e : Ends) → Met P e
     → Met (λ n s. P n s × NoneEnds d fallback start n) (withNone d fallback start e)
-none-met d fallback start P p e h = by (d .colon) (d .at) fallback refl refl refl
+none-met d fallback start P p e h =
+    by-test Goal (d .colon) e _
+    (λ c. still (λ _. record { boolean = λ z. absurd (not-both-ways c z); number = λ z. absurd (not-both-ways c z) }))
+    (λ c. by-test Goal (d .at) _ _
+    (λ a. also (start + 1) (record { boolean = λ _ _. refl; number = λ _ z. absurd (not-both-ways a z) }))
+    (λ a. by-test Goal fallback e _
+    (λ l. still (λ _. record { boolean = λ _ z. absurd (not-both-ways z a); number = λ _ _ z. absurd (not-both-ways l z) }))
+    (λ l. also start (record { boolean = λ _ z. absurd (not-both-ways z a); number = λ _ _ _. refl }))))
   where
-    by : (colon at last : Bool) → d .colon ≡ colon → d .at ≡ at → fallback ≡ last
-        → Met (λ n s. P n s × NoneEnds d fallback start n)
-        (cond colon e (cond at (meeting e (start + 1) 0) (cond last e (meeting e start 0))))
-    by true at last c a l =
-        met-on P (λ n s. P n s × NoneEnds d fallback start n)
-        (λ n s h. (h, record { boolean = λ z. absurd (not-both-ways c z); number = λ z. absurd (not-both-ways c z) })) e h
-    by false true last c a l =
-        meeting-met P (λ n s. NoneEnds d fallback start n) p (λ n s m l h. h) e (start + 1) 0 h
-        (record { boolean = λ _ _. refl; number = λ _ z. absurd (not-both-ways a z) })
-    by false false true c a l =
-        met-on P (λ n s. P n s × NoneEnds d fallback start n)
-        (λ n s h. (h, record { boolean = λ _ z. absurd (not-both-ways z a); number = λ _ _ z. absurd (not-both-ways l z) })) e h
-    by false false false c a l =
-        meeting-met P (λ n s. NoneEnds d fallback start n) p (λ n s m l h. h) e start 0 h
-        (record { boolean = λ _ z. absurd (not-both-ways z a); number = λ _ _ _. refl })
+    Goal : Ends → Type 0
+    Goal = Met (λ n s. P n s × NoneEnds d fallback start n)
+
+    -- no way more, or one that ends at n
+    still : ((n : ℕ) → NoneEnds d fallback start n) → Met (λ n s. P n s × NoneEnds d fallback start n) e
+    still k = met-on P (λ n s. P n s × NoneEnds d fallback start n) (λ n s h. (h, k n)) e h
+
+    also : (n : ℕ) → NoneEnds d fallback start n → Met (λ n s. P n s × NoneEnds d fallback start n) (meeting e n 0)
+    also n k = meeting-met P (λ n s. NoneEnds d fallback start n) p (λ n s m l h. h) e n 0 h k
+
+-- with a `~:;` one of the clauses always runs, so that running none is no way
+pub always-one : (d : Directive) (fallback : Bool) (start : ℕ) (e : Ends) → d .at ≡ false → fallback ≡ true
+    → withNone d fallback start e ≡ e
+always-one d fallback start e a f = by-test (λ (x : Ends). x ≡ e) (d .colon) e _ (λ _. refl) (λ _. rw (a, f))

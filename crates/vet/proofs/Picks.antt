@@ -27,7 +27,7 @@ use Rattle.vet.specs.declared.Turn.the-variants.{Goes, Stops}
 use Rattle.vet.proofs.Clauses.{Each, each-within, each-number, each-integer}
 use Rattle.vet.proofs.PlainRun.{valueIn}
 use Rattle.vet.proofs.Settling.{settle-plain}
-use Rattle.vet.proofs.Starts.{Begun, workedNumber, by-opener}
+use Rattle.vet.proofs.Starts.{Begun, workedNumber}
 use Rattle.vet.proofs.Taken.{Choosing}
 use Rattle.vet.proofs.Uses.{by-test}
 
@@ -124,4 +124,7 @@ module _ (kinds : List ℕ) (longest : ℕ) (v : View)
         (rw (o .written, o .code, e, f, settle-plain v here places (inOrder (d .parameters)) next (o .fixed)))
 
   pub picks : Picks (startOf kinds longest d next)
-  picks = by-opener kinds longest Picks d next two-picks one-picks number-picks
+  unfolding startOf
+  picks =
+      by-test Picks (d .colon) _ _ two-picks
+      (λ e. by-test Picks (d .at) _ _ (one-picks e) (number-picks e))
