@@ -60,7 +60,10 @@ unfolding meeting
 meeting-met P Q p q Nowhere n s h k = (h n s, k)
 meeting-met P Q p q (Equal a b) n s h k =
     by-test (Met (λ a b. P a b × Q a b)) (eqb a n) _ _
-    (λ t. (p a b (larger b s) (larger-left b s) h, q a s (larger b s) (larger-right b s) (subst⁻¹ (λ (i : ℕ). Q i s) (eqb-true a n t) k)))
+    (λ t. (
+      p a b (larger b s) (larger-left b s) h,
+      q a s (larger b s) (larger-right b s) (subst⁻¹ (λ (i : ℕ). Q i s) (eqb-true a n t) k),
+    ))
     (λ _. tt)
 meeting-met P Q p q Unequal n s h k = tt
 
