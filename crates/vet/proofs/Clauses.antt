@@ -28,7 +28,8 @@ module _ (P : Sequence → Type 0) where
   each-at (clause colon x more) a (suc n) y h = each-at more (a .1) n y h
 
   -- where there is one of that number
-  pub each-within : (cs : Clauses) → Each P cs → (n : ℕ) (otherwise : Sequence) → n < clausesIn cs → P (clauseAt cs n otherwise)
+  pub each-within : (cs : Clauses) → Each P cs → (n : ℕ) (otherwise : Sequence) → n < clausesIn cs
+      → P (clauseAt cs n otherwise)
   unfolding clauseAt clausesIn
   each-within none a n y h = absurd (omega arith)
   each-within (clause colon x more) a zero y h = a .0

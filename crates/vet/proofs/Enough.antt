@@ -1,4 +1,4 @@
--- For a format that a vet accepts, no table of those kinds is refused in a buffer of the count or larger. Assumes nothing.
+-- Of a format that a vet accepts no table of those kinds is refused in a buffer of the count or larger. Assumes nothing.
 use Prim.Native.Nat.{ℕ, _-_, _≤_}
 use mathlib.Core.Path.{_≡_, ap, _∙_, subst}
 use mathlib.Core.List.{List, [], append-nil}
@@ -33,7 +33,8 @@ module _ (format kinds : List ℕ) (longest : ℕ) (tv : textVerdict format ≡ 
     reached : Reached view (length kinds) (runOf format table) [] 0 0 n count
     reached =
         let x = sequenceOf format in
-        let walk = sequence-walks kinds longest view (read-kind s) (read-allowed s) x deepest (text-taken format tv kv) 0 0 in
+        let fine = text-taken format tv kv in
+        let walk = sequence-walks kinds longest view (read-kind s) (read-allowed s) x deepest fine 0 0 in
         let runs = subst (Led (Runs view (length kinds) deepest (weight x) x 0 0)) way walk in
         rw (run-is s format)
         (reached-weaker view (length kinds) (omega arith) (omega arith) (omega arith)
@@ -53,7 +54,8 @@ module _ (format kinds : List ℕ) (longest : ℕ) (tv : textVerdict format ≡ 
     answers : (room : ℕ) → count ≤ room
         → answerOf format table room ≡ finished (finishOf (runOf format table)) (givenText (runOf format table))
     unfolding answerOf
-    answers room h = rw (s .valid, tv) (fit-all room (runOf format table) [] (omega (arith, ap length given, reached .short)))
+    answers room h =
+        rw (s .valid, tv) (fit-all room (runOf format table) [] (omega (arith, ap length given, reached .short)))
 
   pub enough : Enough format kinds longest count
   enough table s room h = record {

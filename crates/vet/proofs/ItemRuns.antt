@@ -47,7 +47,8 @@ module _ (kinds : List ℕ) (longest : ℕ) (v : View)
         → Goal sum (wayOf kinds longest rest after (sum + most))
     unfolding weight
     piece-walks w after most sum h is =
-        led-on (Runs v count k (weight rest) rest after (sum + most)) (Runs v count k (suc (weight rest)) (acts p x rest) next sum)
+        led-on (Runs v count k (weight rest) rest after (sum + most))
+        (Runs v count k (suc (weight rest)) (acts p x rest) next sum)
         (λ n s r ks d left l. (
         let e : left - suc (weight rest) ≡ left - 1 - weight rest = omega arith in
         rw (is ks left l, e) (reached-piece v count p (left - 1) w sum most h (r ks d (left - 1) (omega arith)))))
@@ -87,4 +88,5 @@ module _ (kinds : List ℕ) (longest : ℕ) (v : View)
       → Walks kinds longest v k (acts p x rest)
   unfolding wayOf turnOf
   acts-walks k p x rest o walk next sum =
-      use-walks k p x rest walk next (useOf count x next) (use-within count x next o) (acts-gives k p x rest walk next o) sum
+      use-walks k p x rest walk next (useOf count x next) (use-within count x next o)
+      (acts-gives k p x rest walk next o) sum

@@ -39,6 +39,7 @@ AllMet P (failing code p) = Unit {0}
 abbrev pub Grows : Fact → Type 0
 Grows P = (n s more : ℕ) → s ≤ more → P n s → P n more
 
+-- what follows from a fact
 module _ (P Q : Fact) (on : (n s : ℕ) → P n s → Q n s) where
   pub led-on : (w : Way) → Led P w → Led Q w
   led-on (leads n s) h = on n s h
@@ -60,42 +61,41 @@ unfolding meeting
 meeting-met P Q p q Nowhere n s h k = (h n s, k)
 meeting-met P Q p q (Equal a b) n s h k =
     by-test (Met (λ a b. P a b × Q a b)) (eqb a n) _ _
-    (λ t. (p a b (larger b s) (larger-left b s) h, q a s (larger b s) (larger-right b s) (subst⁻¹ (λ (i : ℕ). Q i s) (eqb-true a n t) k)))
+    (λ t. (
+      p a b (larger b s) (larger-left b s) h,
+      q a s (larger b s) (larger-right b s) (subst⁻¹ (λ (i : ℕ). Q i s) (eqb-true a n t) k),
+    ))
     (λ _. tt)
 meeting-met P Q p q Unequal n s h k = tt
 
-module _ (kinds : List ℕ) (longest start : ℕ) where
+after-way : (P Q : Fact) (w : Way) (on : ℕ → ℕ → Ways) → Led P w → ((n s : ℕ) → P n s → AllMet Q (on n s))
+    → AllMet Q (onWay w on)
+after-way P Q (leads n s) on h f = f n s h
+after-way P Q (fails code p) on h f = tt
+
+module _ (kinds : List ℕ) (longest start : ℕ) (F : Sequence → Fact) (grows : (x : Sequence) → Grows (F x)) where
   -- Every clause leads where its own fact holds, so that all of them hold where they meet, and with them the fact P of the
   -- ways before them
-  ways-met : (F : Sequence → Fact) → ((x : Sequence) → Grows (F x)) → (cs : Clauses)
-      → Each (λ x. Led (F x) (wayOf kinds longest x start 0)) cs → (P : Fact) → Grows P → (e : Ends) → Met P e
+  ways-met : (cs : Clauses) → Each (λ x. Led (F x) (wayOf kinds longest x start 0)) cs → (P : Fact) → Grows P → (e : Ends)
+      → Met P e
       → AllMet (λ n s. P n s × Each (λ x. F x n s) cs) (waysOf kinds longest cs start e)
   unfolding wayOf
-  ways-met F g none a P p e h = met-on P _ (λ n s h. (h, tt)) e h
-  ways-met F g (clause colon x more) a P p e h =
-      by (wayOf kinds longest x start 0) (a .0)
-      (λ n s k. ways-met F g more (a .1) (λ n s. P n s × F x n s) (λ n s m l h. (p n s m l (h .0), g x n s m l (h .1)))
-      (meeting e n s) (meeting-met P (F x) p (g x) e n s h k))
-    where
-      by : (w : Way) → Led (F x) w
-          → ((n s : ℕ) → F x n s
-          → AllMet (λ a b. (P a b × F x a b) × Each (λ x. F x a b) more) (waysOf kinds longest more start (meeting e n s)))
-          → AllMet (λ n s. P n s × Each (λ x. F x n s) (clause colon x more))
-          (onWay w (λ n s. waysOf kinds longest more start (meeting e n s)))
-      by (leads n s) k on =
-          all-on (λ a b. (P a b × F x a b) × Each (λ x. F x a b) more) (λ a b. P a b × Each (λ x. F x a b) (clause colon x more))
-          (λ a b h. (h .0 .0, (h .0 .1, h .1)))
-          (waysOf kinds longest more start (meeting e n s)) (on n s k)
-      by (fails code p) k on = tt
+  ways-met none a P p e h = met-on P _ (λ n s h. (h, tt)) e h
+  ways-met (clause colon x more) a P p e h =
+      let Both : Fact = λ n s. P n s × F x n s in
+      after-way (F x) (λ n s. P n s × Each (λ x. F x n s) (clause colon x more)) (wayOf kinds longest x start 0) _ (a .0)
+      (λ n s k. all-on (λ n s. Both n s × Each (λ x. F x n s) more) _ (λ n s h. (h .0 .0, (h .0 .1, h .1)))
+      (waysOf kinds longest more start (meeting e n s))
+      (ways-met more (a .1) Both (λ n s m l h. (p n s m l (h .0), grows x n s m l (h .1))) (meeting e n s)
+      (meeting-met P (F x) p (grows x) e n s h k)))
 
   -- of all clauses from the first
-  pub clauses-met : (F : Sequence → Fact) → ((x : Sequence) → Grows (F x)) → (cs : Clauses)
-      → Each (λ x. Led (F x) (wayOf kinds longest x start 0)) cs
+  pub clauses-met : (cs : Clauses) → Each (λ x. Led (F x) (wayOf kinds longest x start 0)) cs
       → AllMet (λ n s. Each (λ x. F x n s) cs) (waysOf kinds longest cs start Nowhere)
-  clauses-met F g cs a =
+  clauses-met cs a =
       all-on (λ n s. Unit {0} × Each (λ x. F x n s) cs) (λ n s. Each (λ x. F x n s) cs) (λ n s h. h .1)
       (waysOf kinds longest cs start Nowhere)
-      (ways-met F g cs a (λ _ _. Unit {0}) (λ n s m l h. h) Nowhere (λ _ _. tt))
+      (ways-met cs a (λ _ _. Unit {0}) (λ n s m l h. h) Nowhere (λ _ _. tt))
 
 -- the way by which none of the clauses runs, if there is one, ends at n
 pub record NoneEnds (d : Directive) (fallback : Bool) (start n : ℕ) : Type 0 where
@@ -104,20 +104,27 @@ pub record NoneEnds (d : Directive) (fallback : Bool) (start n : ℕ) : Type 0 w
 
 pub none-met : (d : Directive) (fallback : Bool) (start : ℕ) (P : Fact) → Grows P → (e : Ends) → Met P e
     → Met (λ n s. P n s × NoneEnds d fallback start n) (withNone d fallback start e)
-none-met d fallback start P p e h = by (d .colon) (d .at) fallback refl refl refl
+none-met d fallback start P p e h =
+    by-test Goal (d .colon) e _
+    (λ c. still (λ _. record { boolean = λ z. absurd (not-both-ways c z); number = λ z. absurd (not-both-ways c z) }))
+    (λ c. by-test Goal (d .at) _ _
+    (λ a. also (start + 1) (record { boolean = λ _ _. refl; number = λ _ z. absurd (not-both-ways a z) }))
+    (λ a. by-test Goal fallback e _
+    (λ l. still (λ _. record { boolean = λ _ z. absurd (not-both-ways z a); number = λ _ _ z. absurd (not-both-ways l z) }))
+    (λ l. also start (record { boolean = λ _ z. absurd (not-both-ways z a); number = λ _ _ _. refl }))))
   where
-    by : (colon at last : Bool) → d .colon ≡ colon → d .at ≡ at → fallback ≡ last
-        → Met (λ n s. P n s × NoneEnds d fallback start n)
-        (cond colon e (cond at (meeting e (start + 1) 0) (cond last e (meeting e start 0))))
-    by true at last c a l =
-        met-on P (λ n s. P n s × NoneEnds d fallback start n)
-        (λ n s h. (h, record { boolean = λ z. absurd (not-both-ways c z); number = λ z. absurd (not-both-ways c z) })) e h
-    by false true last c a l =
-        meeting-met P (λ n s. NoneEnds d fallback start n) p (λ n s m l h. h) e (start + 1) 0 h
-        (record { boolean = λ _ _. refl; number = λ _ z. absurd (not-both-ways a z) })
-    by false false true c a l =
-        met-on P (λ n s. P n s × NoneEnds d fallback start n)
-        (λ n s h. (h, record { boolean = λ _ z. absurd (not-both-ways z a); number = λ _ _ z. absurd (not-both-ways l z) })) e h
-    by false false false c a l =
-        meeting-met P (λ n s. NoneEnds d fallback start n) p (λ n s m l h. h) e start 0 h
-        (record { boolean = λ _ z. absurd (not-both-ways z a); number = λ _ _ _. refl })
+    Goal : Ends → Type 0
+    Goal = Met (λ n s. P n s × NoneEnds d fallback start n)
+
+    -- no way more
+    still : ((n : ℕ) → NoneEnds d fallback start n) → Met (λ n s. P n s × NoneEnds d fallback start n) e
+    still k = met-on P (λ n s. P n s × NoneEnds d fallback start n) (λ n s h. (h, k n)) e h
+
+    -- one that ends at n
+    also : (n : ℕ) → NoneEnds d fallback start n → Met (λ n s. P n s × NoneEnds d fallback start n) (meeting e n 0)
+    also n k = meeting-met P (λ n s. NoneEnds d fallback start n) p (λ n s m l h. h) e n 0 h k
+
+-- with a `~:;` one of the clauses always runs, so that running none is no way
+pub always-one : (d : Directive) (fallback : Bool) (start : ℕ) (e : Ends) → d .at ≡ false → fallback ≡ true
+    → withNone d fallback start e ≡ e
+always-one d fallback start e a f = by-test (λ (x : Ends). x ≡ e) (d .colon) e _ (λ _. refl) (λ _. rw (a, f))

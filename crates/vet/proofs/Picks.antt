@@ -27,7 +27,7 @@ use Rattle.vet.specs.declared.Turn.the-variants.{Goes, Stops}
 use Rattle.vet.proofs.Clauses.{Each, each-within, each-number, each-integer}
 use Rattle.vet.proofs.PlainRun.{valueIn}
 use Rattle.vet.proofs.Settling.{settle-plain}
-use Rattle.vet.proofs.Starts.{Begun, workedNumber, by-opener}
+use Rattle.vet.proofs.Starts.{Begun, workedNumber}
 use Rattle.vet.proofs.Taken.{Choosing}
 use Rattle.vet.proofs.Uses.{by-test}
 
@@ -103,17 +103,20 @@ module _ (kinds : List ℕ) (longest : ℕ) (v : View)
     by-number i Absent =
         by-test Goal (ltb i count) _ (Stops 6)
         (λ t. by-test Goal (eqb (kindIn kinds i) 1) (Goes (i + 1) 0) (Stops 7)
-        (λ k a. rw t (by-value i (valueIn v count i) (agree i (ltb-true i count t) ∙ eqb-true (kindIn kinds i) 1 k) a)) (λ _. tt))
+        (λ k a. rw t (by-value i (valueIn v count i) (agree i (ltb-true i count t) ∙ eqb-true (kindIn kinds i) 1 k) a))
+        (λ _. tt))
         (λ _. tt)
       where
         Goal : Turn → Type 0
         Goal = Begun (λ start. AnyRun start → P (pickNumbered v p m cs here i on Absent))
     by-number i (Is n) = λ a. each-number (λ x. P (on x i)) cs (a .each) (a .number e f) n
 
-    by-settled : (z : Settled) → flow ≡ onSettled p m z (λ s i. pick v p m d cs here s i on) → Picks (settledStart kinds longest z)
+    by-settled : (z : Settled) → flow ≡ onSettled p m z (λ s i. pick v p m d cs here s i on)
+        → Picks (settledStart kinds longest z)
     by-settled (settled ss i) q =
-        let n : pick v p m d cs here (settingsOf ss) i on ≡ pickNumbered v p m cs here i on (settingsOf ss .first) = rw (e, f) in
-        rw (q ∙ n) (by-number i (settingsOf ss .first))
+        let s = settingsOf ss in
+        let n : pick v p m d cs here s i on ≡ pickNumbered v p m cs here i on (s .first) = rw (e, f) in
+        rw (q ∙ n) (by-number i (s .first))
     by-settled (unsettled code) q = tt
 
     number-picks : Picks (settledStart kinds longest (workedNumber kinds longest d next))
@@ -124,4 +127,7 @@ module _ (kinds : List ℕ) (longest : ℕ) (v : View)
         (rw (o .written, o .code, e, f, settle-plain v here places (inOrder (d .parameters)) next (o .fixed)))
 
   pub picks : Picks (startOf kinds longest d next)
-  picks = by-opener kinds longest Picks d next two-picks one-picks number-picks
+  unfolding startOf
+  picks =
+      by-test Picks (d .colon) _ _ two-picks
+      (λ e. by-test Picks (d .at) _ _ (one-picks e) (number-picks e))

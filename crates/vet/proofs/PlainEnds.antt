@@ -46,7 +46,8 @@ module _ (kinds : List ℕ) (longest : ℕ) (v : View)
       most = worst longest f (d .colon) (d .at) s (kindOf (valueIn v count i))
 
       pick : (b : Bool)
-          → Ended (choose b (λ _. put p m text (on after)) (λ _. refused 7 p m)) (onTurn p (cond b (Goes after most) (Stops 7)) sum rest)
+          → Ended (choose b (λ _. put p m text (on after)) (λ _. refused 7 p m))
+          (onTurn p (cond b (Goes after most) (Stops 7)) sum rest)
       pick true = let e = h after (sum + most) in record { code = e .code; position = e .position }
       pick false = record { code = refl; position = refl }
 

@@ -57,7 +57,8 @@ module _ (format kinds : List ℕ) (longest : ℕ) (tv : textVerdict format ≡ 
     ending = plain-ended kinds longest view (read-kind s) items ordinary limit 0 0
 
     -- with room for all that is given, and without
-    roomy : (room : ℕ) → length (givenText flow) ≤ room → answerOf format table room ≡ finished (finishOf flow) (givenText flow)
+    roomy : (room : ℕ) → length (givenText flow) ≤ room
+        → answerOf format table room ≡ finished (finishOf flow) (givenText flow)
     roomy room h = rw (answer-is room) (fit-all room flow [] (omega arith))
 
     cramped : (room : ℕ) → room < length (givenText flow) → answerOf format table room .code ≡ 10
@@ -79,7 +80,8 @@ module _ (format kinds : List ℕ) (longest : ℕ) (tv : textVerdict format ≡ 
   }
 
   -- the table that fills the count
-  filling : Filling kinds longest (a .many) (a .long) (a .tags) 0 (λ v n. flowFrom v count items n 0) (λ sum. vetFrom kinds longest items 0 sum)
+  filling : Filling kinds longest (a .many) (a .long) (a .tags) 0 (λ v n. flowFrom v count items n 0)
+      (λ sum. vetFrom kinds longest items 0 sum)
   filling = plain-filling kinds longest (a .many) (a .long) (a .tags) items ordinary 0
 
   abbrev filler : List ℕ

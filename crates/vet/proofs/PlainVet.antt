@@ -1,5 +1,5 @@
--- A vet of plain formats only, item by item: what the ways through a format come to where it has no conditional (PlainWays).
--- Assumes nothing.
+-- A vet of plain formats only, item by item: what the ways through a format come to where it has no conditional
+-- (PlainWays). Assumes nothing.
 use Prim.Native.Nat.{ℕ, _+_}
 use mathlib.Core.List.{List, [], _∷_}
 use Rattle.rules.specs.Text.{Token, tokensAt, textVerdict}

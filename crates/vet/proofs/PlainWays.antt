@@ -85,8 +85,11 @@ module _ (format kinds : List ℕ) (longest : ℕ) (plain : plainVerdict format 
   plain-as-before = by (askedVerdict kinds longest) (textVerdict format) refl
     where
       by : (asked text : Verdict) → textVerdict format ≡ text
-          → unlessDeclined asked (λ _. unlessDeclined text (λ _. unlessDeclined (takenVerdict format) (λ _. runAnswer format kinds longest)))
-          ≡ unlessDeclined asked (λ _. unlessDeclined text (λ _. unlessDeclined (plainVerdict format) (λ _. vetFrom kinds longest (tokensAt format 0) 0 0)))
+          → unlessDeclined asked
+          (λ _. unlessDeclined text (λ _. unlessDeclined (takenVerdict format) (λ _. runAnswer format kinds longest)))
+          ≡ unlessDeclined asked
+          (λ _. unlessDeclined text
+          (λ _. unlessDeclined (plainVerdict format) (λ _. vetFrom kinds longest (tokensAt format 0) 0 0)))
       by (Refused code p) text e = refl
       by Accepted (Refused code p) e = refl
       by Accepted Accepted e = rw (plain-taken format plain, plain) (plain-answer e)

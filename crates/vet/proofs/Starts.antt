@@ -15,7 +15,6 @@ use Rattle.rules.specs.declared.Code.the-variants.{Opens}
 use Rattle.rules.specs.declared.Directive.{Directive}
 use Rattle.rules.specs.declared.Setting.{Setting}
 use Rattle.rules.specs.declared.Setting.the-variants.{Absent, Is}
-use Rattle.rules.proofs.Tests.{not-both-ways}
 use Rattle.vet.specs.Plain.{noneNext}
 use Rattle.vet.specs.Turns.{kindIn}
 use Rattle.vet.specs.Use.{inHand, noEntries}
@@ -79,28 +78,21 @@ module _ (kinds : List ℕ) (longest : ℕ) where
       settle-placed (inHand count next) (placesOf (Opens Conditional) false) (inOrder (d .parameters)) next (o .fixed)
       (rw e at (written-suits d (Opens Conditional) (o .code) (o .written)))
 
-  -- what holds of each of the three openers holds of where a conditional starts
-  pub by-opener : (P : Turn → Type 0) (d : Directive) (next : ℕ)
-      → (d .colon ≡ true → P (onOwn kinds longest next (Goes (next + 1) 0)))
-      → (d .colon ≡ false → d .at ≡ true → P (onOwn kinds longest next (cond (eqb (kindIn kinds next) 0) (Goes next 0) (Stops 11))))
-      → (d .colon ≡ false → d .at ≡ false → P (settledStart kinds longest (workedNumber d next)))
-      → P (startOf kinds longest d next)
-  unfolding startOf
-  by-opener P d next two one number =
-      by-test P (d .colon) _ _ two (λ e. by-test P (d .at) _ _ (λ f. one e f) (λ f. number e f))
-
   pub start-turned : (d : Directive) (next : ℕ) → next ≤ count → Opener d → Started count (startOf kinds longest d next)
+  unfolding startOf
   start-turned d next h o =
-      by-opener (Started count) d next (λ _. own-started next _ (λ b. (b, refl)))
-      (λ _ _. own-started next _ (λ b. by-test (Started count) (eqb (kindIn kinds next) 0) _ _ (λ _. (h, refl)) (λ _. inr refl)))
-      (λ e f. settled-started next (workedNumber d next) h (number-settles d next o (rw (e, f))))
+      by-test (Started count) (d .colon) _ _ (λ _. own-started next (Goes (next + 1) 0) (λ b. (b, refl)))
+      (λ e. by-test (Started count) (d .at) _ _
+      (λ _. own-started next _
+      (λ _. by-test (Started count) (eqb (kindIn kinds next) 0) (Goes next 0) (Stops 11) (λ _. (h, refl)) (λ _. inr refl)))
+      (λ f. settled-started next (workedNumber d next) h (number-settles d next o (rw (e, f)))))
 
   -- "`~@[` is accepted only for a boolean"
   pub only-boolean : (d : Directive) (next : ℕ) → d .colon ≡ false → d .at ≡ true
       → Begun (λ _. kindIn kinds next ≡ 0) (startOf kinds longest d next)
+  unfolding startOf
   only-boolean d next e f =
-      by-opener (Begun (λ _. kindIn kinds next ≡ 0)) d next (λ z. absurd (not-both-ways z e))
-      (λ _ _. by-test (Begun (λ _. kindIn kinds next ≡ 0)) (ltb next count) _ _
+      rw (e, f)
+      (by-test (Begun (λ _. kindIn kinds next ≡ 0)) (ltb next count) _ _
       (λ _. by-test (Begun (λ _. kindIn kinds next ≡ 0)) (eqb (kindIn kinds next) 0) _ _
-      (λ k. eqb-true (kindIn kinds next) 0 k) (λ _. tt)) (λ _. tt))
-      (λ _ z. absurd (not-both-ways f z))
+      (eqb-true (kindIn kinds next) 0) (λ _. tt)) (λ _. tt))

@@ -1,5 +1,5 @@
--- The sequences of an accepted text that a vet takes: ordinary items, and conditionals whose blocks have the clauses that
--- they must and levels left for them. Assumes nothing.
+-- The sequences of an accepted text that a vet takes: ordinary items, and conditionals that have the clauses they must and
+-- levels left for them. Assumes nothing.
 use Prim.Native.Nat.{ℕ, zero, suc, _+_, _≤_, _<_}
 use mathlib.Core.Path.{_≡_, refl}
 use mathlib.Core.Bool.{true, false}
@@ -47,17 +47,18 @@ unfoldable mutual
   TakenClauses k none = Unit {0}
   TakenClauses k (clause colon x more) = Taken k x × TakenClauses k more
 
--- the clauses still to come of an open block make up the number that it must have
-abbrev Complete : Block → Clauses → Type 0
-Complete o cs =
-    isConditional o ≡ true
-    → rightCount (record { at = o .at; opener = o .opener; separators = o .separators + clausesIn cs; fallback = o .fallback }) ≡ true
+-- an open conditional has the right number of clauses, once n more have come
+abbrev with : Block → ℕ → Block
+with o n = record { at = o .at; opener = o .opener; separators = o .separators + n; fallback = o .fallback }
+
+abbrev RightWith : Block → ℕ → Type 0
+RightWith o n = isConditional o ≡ true → rightCount (with o n) ≡ true
 
 -- what is still to come of the open sequences, inside these blocks, with k levels left inside the innermost
 unfoldable TakenLevels : ℕ → List Block → List Level → Type 0
 TakenLevels k [] ls = Taken k (innermost ls .rest)
 TakenLevels k (o ∷ os) ls =
-    Taken k (innermost ls .rest) × TakenClauses k (innermost ls .more) × Complete o (innermost ls .more)
+    Taken k (innermost ls .rest) × TakenClauses k (innermost ls .more) × RightWith o (clausesIn (innermost ls .more))
     × TakenLevels (suc k) os (outer ls)
 
 -- one element more in the innermost sequence
@@ -86,8 +87,9 @@ module _ (k p : ℕ) (d : Directive) (o : Block) (os : List Block) (ls : List Le
       → TakenLevels k (o ∷ os) (record { rest = end; more = asClauses (d .colon) ls } ∷ outer ls)
   unfolding TakenLevels Taken clausesIn
   separated-taken l =
-      let n : suc (o .separators) + clausesIn (innermost ls .more) ≡ o .separators + suc (clausesIn (innermost ls .more)) = omega arith in
-      (tt, (l .0, l .1), (λ c. rw n at (l .2 c)), l .3)
+      let n = clausesIn (innermost ls .more) in
+      let e : suc (o .separators) + n ≡ o .separators + suc n = omega arith in
+      (tt, (l .0, l .1), (λ c. rw e at (l .2 c)), l .3)
 
   -- a block ends
   closed-taken : (isConditional o ≡ true → rightCount o ≡ true) → TakenLevels (suc k) os ls
@@ -116,10 +118,13 @@ abbrev Shown : List ℕ → ℕ → Type 0
 Shown t p =
     (os : List Block) (k : ℕ) → length os + k ≡ deepest → Sound t os p → TakenAt t p → TakenLevels k os (levelsAt t p)
 
-module _ (t : List ℕ) (p : ℕ) (d : Directive) (e : itemAt t p ≡ Written d) (on : Shown t (d .next)) (v : TakenAt t (d .next))
-    (os : List Block) (s : Sound t os p) where
-  directive-taken : (c : Code) → d .code ≡ c → CodeRight c → both (plainCode true c) (noneNext (inOrder (d .parameters))) ≡ true
-      → (k : ℕ) → length os + k ≡ deepest → TakenLevels k os (levelsAt t p)
+-- a directive at p, where it is shown of what follows it
+module _ (t : List ℕ) (p : ℕ) (d : Directive) (e : itemAt t p ≡ Written d) (on : Shown t (d .next))
+    (v : TakenAt t (d .next)) (os : List Block) (s : Sound t os p) where
+  directive-taken : (c : Code) → d .code ≡ c → CodeRight c
+      → both (plainCode true c) (noneNext (inOrder (d .parameters))) ≡ true
+      → (k : ℕ) → length os + k ≡ deepest
+      → TakenLevels k os (levelsAt t p)
   unfolding Taken
   directive-taken (Writes f) q b n k h =
       let r = sound-writes t os p s d e f q in
@@ -141,7 +146,8 @@ module _ (t : List ℕ) (p : ℕ) (d : Directive) (e : itemAt t p ≡ Written d)
       let r = sound-separator t os p s d e q in
       let l : suc (length (r .others)) + k ≡ deepest = rw (r .is) at h in
       rw (r .is, levels-separator t p d e q)
-      (separated-taken k p d (r .block) (r .others) (levelsAt t (d .next)) (on (separated (r .block) d ∷ r .others) k l (r .on) v))
+      (separated-taken k p d (r .block) (r .others) (levelsAt t (d .next))
+      (on (separated (r .block) d ∷ r .others) k l (r .on) v))
   directive-taken (Closes c) q b n k h =
       let r = sound-closer t os p s d e c q in
       let l : suc (length (r .others)) + k ≡ deepest = rw (r .is) at h in
@@ -165,7 +171,8 @@ item-taken t p on os k h s v = by (itemAt t p) refl
     by (Written d) e =
         let w = next-inside t p d e in
         let m = item-on t p (Written d) e (omega (arith, w .above)) v in
-        directive-taken t p d e (on (d .next) (omega (arith, w .above)) (w .most)) (m .1) os s (d .code) refl (code-right t p d e) (m .0) k h
+        directive-taken t p d e (on (d .next) (omega (arith, w .above)) (w .most)) (m .1) os s (d .code) refl
+        (code-right t p d e) (m .0) k h
     by BadNumber e = absurd (sound-bad t os p s e)
     by Unfinished e = absurd (sound-unfinished t os p s e)
 

@@ -47,7 +47,8 @@ module _ (kinds : List ℕ) (longest : ℕ) (v : View) where
   )
 
   -- a conditional and what follows it
-  module _ (k p : ℕ) (d : Directive) (cs : Clauses) (rest : Sequence) (walk : Walks kinds longest v (suc k) rest) (next sum : ℕ) where
+  module _ (k p : ℕ) (d : Directive) (cs : Clauses) (rest : Sequence) (walk : Walks kinds longest v (suc k) rest)
+      (next sum : ℕ) where
     abbrev most : ℕ
     most = weights cs
 
