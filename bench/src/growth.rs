@@ -1,6 +1,7 @@
-//! A line against the ordinary formatter, how the cost grows, and the longest vets.
+//! A line against the ordinary formatter, how the cost grows, and the longest vets, plain and with conditionals.
 
 use crate::lines::{LINES, ROOM, STATIONS};
+use crate::slowest::filled;
 use crate::{race, title};
 use reference::{encode, Value};
 use std::hint::black_box;
@@ -97,6 +98,29 @@ fn vets() {
     }
 }
 
+/// Formats of the greatest length with conditionals, over integers, against a plain one of as many bytes.
+fn conditional_vets() {
+    let of = |before: &str, unit: &str, after: &str| filled(MOST, before, unit, after).1;
+    let nest = ["~0[".repeat(8), "~]".repeat(8)];
+    let (plain, kinds) = (of("", "~99d", ""), vec![1; 1_024]);
+    let accepted = |format: &[u8]| usize::from(tilde::vet(format, black_box(&kinds), MOST).0 == 0);
+    for (name, format) in [
+        ("~[~], 1,024 times", of("", "~[~]", "")),
+        ("~0[~d~:;~x~], 341 times", of("", "~0[~d~:;~x~]", "")),
+        (
+            "eight ~0[ in one another, 102 times",
+            of("", &nest.concat(), ""),
+        ),
+        (
+            "~99% 1,014 times inside eight ~0[",
+            of(&nest[0], "~99%", &nest[1]),
+        ),
+        ("~0[ of 1,022 clauses", of("~0[", "~d~;", "~d~:;~d~]")),
+    ] {
+        race(name, 1, || accepted(&format), || accepted(&plain));
+    }
+}
+
 pub fn measure() {
     title(
         "a line, against the ordinary formatter",
@@ -110,4 +134,10 @@ pub fn measure() {
     entries();
     title("the longest vets, against a check", "vet", "check");
     vets();
+    title(
+        "the longest vets with conditionals, against ~99d, 1,024 times",
+        "vet",
+        "plain",
+    );
+    conditional_vets();
 }

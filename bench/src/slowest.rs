@@ -46,7 +46,7 @@ fn timed(mut call: impl FnMut()) -> f64 {
 }
 
 /// A format of at most so many bytes, a unit over and over between two parts, and its name.
-fn filled(most: usize, before: &str, unit: &str, after: &str) -> (String, Vec<u8>) {
+pub fn filled(most: usize, before: &str, unit: &str, after: &str) -> (String, Vec<u8>) {
     let times = (most - before.len() - after.len()) / unit.len();
     let name = format!("{before}{unit}..{after}")
         .replace('\n', "\\n")

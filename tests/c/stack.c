@@ -240,6 +240,49 @@ static void long_formats(void)
     }
 }
 
+/* Conditionals into which a vet goes, and the kind of the argument that each takes, or NONE. */
+enum { NONE = TILDE_LIST + 1 };
+
+static const struct {
+    const char *opens, *closes;
+    uint8_t takes;
+} conditionals[] = {
+    {"~[", "~]", TILDE_INTEGER}, {"~[x~;", "~:;x~]", TILDE_INTEGER}, {"~1[x~;", "~]", NONE},
+    {"~#[x~:;", "~]", NONE},     {"~:[x~;", "~]", TILDE_STRING},     {"~@[", "~]", NONE},
+};
+
+/* A nest without jumps, as a vet over the kinds that it takes: a count goes down to its piece, and one over booleans
+   goes down ~@[. */
+static void vet_nest(size_t one, size_t other, struct piece piece)
+{
+    uint8_t kinds[LEVELS + 2], booleans[LEVELS + 2] = {0};
+    size_t taken = 0;
+    job.format_length = 0;
+    for (size_t i = 0; i < LEVELS; i++) {
+        size_t chosen = i % 2 ? other : one;
+        put("%s", conditionals[chosen].opens);
+        if (conditionals[chosen].takes != NONE)
+            kinds[taken++] = conditionals[chosen].takes;
+    }
+    put("%s", piece.text);
+    for (size_t i = LEVELS; i-- > 0;)
+        put("%s", conditionals[i % 2 ? other : one].closes);
+    kinds[taken] = kinds[taken + 1] = argument_kinds[piece.entry];
+    measure(1, kinds, taken + 2, 0);
+    measure(1, booleans, taken + 2, 0);
+}
+
+static void vetted_nests(void)
+{
+    for (size_t one = 0; one < COUNT(conditionals); one++)
+        for (size_t other = 0; other < COUNT(conditionals); other++) {
+            for (size_t i = 0; i < COUNT(pieces); i++)
+                vet_nest(one, other, pieces[i]);
+            for (size_t i = 0; i < COUNT(refusals); i++)
+                vet_nest(one, other, refusals[i]);
+        }
+}
+
 /* Nests that go on to the last step. */
 static void endless_nests(void)
 {
@@ -272,6 +315,7 @@ int main(void)
     fill_arguments();
     regular_nests();
     random_nests();
+    vetted_nests();
     long_formats();
     endless_nests();
     on_no_more();

@@ -22,7 +22,8 @@ use Rattle.vet.specs.Use.{inHand, noEntries}
 use Rattle.vet.specs.Ways.{onOwn, numberedStart, settledStart, startOf}
 use Rattle.vet.specs.declared.Turn.{Turn}
 use Rattle.vet.specs.declared.Turn.the-variants.{Goes, Stops}
-use Rattle.turns.specs.Parts.{settingBy, Choosing}
+use Rattle.vet.specs.Plain.{Opener}
+use Rattle.turns.specs.Parts.{settingBy}
 use Rattle.turns.proofs.Worked.{number-settled}
 
 -- an argument of its own, of any kind or of the one wanted
@@ -54,7 +55,7 @@ module _ (kinds : List ℕ) (d : Directive) (next : ℕ) where
   unfolding startOf
   start-at c a e longest = rw (c, a) (e longest)
 
-  module _ (w : Choosing d) (c : d .colon ≡ false) (a : d .at ≡ false) (left : ℕ) (is : left ≡ length kinds - next)
+  module _ (w : Opener d) (c : d .colon ≡ false) (a : d .at ≡ false) (left : ℕ) (is : left ≡ length kinds - next)
       (few : length kinds ≤ 1024) {s : Setting} (es : s ≡ settingBy left (d .parameters .first)) where
     suits : eachSuits (anyNumber ∷ []) (inOrder (d .parameters)) ≡ true
     unfolding wellWritten

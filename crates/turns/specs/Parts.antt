@@ -2,9 +2,8 @@
 use Prim.Native.Nat.{ℕ, _+_, _-_, _/_, _≤_}
 use mathlib.Core.Path.{_≡_}
 use mathlib.Core.Bool.{Bool, true, cond}
-use Rattle.rules.specs.Directive.{FormRight, formPlaces, inOrder, eachSuits, wellWritten}
-use Rattle.rules.specs.declared.Bracket.the-variants.{Conditional}
-use Rattle.rules.specs.declared.Code.the-variants.{Writes, Opens}
+use Rattle.rules.specs.Directive.{FormRight, formPlaces, inOrder, eachSuits}
+use Rattle.rules.specs.declared.Code.the-variants.{Writes}
 use Rattle.rules.specs.declared.Directive.{Directive}
 use Rattle.rules.specs.declared.Form.{Form}
 use Rattle.rules.specs.declared.Parameter.{Parameter}
@@ -30,12 +29,6 @@ pub record Writing (f : Form) (d : Directive) : Type 0 where
   pub suits : eachSuits (formPlaces f) (inOrder (d .parameters)) ≡ true
   pub fixed : noneNext (inOrder (d .parameters)) ≡ true
   pub based : FormRight f
-
--- a conditional, as it stands in an accepted text that a vet takes
-pub record Choosing (d : Directive) : Type 0 where
-  pub code : d .code ≡ Opens Conditional
-  pub written : wellWritten d ≡ true
-  pub fixed : noneNext (inOrder (d .parameters)) ≡ true
 
 -- the ranges of minwidth, padinc and minpad
 pub record Sizing (minwidth padinc minpad : ℕ) : Type 0 where

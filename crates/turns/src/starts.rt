@@ -15,7 +15,7 @@ ghost use Rattle.rules.specs.declared.Setting.the-variants.{Absent};
 ghost use Rattle.vet.specs.Turns.{kindIn};
 ghost use Rattle.vet.specs.Ways.{onOwn, numberedStart, startOf};
 ghost use Rattle.vet.specs.declared.Turn.the-variants.{Goes, Stops};
-ghost use Rattle.turns.specs.Parts.{Choosing};
+ghost use Rattle.vet.specs.Plain.{Opener};
 
 // Not for a vet: `~@[` for another kind than a boolean.
 const NOT_TAKEN: u32 = 11;
@@ -70,7 +70,7 @@ fn start_numbered(kinds: &[u8], next: usize) -> Turn
 }
 
 pub fn start_of(d: Directive, kinds: &[u8], next: usize) -> Turn
-    requires { ⌜ Choosing d ⌝ }
+    requires { ⌜ Opener d ⌝ }
     requires { ⌜ next ≤ length (now kinds) ⌝ }
     requires { ⌜ length (now kinds) ≤ 1024 ⌝ }
     ensures { λ r. ⌜ ((longest : ℕ) → r ≡ startOf (now (kinds .entry)) longest d next) ⌝ }

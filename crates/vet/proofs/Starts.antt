@@ -15,7 +15,7 @@ use Rattle.rules.specs.declared.Code.the-variants.{Opens}
 use Rattle.rules.specs.declared.Directive.{Directive}
 use Rattle.rules.specs.declared.Setting.{Setting}
 use Rattle.rules.specs.declared.Setting.the-variants.{Absent, Is}
-use Rattle.vet.specs.Plain.{noneNext}
+use Rattle.vet.specs.Plain.{Opener}
 use Rattle.vet.specs.Turns.{kindIn}
 use Rattle.vet.specs.Use.{inHand, noEntries}
 use Rattle.vet.specs.Ways.{onOwn, numberedStart, settledStart, startOf}
@@ -23,12 +23,6 @@ use Rattle.vet.specs.declared.Turn.{Turn}
 use Rattle.vet.specs.declared.Turn.the-variants.{Goes, Stops}
 use Rattle.vet.proofs.Settling.{Settles, settle-placed, written-suits}
 use Rattle.vet.proofs.Uses.{by-test}
-
--- an opener of a conditional, well written and without `v`
-pub record Opener (d : Directive) : Type 0 where
-  pub code : d .code ≡ Opens Conditional
-  pub written : wellWritten d ≡ true
-  pub fixed : noneNext (inOrder (d .parameters)) ≡ true
 
 -- what a way through a format may fail with
 abbrev pub Reason : ℕ → Type 0

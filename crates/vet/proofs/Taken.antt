@@ -22,10 +22,9 @@ use Rattle.rules.specs.declared.Verdict.the-variants.{Accepted}
 use Rattle.rules.proofs.Bases.{code-right}
 use Rattle.rules.proofs.Tests.{not-both-ways}
 use Rattle.rules.proofs.TextLaws.{placeAfter, stands, next-inside, tokens-is, levels-end, levels-literal, levels-writes, levels-conditional, levels-separator, levels-closer, Sound, sound-start, sound-end, sound-literal, sound-bad, sound-unfinished, sound-known, sound-writes, sound-opener, sound-separator, sound-closer}
-use Rattle.vet.specs.Plain.{plainCode, noneNext, plainItem, plainFrom, takenVerdict}
+use Rattle.vet.specs.Plain.{Opener, plainCode, noneNext, plainItem, plainFrom, takenVerdict}
 use Rattle.vet.proofs.Clauses.{clausesIn}
 use Rattle.vet.proofs.Ordinary.{Ordinary, past-test}
-use Rattle.vet.proofs.Starts.{Opener}
 
 -- a conditional of an accepted text: there is a clause, and two under `~:[`
 pub record Choosing (d : Directive) (cs : Clauses) : Type 0 where

@@ -7,15 +7,15 @@ use mathlib.Core.List.{List}
 use native.Mathlib.Omega.{arith}
 use lib.ListN.{length}
 use Rattle.rules.specs.Directive.{itemAt}
-use Rattle.rules.specs.Text.{Sequence, Clauses, none, clause, Level, innermost, outer, asClauses, levelsAt}
+use Rattle.rules.specs.Text.{chooses, Clauses, clause, Level, innermost, outer, before, asClauses, levelsAt}
 use Rattle.rules.specs.declared.Bracket.the-variants.{Conditional}
 use Rattle.rules.specs.declared.Code.the-variants.{Opens}
 use Rattle.rules.specs.declared.Directive.{Directive}
 use Rattle.rules.specs.declared.Item.the-variants.{Written}
-use Rattle.rules.proofs.TextLaws.{next-inside, levels-written}
-use Rattle.checking.specs.Ends.{AfterBlock}
+use Rattle.rules.proofs.TextLaws.{Within, next-inside, levels-written}
 use Rattle.checking.specs.declared.ends.ClauseEnd.{ClauseEnd}
 use Rattle.checking.specs.declared.ends.ClauseEnd.the-variants.{Last, Another}
+use Rattle.vet.specs.Plain.{Opener}
 use Rattle.vet.specs.Ways.{Way, fails, Ways, ending, onWay, onTurn, onWays, onEnds, meeting, withNone, hasFallback, startOf, wayOf, waysOf}
 use Rattle.vet.specs.declared.Ends.{Ends}
 use Rattle.vet.specs.declared.Ends.the-variants.{Nowhere, Equal, Unequal}
@@ -23,13 +23,11 @@ use Rattle.vet.specs.declared.Turn.{Turn}
 use Rattle.vet.specs.declared.Turn.the-variants.{Goes, Stops}
 use Rattle.vet.proofs.Sizes.{mostPiece}
 use Rattle.vet.proofs.Starts.{Started, start-turned}
-use Rattle.turns.specs.Parts.{Choosing}
-use Rattle.vetting.specs.Counting.{TakenAt, closedBy, wayAt, Walked, SequenceIs, clausesWay, ClausesAre, ElementIs}
+use Rattle.vetting.specs.Counting.{TakenAt, closedBy, wayAt, EndsIn, Walked, SequenceIs, clausesWay, Through, ElementIs}
 use Rattle.vetting.specs.declared.counting.Element.{Element}
-use Rattle.vetting.specs.declared.counting.Element.the-variants.{Leads, Fails, Ends as EndsHere}
 use Rattle.vetting.specs.declared.counting.Counted.{Counted}
 use Rattle.vetting.specs.declared.counting.Counted.the-variants.{Leads as LeadsAll}
-use Rattle.vetting.proofs.EndsBy.{EndsIn, meet-some, meet-in, none-in}
+use Rattle.vetting.proofs.EndsBy.{meet-some, meet-in, none-in}
 
 -- the clauses of the block whose inside is at p
 abbrev clausesAt : List ℕ → ℕ → Clauses
@@ -71,12 +69,10 @@ module _ {t kinds : List ℕ} {longest : ℕ} {d : Directive} {start z : ℕ} {c
   clause-met w is =
       g .ways ∙ ap (λ (x : Way). onWay x (λ n s. waysOf kinds longest (innermost (levelsAt t z) .more) start (meeting e n s))) is
 
-  pub gather-fails : (p : ℕ) {code position : ℕ} → wayAt t kinds longest z start 0 ≡ fails code position
-      → (sum : ℕ) → clausesWay t kinds longest p d start sum ≡ fails code position
-  gather-fails p {code} {position} is sum =
-      let xs = levelsAt t (d .next) in
-      ap (λ (w : Ways). onWays p (withNone d (hasFallback (clausesAt t (d .next))) start) w (λ next size. wayOf kinds longest (innermost (outer xs) .rest) next (sum + size)))
-      (clause-met (fails code position) is)
+  pub gather-fails : {code position : ℕ} → wayAt t kinds longest z start 0 ≡ fails code position
+      → (p : ℕ) (on : ℕ → ℕ → Way) → clausesWay t kinds longest d start p on ≡ fails code position
+  gather-fails {code} {position} is p on =
+      ap (λ (w : Ways). onWays p (withNone d (hasFallback (clausesAt t (d .next))) start) w on) (clause-met (fails code position) is)
 
   -- what the ways come to with this one
   gather-in : (stop next size : ℕ) → z ≤ stop → next ≤ length kinds → size ≤ mostPiece * (stop - z)
@@ -99,10 +95,7 @@ module _ {t kinds : List ℕ} {longest : ℕ} {d : Directive} {start z : ℕ} {c
       taken = w .taken;
     }
 
-    module _ (w : Walked t kinds longest z start next size (Last q after)) (p : ℕ) where
-      behind : levelsAt t after ≡ outer (levelsAt t (d .next))
-      behind = w .ends .on ∙ g .outside
-
+    module _ (w : Walked t kinds longest z start next size (Last q after)) where
       all-met : waysOf kinds longest (clausesAt t (d .next)) start Nowhere ≡ ending (meeting e next size)
       unfolding waysOf
       all-met = clause-met _ (w .way) ∙ ap (λ (cs : Clauses). waysOf kinds longest cs start (meeting e next size)) (w .ends .more)
@@ -111,43 +104,40 @@ module _ {t kinds : List ℕ} {longest : ℕ} {d : Directive} {start z : ℕ} {c
       unfolding hasFallback
       last-is = g .last ∙ ap (λ (cs : Clauses). hasFallback (clause colon (innermost (levelsAt t z) .rest) cs)) (w .ends .more)
 
-      closes : (f : Ends) → f ≡ withNone d colon start (meeting e next size) → (sum : ℕ)
-          → clausesWay t kinds longest p d start sum ≡ onEnds p f (λ n s. wayAt t kinds longest after n (sum + s))
-      closes f is sum =
-          let xs = levelsAt t (d .next) in
-          ap (λ (b : Bool). onWays p (withNone d b start) (waysOf kinds longest (clausesAt t (d .next)) start Nowhere) (λ n s. wayOf kinds longest (innermost (outer xs) .rest) n (sum + s))) last-is
-          ∙ ap (λ (v : Ways). onWays p (withNone d colon start) v (λ n s. wayOf kinds longest (innermost (outer xs) .rest) n (sum + s))) all-met
-          ∙ ap (λ (ys : List Level). onEnds p (withNone d colon start (meeting e next size)) (λ n s. wayOf kinds longest (innermost ys .rest) n (sum + s))) (sym behind)
-          ∙ ap (λ (x : Ends). onEnds p x (λ n s. wayAt t kinds longest after n (sum + s))) (sym is)
-
-      sized : EndsIn (length kinds) (mostPiece * (after - d .next)) (withNone d colon start (meeting e next size))
-      sized =
-          none-in (length kinds) (mostPiece * (after - d .next)) d colon start (meeting e next size) (meet-some e next size)
-          (gather-in after next size (omega (arith, w .least, w .ends .least)) (w .reached) (omega (arith, w .small, w .least, w .ends .least)))
-
       pub gather-last : (f : Ends) → f ≡ withNone d colon start (meeting e next size)
-          → ClausesAre t kinds longest p d start (closedBy f p after)
-      gather-last f is = by f is (subst (EndsIn (length kinds) (mostPiece * (after - d .next))) (sym is) sized)
-        where
-          by : (f : Ends) → f ≡ withNone d colon start (meeting e next size)
-              → EndsIn (length kinds) (mostPiece * (after - d .next)) f
-              → ClausesAre t kinds longest p d start (closedBy f p after)
-          by Nowhere is i = closes Nowhere is
-          by (Equal n s) is i = record {
-            way = closes (Equal n s) is;
-            behind = record { is = behind; least = omega (arith, g .least, w .least, w .ends .least); most = w .ends .most };
-            reaches = record { reached = i .0; small = i .1; taken = w .taken };
-          }
-          by Unequal is i = closes Unequal is
+          → Through t kinds longest d start f after
+      gather-last f is = record {
+        way = λ p on.
+            ap (λ (b : Bool). onWays p (withNone d b start) (waysOf kinds longest (clausesAt t (d .next)) start Nowhere) on) last-is
+            ∙ ap (λ (v : Ways). onWays p (withNone d colon start) v on) all-met
+            ∙ ap (λ (x : Ends). onEnds p x on) (sym is);
+        behind = record {
+          is = w .ends .on ∙ g .outside;
+          least = omega (arith, g .least, w .least, w .ends .least);
+          most = w .ends .most;
+        };
+        within =
+            subst (EndsIn (length kinds) (mostPiece * (after - d .next))) (sym is)
+            (none-in (length kinds) (mostPiece * (after - d .next)) d colon start (meeting e next size) (meet-some e next size)
+            (gather-in after next size (omega (arith, w .least, w .ends .least)) (w .reached)
+            (omega (arith, w .small, w .least, w .ends .least))));
+        taken = w .taken;
+      }
 
 -- the conditional d at p
-module _ (t kinds : List ℕ) (longest p next : ℕ) (d : Directive) (e : itemAt t p ≡ Written d) (o : Choosing d) where
+module _ (t kinds : List ℕ) (longest p next : ℕ) (d : Directive) (e : itemAt t p ≡ Written d) (o : Opener d) where
+  follows : (ℕ → ℕ → ℕ → Way)
+  follows sum n s = wayOf kinds longest (innermost (outer (levelsAt t (d .next))) .rest) n (sum + s)
+
+  opens : levelsAt t p ≡ before (chooses p d (clausesAt t (d .next))) (outer (levelsAt t (d .next)))
+  opens = levels-written t p d e (Opens Conditional) (o .code)
+
   block-way : (x : Turn) → startOf kinds longest d next ≡ x → (sum : ℕ)
-      → wayAt t kinds longest p next sum ≡ onTurn p x sum (λ start sum₂. clausesWay t kinds longest p d start sum₂)
-  unfolding wayOf
+      → wayAt t kinds longest p next sum ≡ onTurn p x sum (λ start sum₂. clausesWay t kinds longest d start p (follows sum₂))
+  unfolding wayOf follows
   block-way x is sum =
-      ap (λ (xs : List Level). wayOf kinds longest (innermost xs .rest) next sum) (levels-written t p d e (Opens Conditional) (o .code))
-      ∙ ap (λ (y : Turn). onTurn p y sum (λ start sum₂. clausesWay t kinds longest p d start sum₂)) is
+      ap (λ (xs : List Level). wayOf kinds longest (innermost xs .rest) next sum) opens
+      ∙ ap (λ (y : Turn). onTurn p y sum (λ start sum₂. clausesWay t kinds longest d start p (follows sum₂))) is
 
   pub block-stops : (code : ℕ) → startOf kinds longest d next ≡ Stops code
       → (sum : ℕ) → wayAt t kinds longest p next sum ≡ fails code p
@@ -155,26 +145,44 @@ module _ (t kinds : List ℕ) (longest p next : ℕ) (d : Directive) (e : itemAt
 
   module _ (h : next ≤ length kinds) (start size : ℕ) (is : startOf kinds longest d next ≡ Goes start size) where
     begun : Started (length kinds) (Goes start size)
-    begun = subst (Started (length kinds)) is (start-turned kinds longest d next h (record { code = o .code; written = o .written; fixed = o .fixed }))
+    begun = subst (Started (length kinds)) is (start-turned kinds longest d next h o)
 
     pub start-inside : start ≤ length kinds
     start-inside = begun .0
 
-    on : (sum : ℕ) → wayAt t kinds longest p next sum ≡ clausesWay t kinds longest p d start sum
+    -- an opener writes nothing
+    on : (sum : ℕ) → wayAt t kinds longest p next sum ≡ clausesWay t kinds longest d start p (follows sum)
     on sum =
         let z : sum + size ≡ sum = omega (arith, begun .1) in
-        block-way (Goes start size) is sum ∙ ap (λ (n : ℕ). clausesWay t kinds longest p d start n) z
+        block-way (Goes start size) is sum ∙ ap (λ (n : ℕ). clausesWay t kinds longest d start p (follows n)) z
 
-    pub block-is : (r : Element) → ClausesAre t kinds longest p d start r → ElementIs t kinds longest p next r
-    block-is (Leads after most q) c =
-        let w = next-inside t p d e in
-        let xs = levels-written t p d e (Opens Conditional) (o .code) in
-        record {
-          way = λ sum. on sum ∙ c .way sum;
-          more = ap (λ (ys : List Level). innermost ys .more) xs ∙ ap (λ (ys : List Level). innermost ys .more) (sym (c .behind .is));
-          outside = ap outer xs ∙ ap outer (sym (c .behind .is));
-          ahead = omega (arith, w .above, c .behind .least);
-          reaches = record { reached = c .reaches .reached; small = omega (arith, w .above, c .behind .least, c .reaches .small); taken = c .reaches .taken };
+    pub block-fails : {code position : ℕ}
+        → ((p : ℕ) (on : ℕ → ℕ → Way) → clausesWay t kinds longest d start p on ≡ fails code position)
+        → (sum : ℕ) → wayAt t kinds longest p next sum ≡ fails code position
+    block-fails c sum = on sum ∙ c p (follows sum)
+
+    pub block-closes : (f : Ends) (q : ℕ) → Through t kinds longest d start f q → (r : Element) → r ≡ closedBy f p q
+        → ElementIs t kinds longest p next r
+    unfolding follows
+    block-closes f q c r same = subst (ElementIs t kinds longest p next) (sym same) (by f (c .way p) (c .within))
+      where
+        place : Within (p + 1) (length t) (d .next)
+        place = next-inside t p d e
+
+        by : (f : Ends) → ((on : ℕ → ℕ → Way) → clausesWay t kinds longest d start p on ≡ onEnds p f on)
+            → EndsIn (length kinds) (mostPiece * (q - d .next)) f → ElementIs t kinds longest p next (closedBy f p q)
+        by Nowhere w i = λ sum. on sum ∙ w (follows sum)
+        by (Equal n s) w i = record {
+          way = λ sum.
+              on sum ∙ w (follows sum)
+              ∙ ap (λ (ys : List Level). wayOf kinds longest (innermost ys .rest) n (sum + s)) (sym (c .behind .is));
+          more = ap (λ (ys : List Level). innermost ys .more) opens ∙ ap (λ (ys : List Level). innermost ys .more) (sym (c .behind .is));
+          outside = ap outer opens ∙ ap outer (sym (c .behind .is));
+          ahead = omega (arith, place .above, c .behind .least);
+          reaches = record {
+            reached = i .0;
+            small = omega (arith, place .above, c .behind .least, i .1);
+            taken = c .taken;
+          };
         }
-    block-is (Fails code position) c = λ sum. on sum ∙ c sum
-    block-is (EndsHere end) c = absurd c
+        by Unequal w i = λ sum. on sum ∙ w (follows sum)

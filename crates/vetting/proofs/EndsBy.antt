@@ -15,7 +15,7 @@ use Rattle.vet.specs.Ways.{meeting, withNone}
 use Rattle.vet.specs.Worst.{larger}
 use Rattle.vet.specs.declared.Ends.{Ends}
 use Rattle.vet.specs.declared.Ends.the-variants.{Nowhere, Equal, Unequal}
-use Rattle.vetting.specs.Counting.{closedBy}
+use Rattle.vetting.specs.Counting.{closedBy, EndsIn}
 use Rattle.vetting.specs.declared.counting.Element.{Element}
 use Rattle.vetting.specs.declared.counting.Element.the-variants.{Fails}
 
@@ -52,12 +52,6 @@ pub closed-not : (e : Ends) (p place : ℕ) → OneOf no-ends (tagOf ends-declar
 closed-not Nowhere p place o = refl
 closed-not (Equal n s) p place o = absurd (miss no-ends 1 tt o)
 closed-not Unequal p place o = refl
-
--- what the ways come to: an argument that there is, and no more bytes than that
-abbrev pub EndsIn : ℕ → ℕ → Ends → Type 0
-EndsIn count most Nowhere = Unit {0}
-EndsIn count most (Equal n s) = (n ≤ count) × (s ≤ most)
-EndsIn count most Unequal = Unit {0}
 
 -- there is a way
 abbrev pub Some : Ends → Type 0

@@ -22,9 +22,8 @@ use Rattle.rules.proofs.AcceptedAt.{AcceptedAt, accepted-literal, accepted-know
 use Rattle.rules.proofs.Bases.{code-right}
 use Rattle.rules.proofs.Tests.{both-true, not-both-ways}
 use Rattle.rules.proofs.TextLaws.{placeAfter, Within, stands, next-inside, tokens-is, sound-start}
-use Rattle.vet.specs.Plain.{plainCode, noneNext, plainItem, plainFrom, takenVerdict}
+use Rattle.vet.specs.Plain.{Opener, plainCode, noneNext, plainItem, plainFrom, takenVerdict}
 use Rattle.vet.proofs.Ordinary.{PlainDirective, past-test}
-use Rattle.turns.specs.Parts.{Choosing}
 use Rattle.vetting.specs.Counting.{TakenAt}
 
 pub taken-start : (t : List ℕ) → textVerdict t ≡ Accepted → takenVerdict t ≡ Accepted → TakenAt t 0
@@ -77,7 +76,7 @@ module _ {t : List ℕ} {p : ℕ} (k : TakenAt t p) where
     }
 
     -- of the codes that open a block only conditionals are taken
-    pub taken-opens : (b : Bracket) → d .code ≡ Opens b → Choosing d
+    pub taken-opens : (b : Bracket) → d .code ≡ Opens b → Opener d
     taken-opens Conditional c = record { code = c; written = accepted-written t p here d e .0; fixed = parts .1 }
     taken-opens Iteration c = absurd (not-both-ways (parts .0) (rw c))
 

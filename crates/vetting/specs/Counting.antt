@@ -12,7 +12,7 @@ use Rattle.checking.specs.Ends.{AfterBlock, EndsClause}
 use Rattle.checking.specs.declared.ends.ClauseEnd.{ClauseEnd}
 use Rattle.checking.specs.declared.ends.ClauseEnd.the-variants.{Last, Another}
 use Rattle.vet.specs.Plain.{plainFrom}
-use Rattle.vet.specs.Ways.{Way, leads, fails, withNone, hasFallback, onWays, wayOf, waysOf}
+use Rattle.vet.specs.Ways.{Way, leads, fails, withNone, hasFallback, onEnds, onWays, wayOf, waysOf}
 use Rattle.vet.specs.declared.Ends.{Ends}
 use Rattle.vet.specs.declared.Ends.the-variants.{Nowhere, Equal, Unequal}
 use Rattle.vet.specs.declared.Turn.{Turn}
@@ -20,6 +20,8 @@ use Rattle.vet.specs.declared.Turn.the-variants.{Goes, Stops}
 use Rattle.vet.proofs.Sizes.{mostPiece}
 use Rattle.vetting.specs.declared.counting.Element.{Element}
 use Rattle.vetting.specs.declared.counting.Element.the-variants.{Leads as elementLeads, Fails as elementFails, Ends as elementEnds}
+use Rattle.vetting.specs.declared.counting.Clauses.{Clauses}
+use Rattle.vetting.specs.declared.counting.Clauses.the-variants.{End, Fail}
 use Rattle.vetting.specs.declared.counting.Counted.{Counted}
 use Rattle.vetting.specs.declared.counting.Counted.the-variants.{Leads, Fails}
 
@@ -40,6 +42,12 @@ abbrev pub closedBy : Ends → ℕ → ℕ → Element
 closedBy Nowhere p place = elementFails 11 p
 closedBy (Equal next size) p place = elementLeads next size place
 closedBy Unequal p place = elementFails 11 p
+
+-- what the ways through a block come to: an argument that there is, and no more bytes than that
+abbrev pub EndsIn : ℕ → ℕ → Ends → Type 0
+EndsIn count most Nowhere = Unit {0}
+EndsIn count most (Equal n s) = (n ≤ count) × (s ≤ most)
+EndsIn count most Unequal = Unit {0}
 
 -- where a clause stops, and where the text goes on after its end
 abbrev pub stopOf : ClauseEnd → ℕ
@@ -95,20 +103,20 @@ module _ (t kinds : List ℕ) (longest : ℕ) where
   SequenceIs start first (Leads next size e) = Walked start first next size e
   SequenceIs start first (Fails code position) = wayAt start first 0 ≡ fails code position
 
-  -- the clauses of the conditional d at p, whose inside is at its next place, from the argument `start`, and what follows
-  abbrev pub clausesWay : ℕ → Directive → ℕ → ℕ → Way
-  clausesWay p d start sum =
-      let xs = levelsAt t (d .next) in
-      let cs = asClauses false xs in
-      onWays p (withNone d (hasFallback cs) start) (waysOf kinds longest cs start Nowhere)
-      (λ next size. wayOf kinds longest (innermost (outer xs) .rest) next (sum + size))
+  -- the clauses of the conditional d, whose inside is at its next place, from the argument `start`: where their ways end,
+  -- the one by which none runs among them
+  abbrev pub clausesWay : Directive → ℕ → ℕ → (ℕ → ℕ → Way) → Way
+  clausesWay d start p on =
+      let cs = asClauses false (levelsAt t (d .next)) in
+      onWays p (withNone d (hasFallback cs) start) (waysOf kinds longest cs start Nowhere) on
 
-  pub record Through (p : ℕ) (d : Directive) (start after size q : ℕ) : Type 0 where
-    pub way : (sum : ℕ) → clausesWay p d start sum ≡ wayAt q after (sum + size)
+  pub record Through (d : Directive) (start : ℕ) (e : Ends) (q : ℕ) : Type 0 where
+    pub way : (p : ℕ) (on : ℕ → ℕ → Way) → clausesWay d start p on ≡ onEnds p e on
     pub behind : AfterBlock t (d .next) q
-    pub reaches : Reaches (d .next) q after size
+    pub within : EndsIn (length kinds) (mostPiece * (q - d .next)) e
+    pub taken : TakenAt t q
 
-  abbrev pub ClausesAre : ℕ → Directive → ℕ → Element → Type 0
-  ClausesAre p d start (elementLeads after size q) = Through p d start after size q
-  ClausesAre p d start (elementFails code position) = (sum : ℕ) → clausesWay p d start sum ≡ fails code position
-  ClausesAre p d start (elementEnds e) = ⊥
+  abbrev pub ClausesAre : Directive → ℕ → Clauses → Type 0
+  ClausesAre d start (End e q) = Through d start e q
+  ClausesAre d start (Fail code position) =
+      (p : ℕ) (on : ℕ → ℕ → Way) → clausesWay d start p on ≡ fails code position

@@ -19,10 +19,9 @@ ghost use Rattle.rules.specs.Directive.{itemAt};
 ghost use Rattle.rules.specs.Text.{textVerdict};
 ghost use Rattle.rules.specs.declared.Item.the-variants.{Written};
 ghost use Rattle.rules.specs.declared.Verdict.the-variants.{Accepted};
-ghost use Rattle.vet.specs.Plain.{takenVerdict};
+ghost use Rattle.vet.specs.Plain.{Opener, takenVerdict};
 ghost use Rattle.vet.specs.Vet.{runAnswer};
 ghost use Rattle.vet.proofs.Codes.{Asked};
-ghost use Rattle.turns.specs.Parts.{Choosing};
 ghost use Rattle.vetting.specs.Counting.{TakenAt, elementBy, closedBy, ElementIs, SequenceIs, ClausesAre};
 
 // Not for a vet: a conditional whose ways end at more than one argument.
@@ -56,6 +55,12 @@ pub enum Counted {
     },
 }
 
+// The clauses of a block: their ways end so, and the text goes on at `place` after it; or one fails.
+pub enum Clauses {
+    End { ends: Ends, place: usize },
+    Fail { code: u32, position: usize },
+}
+
 // What a directive at p does, after which the text goes on at `place`.
 fn element_by(turn: Turn, p: usize, place: usize) -> Element
     ensures { λ r. ⌜ r ≡ elementBy turn p place ⌝ }
@@ -79,19 +84,12 @@ fn close_block(ends: Ends, p: usize, place: usize) -> Element
     }
 }
 
-// The clauses of the conditional d at p, each from the argument `start`.
-fn count_clauses(
-    format: &[u8],
-    kinds: &[u8],
-    longest: usize,
-    p: usize,
-    d: Directive,
-    start: usize,
-) -> Element
+// The clauses of the conditional d, each from the argument `start`.
+fn count_clauses(format: &[u8], kinds: &[u8], longest: usize, d: Directive, start: usize) -> Clauses
     requires { ⌜ Asked (now kinds) longest ⌝ }
     requires { ⌜ TakenAt (now format) (d .next) ⌝ }
     requires { ⌜ start ≤ length (now kinds) ⌝ }
-    ensures { λ r. ⌜ ClausesAre (now (format .entry)) (now (kinds .entry)) longest p d start r ⌝ }
+    ensures { λ r. ⌜ ClausesAre (now (format .entry)) (now (kinds .entry)) longest d start r ⌝ }
 {
     let mut z = d.next;
     let mut fallback = false;
@@ -99,7 +97,7 @@ fn count_clauses(
     loop {
         let counted = count_sequence(format, kinds, longest, z, start);
         match counted {
-            Counted::Fails { code, position } => return Element::Fails { code, position },
+            Counted::Fails { code, position } => return Clauses::Fail { code, position },
             Counted::Leads { next, size, end } => {
                 ends = meet(ends, next, size);
                 match end {
@@ -112,7 +110,10 @@ fn count_clauses(
                         z = q;
                     }
                     ClauseEnd::Last { at: _, next: q } => {
-                        return close_block(with_none(d, fallback, start, ends), p, q);
+                        return Clauses::End {
+                            ends: with_none(d, fallback, start, ends),
+                            place: q,
+                        };
                     }
                 }
             }
@@ -132,7 +133,7 @@ fn count_block(
     requires { ⌜ Asked (now kinds) longest ⌝ }
     requires { ⌜ TakenAt (now format) p ⌝ }
     requires { ⌜ itemAt (now format) p ≡ Written d ⌝ }
-    requires { ⌜ Choosing d ⌝ }
+    requires { ⌜ Opener d ⌝ }
     requires { ⌜ next ≤ length (now kinds) ⌝ }
     ensures { λ r. ⌜ ElementIs (now (format .entry)) (now (kinds .entry)) longest p next r ⌝ }
 {
@@ -142,7 +143,13 @@ fn count_block(
         Turn::Goes {
             next: start,
             size: _,
-        } => count_clauses(format, kinds, longest, p, d, start),
+        } => {
+            let clauses = count_clauses(format, kinds, longest, d, start);
+            match clauses {
+                Clauses::Fail { code, position } => Element::Fails { code, position },
+                Clauses::End { ends, place } => close_block(ends, p, place),
+            }
+        }
     }
 }
 

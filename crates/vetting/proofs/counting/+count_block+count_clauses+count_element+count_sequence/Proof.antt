@@ -12,7 +12,7 @@ use Rattle.vetting.specs.Counting.{ElementIs, SequenceIs, ClausesAre}
 use Rattle.vetting.proofs.TakenPlaces.{next-taken, taken-writes, taken-opens}
 use Rattle.vetting.proofs.Elements.{literal-is, writes-is, separator-is, closer-is, end-is}
 use Rattle.vetting.proofs.Sequences.{Walking, walk-start, walk-small, walk-on, walk-fails, walk-ends}
-use Rattle.vetting.proofs.ClauseWays.{Gathering, walked-by, gather-start, gather-fails, gather-on, gather-last, start-inside, block-stops, block-is}
+use Rattle.vetting.proofs.ClauseWays.{Gathering, walked-by, gather-start, gather-fails, gather-on, gather-last, start-inside, block-stops, block-fails, block-closes}
 use Prim.Native.Nat.{ℕ, _+_, _-_, _*_, _<_}
 use borrow.Fn.Kinds.{In}
 use borrow.Fn.PlainCycle.{Measures, is, falls, and}
@@ -48,7 +48,7 @@ abbrev μ-count-block : Measures 2 count-block-kinds.ps ℕ
 
 abbrev μ-count-clauses : Measures 2 count-clauses-kinds.ps ℕ
 μ-count-clauses κs a =
-    4 * (length (a .0 .now) - a .1 .1 .1 .1 .0 .next) + 3
+    4 * (length (a .0 .now) - a .1 .1 .1 .0 .next) + 3
 
 abbrev μ-count-element : Measures 2 count-element-kinds.ps ℕ
 μ-count-element κs a =
@@ -111,6 +111,8 @@ count-block-start-of-requires : (t : ℕ) → count-block-lts.Need-start-of-requ
   start-of-reads.Learnt,
   count-clauses-below t,
   count-clauses.Post,
+  close-block-reads.Asked,
+  close-block-reads.Learnt,
 ) (count-block-at t) count-block.Post
 count-block-start-of-requires t c κs =
     let args = c .before .before .args in
@@ -122,6 +124,8 @@ count-block-enum-known-turn : (t : ℕ) → count-block-lts.Need-enum-known-turn
   start-of-reads.Learnt,
   count-clauses-below t,
   count-clauses.Post,
+  close-block-reads.Asked,
+  close-block-reads.Learnt,
 ) (count-block-at t) count-block.Post
 count-block-enum-known-turn t c = search needs
 
@@ -130,6 +134,8 @@ count-block-enum-known-turn-2 : (t : ℕ) → count-block-lts.Need-enum-known-tu
   start-of-reads.Learnt,
   count-clauses-below t,
   count-clauses.Post,
+  close-block-reads.Asked,
+  close-block-reads.Learnt,
 ) (count-block-at t) count-block.Post
 count-block-enum-known-turn-2 t c = search needs
 
@@ -138,6 +144,8 @@ count-block-count-clauses-requires : (t : ℕ) → count-block-lts.Need-count-cl
   start-of-reads.Learnt,
   count-clauses-below t,
   count-clauses.Post,
+  close-block-reads.Asked,
+  close-block-reads.Learnt,
 ) (count-block-at t) count-block.Post
 count-block-count-clauses-requires t c κs =
     let args = c .before .before .before .before .before .before .args in
@@ -147,11 +155,43 @@ count-block-count-clauses-requires t c κs =
       (pre .0, (next-taken (pre .1 .0) (args .d) (pre .1 .1 .0), start-inside (args .format .now) (args .kinds .now) (args .longest) (args .p) (args .next) (args .d) (pre .1 .1 .0) (pre .1 .1 .1 .0) (pre .1 .1 .1 .1) _ _ begun)),
     )
 
+count-block-enum-known-clauses : (t : ℕ) → count-block-lts.Need-enum-known-clauses (
+  start-of-reads.Asked,
+  start-of-reads.Learnt,
+  count-clauses-below t,
+  count-clauses.Post,
+  close-block-reads.Asked,
+  close-block-reads.Learnt,
+) (count-block-at t) count-block.Post
+count-block-enum-known-clauses t c = search needs
+
+count-block-enum-known-clauses-2 : (t : ℕ) → count-block-lts.Need-enum-known-clauses-2 (
+  start-of-reads.Asked,
+  start-of-reads.Learnt,
+  count-clauses-below t,
+  count-clauses.Post,
+  close-block-reads.Asked,
+  close-block-reads.Learnt,
+) (count-block-at t) count-block.Post
+count-block-enum-known-clauses-2 t c = search needs
+
+count-block-close-block-requires : (t : ℕ) → count-block-lts.Need-close-block-requires (
+  start-of-reads.Asked,
+  start-of-reads.Learnt,
+  count-clauses-below t,
+  count-clauses.Post,
+  close-block-reads.Asked,
+  close-block-reads.Learnt,
+) (count-block-at t) count-block.Post
+count-block-close-block-requires t c κs = search needs
+
 count-block-returns : (t : ℕ) → count-block-lts.Need-returns (
   start-of-reads.Asked,
   start-of-reads.Learnt,
   count-clauses-below t,
   count-clauses.Post,
+  close-block-reads.Asked,
+  close-block-reads.Learnt,
 ) (count-block-at t) count-block.Post
 count-block-returns t c =
     let args = c .before .before .before .before .before .before .args in
@@ -165,20 +205,41 @@ count-block-returns-2 : (t : ℕ) → count-block-lts.Need-returns-2 (
   start-of-reads.Learnt,
   count-clauses-below t,
   count-clauses.Post,
+  close-block-reads.Asked,
+  close-block-reads.Learnt,
 ) (count-block-at t) count-block.Post
 count-block-returns-2 t c =
-    let args = c .before .before .before .before .before .before .before .args in
-    let pre = c .before .before .before .before .before .before .before .pre .1 in
-    let begun = sym (c .before .before .before .before .start-of .ensures (args .longest)) ∙ c .before .before .turn2 .given .1 in
-    block-is (args .format .now) (args .kinds .now) (args .longest) (args .p) (args .next) (args .d) (pre .1 .1 .0)
-    (pre .1 .1 .1 .0) (pre .1 .1 .1 .1) _ _ begun (c .count-clauses .result) (c .count-clauses .ensures)
+    let args = c .before .before .before .before .before .before .before .before .before .before .args in
+    let pre = c .before .before .before .before .before .before .before .before .before .before .pre .1 in
+    let begun = sym (c .before .before .before .before .before .before .before .start-of .ensures (args .longest)) ∙ c .before .before .before .before .before .turn2 .given .1 in
+    let clauses = subst (ClausesAre (args .format .now) (args .kinds .now) (args .longest) (args .d) _) (c .before .clauses .given .1)
+    (c .before .before .before .count-clauses .ensures) in
+    block-fails (args .format .now) (args .kinds .now) (args .longest) (args .p) (args .next) (args .d) (pre .1 .1 .0)
+    (pre .1 .1 .1 .0) (pre .1 .1 .1 .1) _ _ begun clauses
+
+count-block-returns-3 : (t : ℕ) → count-block-lts.Need-returns-3 (
+  start-of-reads.Asked,
+  start-of-reads.Learnt,
+  count-clauses-below t,
+  count-clauses.Post,
+  close-block-reads.Asked,
+  close-block-reads.Learnt,
+) (count-block-at t) count-block.Post
+count-block-returns-3 t c =
+    let args = c .before .before .before .before .before .before .before .before .before .before .before .args in
+    let pre = c .before .before .before .before .before .before .before .before .before .before .before .pre .1 in
+    let begun = sym (c .before .before .before .before .before .before .before .before .start-of .ensures (args .longest)) ∙ c .before .before .before .before .before .before .turn2 .given .1 in
+    let clauses = subst (ClausesAre (args .format .now) (args .kinds .now) (args .longest) (args .d) _) (c .before .before .clauses2 .given .1)
+    (c .before .before .before .before .count-clauses .ensures) in
+    block-closes (args .format .now) (args .kinds .now) (args .longest) (args .p) (args .next) (args .d) (pre .1 .1 .0)
+    (pre .1 .1 .1 .0) (pre .1 .1 .1 .1) _ _ begun _ _ clauses (c .close-block .result) (c .close-block .ensures)
 
 abbrev count-clauses-Inv-loop : count-clauses-lts.InvT-loop
-count-clauses-Inv-loop format kinds longest p d start z₀ fallback₀ ends₀ z fallback ends =
+count-clauses-Inv-loop format kinds longest d start z₀ fallback₀ ends₀ z fallback ends =
     Gathering format kinds longest d start z fallback ends
 
 abbrev count-clauses-μ-loop : count-clauses-lts.MeasureT-loop
-count-clauses-μ-loop format kinds longest p d start z₀ fallback₀ ends₀ z fallback ends =
+count-clauses-μ-loop format kinds longest d start z₀ fallback₀ ends₀ z fallback ends =
     length format - z
 
 count-clauses-loop-holds : (t : ℕ) → count-clauses-lts.Need-loop-holds (
@@ -188,8 +249,6 @@ count-clauses-loop-holds : (t : ℕ) → count-clauses-lts.Need-loop-holds (
   meet-reads.Learnt,
   with-none-reads.Asked,
   with-none-reads.Learnt,
-  close-block-reads.Asked,
-  close-block-reads.Learnt,
 ) (count-clauses-at t) count-clauses.Post count-clauses-Inv-loop count-clauses-μ-loop
 count-clauses-loop-holds t c =
     let args = c .before .before .args in
@@ -203,8 +262,6 @@ count-clauses-count-sequence-requires : (t : ℕ) → count-clauses-lts.Need-cou
   meet-reads.Learnt,
   with-none-reads.Asked,
   with-none-reads.Learnt,
-  close-block-reads.Asked,
-  close-block-reads.Learnt,
 ) (count-clauses-at t) count-clauses.Post count-clauses-Inv-loop count-clauses-μ-loop
 count-clauses-count-sequence-requires t c κs =
     let args = c .before .before .before .args in
@@ -218,8 +275,6 @@ count-clauses-enum-known-counted : (t : ℕ) → count-clauses-lts.Need-enum-kno
   meet-reads.Learnt,
   with-none-reads.Asked,
   with-none-reads.Learnt,
-  close-block-reads.Asked,
-  close-block-reads.Learnt,
 ) (count-clauses-at t) count-clauses.Post count-clauses-Inv-loop count-clauses-μ-loop
 count-clauses-enum-known-counted t c = search needs
 
@@ -230,13 +285,10 @@ count-clauses-returns : (t : ℕ) → count-clauses-lts.Need-returns (
   meet-reads.Learnt,
   with-none-reads.Asked,
   with-none-reads.Learnt,
-  close-block-reads.Asked,
-  close-block-reads.Learnt,
 ) (count-clauses-at t) count-clauses.Post count-clauses-Inv-loop count-clauses-μ-loop
 count-clauses-returns t c =
     let args = c .before .before .before .before .before .before .before .args in
-    let pre = c .before .before .before .before .before .before .before .pre .1 in
-    gather-fails (c .before .before .before .before .loop .inv) (args .p)
+    gather-fails (c .before .before .before .before .loop .inv)
     (subst (SequenceIs (args .format .now) (args .kinds .now) (args .longest) (c .before .before .before .before .loop .z) (args .start)) (c .before .counted .given .1)
     (c .before .before .before .count-sequence .ensures))
 
@@ -247,8 +299,6 @@ count-clauses-enum-known-counted-2 : (t : ℕ) → count-clauses-lts.Need-enum-k
   meet-reads.Learnt,
   with-none-reads.Asked,
   with-none-reads.Learnt,
-  close-block-reads.Asked,
-  close-block-reads.Learnt,
 ) (count-clauses-at t) count-clauses.Post count-clauses-Inv-loop count-clauses-μ-loop
 count-clauses-enum-known-counted-2 t c = search needs
 
@@ -259,8 +309,6 @@ count-clauses-meet-requires : (t : ℕ) → count-clauses-lts.Need-meet-requires
   meet-reads.Learnt,
   with-none-reads.Asked,
   with-none-reads.Learnt,
-  close-block-reads.Asked,
-  close-block-reads.Learnt,
 ) (count-clauses-at t) count-clauses.Post count-clauses-Inv-loop count-clauses-μ-loop
 count-clauses-meet-requires t c κs = search needs
 
@@ -271,8 +319,6 @@ count-clauses-enum-known-end : (t : ℕ) → count-clauses-lts.Need-enum-known-e
   meet-reads.Learnt,
   with-none-reads.Asked,
   with-none-reads.Learnt,
-  close-block-reads.Asked,
-  close-block-reads.Learnt,
 ) (count-clauses-at t) count-clauses.Post count-clauses-Inv-loop count-clauses-μ-loop
 count-clauses-enum-known-end t c = search needs
 
@@ -283,8 +329,6 @@ count-clauses-loop-less : (t : ℕ) → count-clauses-lts.Need-loop-less (
   meet-reads.Learnt,
   with-none-reads.Asked,
   with-none-reads.Learnt,
-  close-block-reads.Asked,
-  close-block-reads.Learnt,
 ) (count-clauses-at t) count-clauses.Post count-clauses-Inv-loop count-clauses-μ-loop
 count-clauses-loop-less t c =
     let args = c .before .before .before .before .before .before .before .before .before .before .before .args in
@@ -300,8 +344,6 @@ count-clauses-loop-again : (t : ℕ) → count-clauses-lts.Need-loop-again (
   meet-reads.Learnt,
   with-none-reads.Asked,
   with-none-reads.Learnt,
-  close-block-reads.Asked,
-  close-block-reads.Learnt,
 ) (count-clauses-at t) count-clauses.Post count-clauses-Inv-loop count-clauses-μ-loop
 count-clauses-loop-again t c =
     let args = c .before .before .before .before .before .before .before .before .before .before .before .args in
@@ -317,8 +359,6 @@ count-clauses-enum-known-end-2 : (t : ℕ) → count-clauses-lts.Need-enum-known
   meet-reads.Learnt,
   with-none-reads.Asked,
   with-none-reads.Learnt,
-  close-block-reads.Asked,
-  close-block-reads.Learnt,
 ) (count-clauses-at t) count-clauses.Post count-clauses-Inv-loop count-clauses-μ-loop
 count-clauses-enum-known-end-2 t c = search needs
 
@@ -329,25 +369,11 @@ count-clauses-with-none-requires : (t : ℕ) → count-clauses-lts.Need-with-non
   meet-reads.Learnt,
   with-none-reads.Asked,
   with-none-reads.Learnt,
-  close-block-reads.Asked,
-  close-block-reads.Learnt,
 ) (count-clauses-at t) count-clauses.Post count-clauses-Inv-loop count-clauses-μ-loop
 count-clauses-with-none-requires t c κs =
     let args = c .before .before .before .before .before .before .before .before .before .before .before .args in
     let pre = c .before .before .before .before .before .before .before .before .before .before .before .pre .1 in
     omega (arith, pre .1 .1, pre .0 .many)
-
-count-clauses-close-block-requires : (t : ℕ) → count-clauses-lts.Need-close-block-requires (
-  count-sequence-below t,
-  count-sequence.Post,
-  meet-reads.Asked,
-  meet-reads.Learnt,
-  with-none-reads.Asked,
-  with-none-reads.Learnt,
-  close-block-reads.Asked,
-  close-block-reads.Learnt,
-) (count-clauses-at t) count-clauses.Post count-clauses-Inv-loop count-clauses-μ-loop
-count-clauses-close-block-requires t c κs = search needs
 
 count-clauses-returns-2 : (t : ℕ) → count-clauses-lts.Need-returns-2 (
   count-sequence-below t,
@@ -356,18 +382,14 @@ count-clauses-returns-2 : (t : ℕ) → count-clauses-lts.Need-returns-2 (
   meet-reads.Learnt,
   with-none-reads.Asked,
   with-none-reads.Learnt,
-  close-block-reads.Asked,
-  close-block-reads.Learnt,
 ) (count-clauses-at t) count-clauses.Post count-clauses-Inv-loop count-clauses-μ-loop
 count-clauses-returns-2 t c =
-    let args = c .before .before .before .before .before .before .before .before .before .before .before .before .before .args in
-    let head = c .before .before .before .before .before .before .before .before .before .before .loop in
-    let way = walked-by (args .format .now) (args .kinds .now) (args .longest) (head .z) (args .start) (c .before .before .before .before .before .before .before .before .before .count-sequence .result)
-    (c .before .before .before .before .before .before .before .before .before .count-sequence .ensures) (c .before .before .before .before .before .before .before .counted2 .given .1) (c .before .before .before .end2 .given .1) in
-    subst (ClausesAre (args .format .now) (args .kinds .now) (args .longest) (args .p) (args .d) (args .start))
-    (sym (c .close-block .ensures))
-    (gather-last (head .inv) way (args .p) (c .before .with-none .result)
-    (c .before .with-none .ensures ∙ ap (withNone (args .d) (head .fallback) (args .start)) (c .before .before .before .before .before .meet .ensures)))
+    let args = c .before .before .before .before .before .before .before .before .before .before .before .before .args in
+    let head = c .before .before .before .before .before .before .before .before .before .loop in
+    let way = walked-by (args .format .now) (args .kinds .now) (args .longest) (head .z) (args .start) (c .before .before .before .before .before .before .before .before .count-sequence .result)
+    (c .before .before .before .before .before .before .before .before .count-sequence .ensures) (c .before .before .before .before .before .before .counted2 .given .1) (c .before .before .end2 .given .1) in
+    gather-last (head .inv) way (c .with-none .result)
+    (c .with-none .ensures ∙ ap (withNone (args .d) (head .fallback) (args .start)) (c .before .before .before .before .meet .ensures))
 
 count-element-item-at-requires : (t : ℕ) → count-element-lts.Need-item-at-requires (
   item-at-reads.Asked,
@@ -703,6 +725,8 @@ pub +count-block+count-clauses+count-element+count-sequence-spec : {M : Type 1} 
       start-of-reads.Learnt,
       count-clauses-below t,
       count-clauses.Post,
+      close-block-reads.Asked,
+      close-block-reads.Learnt,
     )
     (count-block-at t)
     count-block.Post
@@ -710,8 +734,12 @@ pub +count-block+count-clauses+count-element+count-sequence-spec : {M : Type 1} 
     (count-block-enum-known-turn t)
     (count-block-enum-known-turn-2 t)
     (count-block-count-clauses-requires t)
+    (count-block-enum-known-clauses t)
+    (count-block-enum-known-clauses-2 t)
+    (count-block-close-block-requires t)
     (count-block-returns t)
-    (count-block-returns-2 t))
+    (count-block-returns-2 t)
+    (count-block-returns-3 t))
     (λ t. count-clauses-lts.spec (
       count-sequence-below t,
       count-sequence.Post,
@@ -719,8 +747,6 @@ pub +count-block+count-clauses+count-element+count-sequence-spec : {M : Type 1} 
       meet-reads.Learnt,
       with-none-reads.Asked,
       with-none-reads.Learnt,
-      close-block-reads.Asked,
-      close-block-reads.Learnt,
     )
     (count-clauses-at t)
     count-clauses.Post
@@ -737,7 +763,6 @@ pub +count-block+count-clauses+count-element+count-sequence-spec : {M : Type 1} 
     (count-clauses-loop-again t)
     (count-clauses-enum-known-end-2 t)
     (count-clauses-with-none-requires t)
-    (count-clauses-close-block-requires t)
     (count-clauses-returns-2 t))
     (λ t. count-element-lts.spec (
       item-at-reads.Asked,
