@@ -30,7 +30,7 @@ module _ (v : View) (count : ℕ) where
       (ks : List Frame) → length ks + k ≤ deepest → (left : ℕ) → most ≤ left
       → Reached (run v left x ks (inHand count next)) ks (left - most) sum n s
 
-  -- what may be left, and what is given, are bounds
+  -- with fewer steps left at the least, or more bytes at the most
   pub reached-weaker : {f : Flow} {ks : List Frame} {least less sum fewer n s more : ℕ} → less ≤ least → fewer ≤ sum
       → s ≤ more → Reached f ks least sum n s → Reached f ks less fewer n more
   reached-weaker h k l r = record {

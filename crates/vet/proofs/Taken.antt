@@ -103,10 +103,10 @@ closed-right Conditional o p own w z = w
 closed-right Iteration o p own w z = absurd (not-both-ways z (not-true (isConditional o) own))
 
 -- the items from a place on are such as a vet takes
-abbrev TakenAt : List ℕ → ℕ → Type 0
+abbrev pub TakenAt : List ℕ → ℕ → Type 0
 TakenAt t p = plainFrom true (tokensAt t p) ≡ Accepted
 
-item-on : (t : List ℕ) (p : ℕ) (i : Item) → itemAt t p ≡ i → p < length t → TakenAt t p
+pub item-on : (t : List ℕ) (p : ℕ) (i : Item) → itemAt t p ≡ i → p < length t → TakenAt t p
     → (plainItem true i ≡ true) × TakenAt t (placeAfter p i)
 unfolding plainFrom
 item-on t p i e h v =

@@ -60,21 +60,21 @@ module _ (kinds : List ℕ) (longest : ℕ) (v : View) where
     Together start n s = Each (λ x. Runs v count k most x start 0 n s) cs
 
     -- what holds of whatever may be run from `start` holds of the conditional
-    abbrev Starts : ℕ → Type 1
-    Starts start = (m : ℕ) (on : Sequence → ℕ → Flow) (P : Flow → Type 0) → Any d cs (λ x i. P (on x i)) start
+    abbrev Begins : ℕ → Type 1
+    Begins start = (m : ℕ) (on : Sequence → ℕ → Flow) (P : Flow → Type 0) → Any d cs (λ x i. P (on x i)) start
         → P (chosen v count p m d cs next on)
 
     -- the ways meet at the argument a with c bytes, where the clauses start with z bytes
-    met-runs : (start z a c : ℕ) → Starts start → Together start a c × NoneEnds d (hasFallback cs) start a → (n s : ℕ)
+    met-runs : (start z a c : ℕ) → Begins start → Together start a c × NoneEnds d (hasFallback cs) start a → (n s : ℕ)
         → Runs v count (suc k) (weight rest) rest a (sum + z + c) n s
         → Runs v count (suc k) (suc (most + weight rest)) (chooses p d cs rest) next sum n s
-    met-runs start z a c starts met n s after ks h left l =
+    met-runs start z a c begins met n s after ks h left l =
         let m = left - 1 in
         let inside = conditional rest ∷ ks in
         let on : Sequence → ℕ → Flow = λ x i. run v m x inside (inHand count i) in
         let P : Flow → Type 0 = λ f. Reached v count f inside (m - most) 0 a c in
         let nothing : P (on end a) = reached-end v count m inside (m - most) 0 a c (omega arith) (omega arith) in
-        let one = starts m on P (record {
+        let one = begins m on P (record {
           each =
               each-on (λ x. Runs v count k most x start 0 a c) (λ x. P (on x start))
               (λ x r. r inside (omega arith) m (omega arith)) cs (met .0);
@@ -89,24 +89,24 @@ module _ (kinds : List ℕ) (longest : ℕ) (v : View) where
         (reached-weaker v count (omega arith) (omega arith) (omega arith)
         (reached-after v count rest a c (m - most) (weight rest) (sum + z) one (λ i g. after ks h i (omega arith))))
 
-    by-ends : (start z : ℕ) → Starts start → (e : Ends)
+    by-ends : (start z : ℕ) → Begins start → (e : Ends)
         → Met (λ n s. Together start n s × NoneEnds d (hasFallback cs) start n) e
         → Goal (onEnds p e (λ n size. wayOf kinds longest rest n (sum + z + size)))
     unfolding weight
-    by-ends start z starts Nowhere h = tt
-    by-ends start z starts (Equal a c) h =
+    by-ends start z begins Nowhere h = tt
+    by-ends start z begins (Equal a c) h =
         led-on (Runs v count (suc k) (weight rest) rest a (sum + z + c))
-        (Runs v count (suc k) (suc (most + weight rest)) (chooses p d cs rest) next sum) (met-runs start z a c starts h)
+        (Runs v count (suc k) (suc (most + weight rest)) (chooses p d cs rest) next sum) (met-runs start z a c begins h)
         (wayOf kinds longest rest a (sum + z + c)) (walk a (sum + z + c))
-    by-ends start z starts Unequal h = tt
+    by-ends start z begins Unequal h = tt
 
-    by-ways : (start z : ℕ) → Starts start → (w : Ways) → AllMet (Together start) w
+    by-ways : (start z : ℕ) → Begins start → (w : Ways) → AllMet (Together start) w
         → Goal (onWays p (withNone d (hasFallback cs) start) w (λ n size. wayOf kinds longest rest n (sum + z + size)))
-    by-ways start z starts (ending e) h =
-        by-ends start z starts (withNone d (hasFallback cs) start e)
+    by-ways start z begins (ending e) h =
+        by-ends start z begins (withNone d (hasFallback cs) start e)
         (none-met d (hasFallback cs) start (Together start)
         (λ n s more l r. each-on _ _ (λ x t. runs-grow v count k most x start 0 n s more l t) cs r) e h)
-    by-ways start z starts (failing code q) h = tt
+    by-ways start z begins (failing code q) h = tt
 
     by-start : Each (Walks kinds longest v k) cs → (t : Turn)
         → ((m : ℕ) (on : Sequence → ℕ → Flow) (P : Flow → Type 0)
@@ -114,11 +114,11 @@ module _ (kinds : List ℕ) (longest : ℕ) (v : View) where
         → Goal (onTurn p t sum
         (λ start sum₂. onWays p (withNone d (hasFallback cs) start) (waysOf kinds longest cs start Nowhere)
         (λ n size. wayOf kinds longest rest n (sum₂ + size))))
-    by-start walks (Goes start z) starts =
-        by-ways start z starts (waysOf kinds longest cs start Nowhere)
+    by-start walks (Goes start z) begins =
+        by-ways start z begins (waysOf kinds longest cs start Nowhere)
         (clauses-met kinds longest start (λ x. Runs v count k most x start 0) (λ x. runs-grow v count k most x start 0) cs
         (clauses-walk k most start cs (omega arith) walks))
-    by-start walks (Stops code) starts = tt
+    by-start walks (Stops code) begins = tt
 
 module _ (kinds : List ℕ) (longest : ℕ) (v : View)
     (agree : (i : ℕ) → i < length kinds → kindOf (valueIn v (length kinds) i) ≡ kindIn kinds i)
