@@ -6,30 +6,24 @@ use mathlib.Core.List.{List, [], _∷_}
 use native.Mathlib.Omega.{arith}
 use lib.ListN.{length}
 use borrow.Author.Tests.{eq-eqb, ne-eqb}
-use denote.Enum.Declared.{tagOf}
-use types.Run.{OneOf, miss}
 use Rattle.rules.specs.Piece.{orElse, textOf, glyphOf}
 use Rattle.rules.specs.Table.{boolean, character}
 use Rattle.rules.specs.Working.{settled, settingsOf, own, back, glyphSource}
-use Rattle.rules.specs.declared.Code.{Code}
 use Rattle.rules.specs.declared.Code.the-variants.{Writes}
 use Rattle.rules.specs.declared.Directive.{Directive}
 use Rattle.rules.specs.declared.Form.{Form}
 use Rattle.rules.specs.declared.Form.the-variants.{Object, Numeral, Glyph, Plural, Repeat, Fold}
-use Rattle.rules.specs.declared.Item.{Item}
-use Rattle.rules.specs.declared.Item.the-variants.{End, Literal, Written, BadNumber, Unfinished}
+use Rattle.rules.specs.declared.Item.the-variants.{Written}
 use Rattle.rules.specs.declared.Setting.{Setting}
 use Rattle.rules.specs.declared.Setting.the-variants.{Absent, Is}
-use Rattle.rules.proofs.Code as code-declared
-use Rattle.rules.proofs.Item as item-declared
-use Rattle.vet.specs.Use.{workedOut, useOf}
+use Rattle.vet.specs.Use.{workedOut}
 use Rattle.vet.specs.Turns.{kindIn, turnOf}
 use Rattle.vet.specs.Worst.{worst}
 use Rattle.vet.specs.declared.Turn.the-variants.{Goes, Stops}
 use Rattle.vet.proofs.Codes.{Asked}
 use Rattle.vet.proofs.Ordinary.{PlainDirective}
 use Rattle.vet.proofs.Settling.{directive-suits}
-use Rattle.vet.proofs.TurnLaws.{turn-literal, turn-unsettled, turn-given, turn-none, turn-wrong, turn-own, turn-first, turn-back}
+use Rattle.vet.proofs.TurnLaws.{turn-unsettled, turn-given, turn-none, turn-wrong, turn-own, turn-first, turn-back}
 use Rattle.vet.proofs.WorstLaws.{repeat-length, fold-length}
 use Rattle.turns.specs.Parts.{settingBy, Writing, Sizing, padding, numeralMost}
 use Rattle.turns.proofs.Worked.{object-width, object-step, object-least, object-settled, object-refused, numeral-settled, numeral-refused, number-settled, glyph-settled, glyph-refused, plural-settled, fold-settled}

@@ -11,7 +11,7 @@ use Rattle.rules.specs.Directive.{Place, number, character as characterPlace, a
 use Rattle.rules.specs.Piece.{orElse}
 use Rattle.rules.specs.Working.{Worked, worked, wrong, workOut, Settled, settled, unsettled, settle}
 use Rattle.rules.specs.declared.Directive.{Directive}
-use Rattle.rules.specs.declared.Form.the-variants.{Object, Numeral, Glyph, Plural, Repeat, Fold}
+use Rattle.rules.specs.declared.Form.the-variants.{Object, Numeral, Glyph, Plural, Fold}
 use Rattle.rules.specs.declared.Parameter.{Parameter}
 use Rattle.rules.specs.declared.Parameter.the-variants.{Default, Number, Character, Next, Remaining}
 use Rattle.rules.specs.declared.Parameters.{Parameters}

@@ -1,8 +1,8 @@
 -- The clauses of a conditional, one after another, as the counting loop goes through them; and the conditional as an element
 -- of its sequence. Assumes nothing.
-use Prim.Native.Nat.{ℕ, _+_, _*_, _-_, _≤_, _<_}
+use Prim.Native.Nat.{ℕ, _+_, _*_, _-_, _≤_}
 use mathlib.Core.Path.{_≡_, refl, sym, ap, subst, _∙_}
-use mathlib.Core.Bool.{Bool, true, false}
+use mathlib.Core.Bool.{Bool, false}
 use mathlib.Core.List.{List}
 use native.Mathlib.Omega.{arith}
 use lib.ListN.{length}
@@ -23,7 +23,7 @@ use Rattle.vet.specs.declared.Turn.{Turn}
 use Rattle.vet.specs.declared.Turn.the-variants.{Goes, Stops}
 use Rattle.vet.proofs.Sizes.{mostPiece}
 use Rattle.vet.proofs.Starts.{Started, start-turned}
-use Rattle.vetting.specs.Counting.{TakenAt, closedBy, wayAt, EndsIn, Walked, SequenceIs, clausesWay, Through, ElementIs}
+use Rattle.vetting.specs.Counting.{VettableAt, closedBy, wayAt, EndsIn, Walked, SequenceIs, clausesWay, Through, ElementIs}
 use Rattle.vetting.specs.declared.counting.Element.{Element}
 use Rattle.vetting.specs.declared.counting.Counted.{Counted}
 use Rattle.vetting.specs.declared.counting.Counted.the-variants.{Leads as LeadsAll}
@@ -47,9 +47,9 @@ pub record Gathering (t kinds : List ℕ) (longest : ℕ) (d : Directive) (start
   pub outside : outer (levelsAt t z) ≡ outer (levelsAt t (d .next))
   pub least : d .next ≤ z
   pub size : EndsIn (length kinds) (mostPiece * (z - d .next)) e
-  pub taken : TakenAt t z
+  pub taken : VettableAt t z
 
-pub gather-start : (t kinds : List ℕ) (longest : ℕ) (d : Directive) (start : ℕ) → TakenAt t (d .next)
+pub gather-start : (t kinds : List ℕ) (longest : ℕ) (d : Directive) (start : ℕ) → VettableAt t (d .next)
     → Gathering t kinds longest d start (d .next) false Nowhere
 gather-start t kinds longest d start k =
     record { ways = refl; last = refl; outside = refl; least = omega arith; size = tt; taken = k }

@@ -1,14 +1,13 @@
 -- What stands at a place is to a count: a literal byte, a directive that writes, or the end of the sequence. Assumes nothing.
 use Prim.Native.Nat.{ℕ, _+_, _*_, _-_, _≤_, _<_}
 use mathlib.Core.Path.{_≡_, refl, sym, ap, subst, _∙_}
-use mathlib.Core.Bool.{true, false}
 use mathlib.Core.List.{List, [], _∷_}
 use native.Mathlib.Omega.{arith}
 use lib.ListN.{length}
 use denote.Enum.Declared.{tagOf}
 use types.Run.{OneOf, miss}
 use Rattle.rules.specs.Directive.{itemAt}
-use Rattle.rules.specs.Text.{end, acts, Level, innermost, outer, before, levelsAt}
+use Rattle.rules.specs.Text.{acts, Level, innermost, outer, before, levelsAt}
 use Rattle.rules.specs.declared.Code.{Code}
 use Rattle.rules.specs.declared.Code.the-variants.{Writes, Jump, Escape, Opens, Separator, Closes, Unknown}
 use Rattle.rules.specs.declared.Directive.{Directive}
@@ -17,7 +16,7 @@ use Rattle.rules.specs.declared.Item.{Item}
 use Rattle.rules.specs.declared.Item.the-variants.{End, Literal, Written, BadNumber, Unfinished}
 use Rattle.rules.proofs.Code as code-declared
 use Rattle.rules.proofs.Item as item-declared
-use Rattle.rules.proofs.TextLaws.{Within, stands, next-inside, levels-end, levels-literal, levels-bad, levels-unfinished, levels-written}
+use Rattle.rules.proofs.TextLaws.{Within, next-inside, levels-end, levels-literal, levels-bad, levels-unfinished, levels-written}
 use Rattle.checking.specs.declared.ends.ClauseEnd.the-variants.{Last, Another}
 use Rattle.checking.proofs.EndLaws.{Split, Finished, clause-start, clause-splits, clause-finishes, clause-stops}
 use Rattle.vet.specs.Turns.{turnOf}
@@ -25,13 +24,13 @@ use Rattle.vet.specs.Ways.{onTurn, wayOf}
 use Rattle.vet.specs.declared.Turn.{Turn}
 use Rattle.vet.specs.declared.Turn.the-variants.{Goes, Stops}
 use Rattle.vet.proofs.Codes.{Asked}
-use Rattle.vet.proofs.Ordinary.{Ordinary, PlainDirective}
+use Rattle.vet.proofs.Ordinary.{Ordinary}
 use Rattle.vet.proofs.Sizes.{mostPiece, Turned, item-turned}
 use Rattle.vet.proofs.TurnLaws.{turn-literal}
-use Rattle.vetting.specs.Counting.{TakenAt, elementBy, wayAt, Onward, AtEnd, ElementIs}
+use Rattle.vetting.specs.Counting.{VettableAt, elementBy, wayAt, AtEnd, ElementIs}
 use Rattle.vetting.specs.declared.counting.Element.{Element}
-use Rattle.vetting.specs.declared.counting.Element.the-variants.{Leads, Fails, Ends}
-use Rattle.vetting.proofs.TakenPlaces.{literal-taken, next-taken, taken-writes, taken-jump, taken-escape, taken-unknown}
+use Rattle.vetting.specs.declared.counting.Element.the-variants.{Leads}
+use Rattle.vetting.proofs.VettablePlaces.{literal-taken, next-taken, taken-writes, taken-jump, taken-escape, taken-unknown}
 
 module _ (t kinds : List ℕ) (longest p next : ℕ) where
   -- an item that acts, whatever its turn
@@ -43,7 +42,7 @@ module _ (t kinds : List ℕ) (longest p next : ℕ) where
         ap (λ (xs : List Level). wayOf kinds longest (innermost xs .rest) next sum) is
         ∙ ap (λ (y : Turn). onTurn p y sum (λ a s. wayAt t kinds longest q a s)) e
 
-    acts-is : (x : Turn) → turnOf kinds longest i next ≡ x → Turned (length kinds) x → p < q → TakenAt t q
+    acts-is : (x : Turn) → turnOf kinds longest i next ≡ x → Turned (length kinds) x → p < q → VettableAt t q
         → ElementIs t kinds longest p next (elementBy x p q)
     acts-is (Goes after size) e b l k = record {
       way = acts-way (Goes after size) e;
@@ -57,7 +56,7 @@ module _ (t kinds : List ℕ) (longest p next : ℕ) where
         spread = omega arith
     acts-is (Stops code) e b l k = acts-way (Stops code) e
 
-  module _ (k : TakenAt t p) (a : Asked kinds longest) (h : next ≤ length kinds) where
+  module _ (k : VettableAt t p) (a : Asked kinds longest) (h : next ≤ length kinds) where
     pub literal-is : (b : ℕ) → itemAt t p ≡ Literal b → ElementIs t kinds longest p next (Leads next 1 (p + 1))
     literal-is b e =
         acts-is (Literal b) (p + 1) (levels-literal t p b e) (Goes next 1) (turn-literal kinds longest b next)

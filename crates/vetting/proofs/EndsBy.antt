@@ -16,7 +16,6 @@ use Rattle.vet.specs.Worst.{larger}
 use Rattle.vet.specs.declared.Ends.{Ends}
 use Rattle.vet.specs.declared.Ends.the-variants.{Nowhere, Equal, Unequal}
 use Rattle.vetting.specs.Counting.{closedBy, EndsIn}
-use Rattle.vetting.specs.declared.counting.Element.{Element}
 use Rattle.vetting.specs.declared.counting.Element.the-variants.{Fails}
 
 -- one way more, at the same argument or at another

@@ -4,4 +4,4 @@ pub mod Elements
 pub mod EndsBy
 pub mod Places
 pub mod Sequences
-pub mod TakenPlaces
+pub mod VettablePlaces

@@ -1,5 +1,5 @@
 -- A sequence, element by element, as the counting loop goes through it. Assumes nothing.
-use Prim.Native.Nat.{ℕ, _+_, _*_, _-_, _≤_, _<_}
+use Prim.Native.Nat.{ℕ, _+_, _*_, _-_, _≤_}
 use mathlib.Core.Path.{_≡_, refl, sym, ap, subst, _∙_}
 use mathlib.Core.List.{List}
 use native.Mathlib.Omega.{arith}
@@ -11,7 +11,7 @@ use Rattle.checking.specs.declared.ends.ClauseEnd.the-variants.{Last, Another}
 use Rattle.vet.specs.Ways.{fails, wayOf}
 use Rattle.vet.proofs.Sizes.{mostPiece}
 use Rattle.vet.specs.Vet.{declined, counted, answerBy, runAnswer}
-use Rattle.vetting.specs.Counting.{TakenAt, stopOf, wayAt, Onward, AtEnd, Walked, SequenceIs}
+use Rattle.vetting.specs.Counting.{VettableAt, wayAt, Onward, AtEnd, Walked, SequenceIs}
 use Rattle.vetting.specs.declared.counting.Counted.{Counted}
 use Rattle.vetting.specs.declared.counting.Counted.the-variants.{Leads, Fails}
 
@@ -24,9 +24,9 @@ pub record Walking (t kinds : List ℕ) (longest start first p next sum : ℕ) :
   pub least : start ≤ p
   pub reached : next ≤ length kinds
   pub small : sum ≤ mostPiece * (p - start)
-  pub taken : TakenAt t p
+  pub taken : VettableAt t p
 
-pub walk-start : (t kinds : List ℕ) (longest start first : ℕ) → TakenAt t start → first ≤ length kinds
+pub walk-start : (t kinds : List ℕ) (longest start first : ℕ) → VettableAt t start → first ≤ length kinds
     → Walking t kinds longest start first start first 0
 walk-start t kinds longest start first k h =
     record { way = refl; more = refl; outside = refl; least = omega arith; reached = h; small = omega arith; taken = k }

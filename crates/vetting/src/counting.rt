@@ -13,7 +13,7 @@ use vet::Ends;
 use vet::Turn;
 use vet::Vetted;
 ghost use mathlib.Core.Path.{_≡_};
-ghost use Prim.Native.Nat.{_≤_, _<_};
+ghost use Prim.Native.Nat.{_≤_};
 ghost use lib.ListN.{length};
 ghost use Rattle.rules.specs.Directive.{itemAt};
 ghost use Rattle.rules.specs.Text.{textVerdict};
@@ -22,7 +22,7 @@ ghost use Rattle.rules.specs.declared.Verdict.the-variants.{Accepted};
 ghost use Rattle.vet.specs.Plain.{Opener, takenVerdict};
 ghost use Rattle.vet.specs.Vet.{runAnswer};
 ghost use Rattle.vet.proofs.Codes.{Asked};
-ghost use Rattle.vetting.specs.Counting.{TakenAt, elementBy, closedBy, ElementIs, SequenceIs, ClausesAre};
+ghost use Rattle.vetting.specs.Counting.{VettableAt, elementBy, closedBy, ElementIs, SequenceIs, ClausesAre};
 
 // Not for a vet: a conditional whose ways end at more than one argument.
 const UNEQUAL_ENDS: u32 = 11;
@@ -87,7 +87,7 @@ fn close_block(ends: Ends, p: usize, place: usize) -> Element
 // The clauses of the conditional d, each from the argument `start`.
 fn count_clauses(format: &[u8], kinds: &[u8], longest: usize, d: Directive, start: usize) -> Clauses
     requires { ⌜ Asked (now kinds) longest ⌝ }
-    requires { ⌜ TakenAt (now format) (d .next) ⌝ }
+    requires { ⌜ VettableAt (now format) (d .next) ⌝ }
     requires { ⌜ start ≤ length (now kinds) ⌝ }
     ensures { λ r. ⌜ ClausesAre (now (format .entry)) (now (kinds .entry)) longest d start r ⌝ }
 {
@@ -131,7 +131,7 @@ fn count_block(
     next: usize,
 ) -> Element
     requires { ⌜ Asked (now kinds) longest ⌝ }
-    requires { ⌜ TakenAt (now format) p ⌝ }
+    requires { ⌜ VettableAt (now format) p ⌝ }
     requires { ⌜ itemAt (now format) p ≡ Written d ⌝ }
     requires { ⌜ Opener d ⌝ }
     requires { ⌜ next ≤ length (now kinds) ⌝ }
@@ -156,7 +156,7 @@ fn count_block(
 // The item at p, where `next` is the next argument. An accepted text that a vet takes has no others.
 fn count_element(format: &[u8], kinds: &[u8], longest: usize, p: usize, next: usize) -> Element
     requires { ⌜ Asked (now kinds) longest ⌝ }
-    requires { ⌜ TakenAt (now format) p ⌝ }
+    requires { ⌜ VettableAt (now format) p ⌝ }
     requires { ⌜ next ≤ length (now kinds) ⌝ }
     ensures { λ r. ⌜ ElementIs (now (format .entry)) (now (kinds .entry)) longest p next r ⌝ }
 {
@@ -200,7 +200,7 @@ fn count_sequence(
     first: usize,
 ) -> Counted
     requires { ⌜ Asked (now kinds) longest ⌝ }
-    requires { ⌜ TakenAt (now format) start ⌝ }
+    requires { ⌜ VettableAt (now format) start ⌝ }
     requires { ⌜ first ≤ length (now kinds) ⌝ }
     ensures { λ r. ⌜ SequenceIs (now (format .entry)) (now (kinds .entry)) longest start first r ⌝ }
 {

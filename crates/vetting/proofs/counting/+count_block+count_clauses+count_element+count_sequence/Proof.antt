@@ -9,7 +9,7 @@ use Rattle.rules.proofs.TextLaws.{stands, next-inside}
 use Rattle.vet.specs.Ways.{withNone}
 use Rattle.turns.proofs.TurnBy.{writing-of}
 use Rattle.vetting.specs.Counting.{ElementIs, SequenceIs, ClausesAre}
-use Rattle.vetting.proofs.TakenPlaces.{next-taken, taken-writes, taken-opens}
+use Rattle.vetting.proofs.VettablePlaces.{next-taken, taken-writes, taken-opens}
 use Rattle.vetting.proofs.Elements.{literal-is, writes-is, separator-is, closer-is, end-is}
 use Rattle.vetting.proofs.Sequences.{Walking, walk-start, walk-small, walk-on, walk-fails, walk-ends}
 use Rattle.vetting.proofs.ClauseWays.{Gathering, walked-by, gather-start, gather-fails, gather-on, gather-last, start-inside, block-stops, block-fails, block-closes}

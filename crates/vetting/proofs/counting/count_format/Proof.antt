@@ -1,7 +1,7 @@
 -- `count_format` meets its contract: the sequence of the whole text, from the first argument on. Assumes nothing.
 use native.Mathlib.Omega.{arith}
 use Rattle.vetting.proofs.Sequences.{answer-fails, answer-leads}
-use Rattle.vetting.proofs.TakenPlaces.{taken-start}
+use Rattle.vetting.proofs.VettablePlaces.{taken-start}
 use borrow.Author.Needs.{needs}
 use Rattle.vetting.proofs.counting.count_format.Statement.{statement}
 use Rattle.vetting.proofs.counting.count_format.Tie as tie

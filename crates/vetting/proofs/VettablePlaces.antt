@@ -1,69 +1,57 @@
 -- What a count carries from place to place of an accepted text that a vet takes. Assumes nothing.
 use Prim.Native.Nat.{ℕ, _+_, _≤_, _<_}
-use mathlib.Core.Path.{_≡_, refl, sym, ap, _∙_}
-use mathlib.Core.Bool.{true, false}
+use mathlib.Core.Path.{_≡_}
+use mathlib.Core.Bool.{true}
 use mathlib.Core.List.{List, []}
 use native.Mathlib.Omega.{arith}
 use lib.ListN.{length}
-use Rattle.rules.specs.Choice.{both}
-use Rattle.rules.specs.Directive.{itemAt, inOrder, wellWritten}
-use Rattle.rules.specs.Text.{Token, tokensAt, textVerdict}
+use Rattle.rules.specs.Directive.{itemAt, inOrder}
+use Rattle.rules.specs.Text.{tokensAt, textVerdict}
 use Rattle.rules.specs.declared.Bracket.{Bracket}
 use Rattle.rules.specs.declared.Bracket.the-variants.{Conditional, Iteration}
-use Rattle.rules.specs.declared.Code.{Code}
 use Rattle.rules.specs.declared.Code.the-variants.{Writes, Jump, Escape, Opens, Unknown}
 use Rattle.rules.specs.declared.Directive.{Directive}
 use Rattle.rules.specs.declared.Form.{Form}
-use Rattle.rules.specs.declared.Item.{Item}
 use Rattle.rules.specs.declared.Item.the-variants.{Literal, Written}
-use Rattle.rules.specs.declared.Verdict.{Verdict}
 use Rattle.rules.specs.declared.Verdict.the-variants.{Accepted}
 use Rattle.rules.proofs.AcceptedAt.{AcceptedAt, accepted-literal, accepted-known, accepted-written}
 use Rattle.rules.proofs.Bases.{code-right}
 use Rattle.rules.proofs.Tests.{both-true, not-both-ways}
-use Rattle.rules.proofs.TextLaws.{placeAfter, Within, stands, next-inside, tokens-is, sound-start}
+use Rattle.rules.proofs.TextLaws.{Within, stands, next-inside, sound-start}
 use Rattle.vet.specs.Plain.{Opener, plainCode, noneNext, plainItem, plainFrom, takenVerdict}
-use Rattle.vet.proofs.Ordinary.{PlainDirective, past-test}
-use Rattle.vetting.specs.Counting.{TakenAt}
+use Rattle.vet.proofs.Ordinary.{PlainDirective}
+use Rattle.vet.proofs.Taken.{item-on}
+use Rattle.vetting.specs.Counting.{VettableAt}
 
-pub taken-start : (t : List ℕ) → textVerdict t ≡ Accepted → takenVerdict t ≡ Accepted → TakenAt t 0
+pub taken-start : (t : List ℕ) → textVerdict t ≡ Accepted → takenVerdict t ≡ Accepted → VettableAt t 0
 taken-start t e k =
     let s = sound-start t e in
     record { blocks = []; accepted = s .1 .is; plain = k; inside = omega arith; short = s .0 }
 
-module _ {t : List ℕ} {p : ℕ} (k : TakenAt t p) where
+module _ {t : List ℕ} {p : ℕ} (k : VettableAt t p) where
   here : AcceptedAt t p
   here = record { blocks = k .blocks; sound = record { is = k .accepted } }
 
-  -- a vet takes the item, and those behind it
-  item-taken : (i : Item) → itemAt t p ≡ i → p < length t
-      → (plainItem true i ≡ true) × (plainFrom true (tokensAt t (placeAfter p i)) ≡ Accepted)
-  unfolding plainFrom
-  item-taken i e h =
-      let xs = tokensAt t (placeAfter p i) in
-      past-test (plainItem true i) 11 p (λ _. plainFrom true xs)
-      (sym (ap (plainFrom true) (tokens-is t p i e h)) ∙ k .plain)
-
-  after : {q : ℕ} → AcceptedAt t q → plainFrom true (tokensAt t q) ≡ Accepted → q ≤ length t → TakenAt t q
+  after : {q : ℕ} → AcceptedAt t q → plainFrom true (tokensAt t q) ≡ Accepted → q ≤ length t → VettableAt t q
   after a e h = record { blocks = a .blocks; accepted = a .sound .is; plain = e; inside = h; short = k .short }
 
-  pub literal-taken : (b : ℕ) → itemAt t p ≡ Literal b → TakenAt t (p + 1)
+  pub literal-taken : (b : ℕ) → itemAt t p ≡ Literal b → VettableAt t (p + 1)
   literal-taken b e =
       let h : p < length t = stands t p (Literal b) e in
-      after (accepted-literal t p here b e) (item-taken (Literal b) e h .1) (omega arith)
+      after (accepted-literal t p here b e) (item-on t p (Literal b) e h (k .plain) .1) (omega arith)
 
   module _ (d : Directive) (e : itemAt t p ≡ Written d) where
     place : Within (p + 1) (length t) (d .next)
     place = next-inside t p d e
 
     taken : (plainItem true (Written d) ≡ true) × (plainFrom true (tokensAt t (d .next)) ≡ Accepted)
-    taken = item-taken (Written d) e (omega (arith, place .above, place .most))
+    taken = item-on t p (Written d) e (omega (arith, place .above, place .most)) (k .plain)
 
     parts : (plainCode true (d .code) ≡ true) × (noneNext (inOrder (d .parameters)) ≡ true)
     unfolding plainItem
     parts = both-true (plainCode true (d .code)) (noneNext (inOrder (d .parameters))) (taken .0)
 
-    pub next-taken : TakenAt t (d .next)
+    pub next-taken : VettableAt t (d .next)
     next-taken = after (accepted-written t p here d e .1) (taken .1) (place .most)
 
     pub taken-writes : (f : Form) → d .code ≡ Writes f → PlainDirective d
