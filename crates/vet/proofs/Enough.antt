@@ -13,17 +13,17 @@ use Rattle.rules.specs.declared.Verdict.the-variants.{Accepted}
 use Rattle.rules.proofs.FlowLaws.{stretch-text, stretch-finish, finished, fit-all}
 use Rattle.rules.proofs.RunLaws.{run-done}
 use Rattle.vet.specs.Demand.{Suits, runOf, Enough}
-use Rattle.vet.specs.Plain.{takenVerdict}
+use Rattle.vet.specs.Plain.{vettableVerdict}
 use Rattle.vet.specs.Use.{inHand}
 use Rattle.vet.specs.Ways.{leads, wayOf}
 use Rattle.vet.proofs.Meetings.{Led}
 use Rattle.vet.proofs.Reached.{Reached, Runs, reached-weaker}
-use Rattle.vet.proofs.Taken.{text-taken}
+use Rattle.vet.proofs.Vettable.{text-vettable}
 use Rattle.vet.proofs.Values.{read-kind, read-allowed, run-is}
 use Rattle.vet.proofs.WayRuns.{sequence-walks}
 use Rattle.vet.proofs.Weights.{weight, text-weight}
 
-module _ (format kinds : List ℕ) (longest : ℕ) (tv : textVerdict format ≡ Accepted) (kv : takenVerdict format ≡ Accepted)
+module _ (format kinds : List ℕ) (longest : ℕ) (tv : textVerdict format ≡ Accepted) (kv : vettableVerdict format ≡ Accepted)
     (n count : ℕ) (way : wayOf kinds longest (sequenceOf format) 0 0 ≡ leads n count) where
   -- over one suiting table, the run gets to the end of the format
   module _ (table : List ℕ) (s : Suits kinds longest table) where
@@ -33,7 +33,7 @@ module _ (format kinds : List ℕ) (longest : ℕ) (tv : textVerdict format ≡ 
     reached : Reached view (length kinds) (runOf format table) [] 0 0 n count
     reached =
         let x = sequenceOf format in
-        let fine = text-taken format tv kv in
+        let fine = text-vettable format tv kv in
         let walk = sequence-walks kinds longest view (read-kind s) (read-allowed s) x deepest fine 0 0 in
         let runs = subst (Led (Runs view (length kinds) deepest (weight x) x 0 0)) way walk in
         rw (run-is s format)

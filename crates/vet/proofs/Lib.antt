@@ -27,10 +27,10 @@ pub mod Settling
 pub mod Sizes
 pub mod Stages
 pub mod Starts
-pub mod Taken
 pub mod TurnLaws
 pub mod Uses
 pub mod Values
+pub mod Vettable
 pub mod WayRuns
 pub mod Weights
 pub mod Witness

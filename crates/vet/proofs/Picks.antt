@@ -28,7 +28,7 @@ use Rattle.vet.proofs.Clauses.{Each, each-within, each-number, each-int
 use Rattle.vet.proofs.PlainRun.{valueIn}
 use Rattle.vet.proofs.Settling.{settle-plain}
 use Rattle.vet.proofs.Starts.{Begun, workedNumber}
-use Rattle.vet.proofs.Taken.{Choosing}
+use Rattle.vet.proofs.Vettable.{Choosing}
 use Rattle.vet.proofs.Uses.{by-test}
 
 -- what a conditional gives once it is begun, where `on` runs a clause from an argument

@@ -11,7 +11,7 @@ use Rattle.rules.specs.Text.{Token, tokensAt, levelsAt, textVerdict}
 use Rattle.rules.specs.declared.Verdict.the-variants.{Accepted as accepted-verdict}
 use Rattle.rules.proofs.FlowLaws.{finished, fit-all, fit-not}
 use Rattle.vet.specs.declared.Vetted.{Vetted}
-use Rattle.vet.specs.Demand.{Suits, runOf, Enough, Accepted, roomNeeded, Refused, IsPlain}
+use Rattle.vet.specs.Demand.{Suits, runOf, Enough, Filled, roomNeeded, Refused, IsPlain}
 use Rattle.vet.proofs.Before.{plain-before}
 use Rattle.vet.proofs.Codes.{Asked}
 use Rattle.vet.proofs.Filled.{Meets, Filling, plain-filling}
@@ -100,10 +100,9 @@ module _ (format kinds : List ℕ) (longest : ℕ) (tv : textVerdict format ≡ 
   filled : answer .code ≡ 0 → length (givenText (flow filler suits-filler)) ≡ answer .count
   filled z = omega (arith, filling .full (viewOf filler) met limit 0 z)
 
-  pub accepted-promise : Enough format kinds longest (answer .count) → answer .code ≡ 0
-      → Accepted format kinds longest (answer .count)
-  accepted-promise enough z = record {
-    enough = enough;
+  pub filled-promise : Enough format kinds longest (answer .count) → answer .code ≡ 0
+      → Filled format kinds longest (answer .count)
+  filled-promise enough z = record {
     table = filler;
     suits = suits-filler;
     fills = record {

@@ -1,9 +1,12 @@
 -- No answer of a plain format is changed by conditionals: its vet is that of its items, one by one. Assumes nothing.
-use Prim.Native.Nat.{ℕ, _+_}
+use Prim.Native.Nat.{ℕ, _+_, _≤_}
 use mathlib.Core.Path.{_≡_, refl}
 use mathlib.Core.Bool.{true, false}
 use mathlib.Core.List.{List, [], _∷_}
+use native.Mathlib.Omega.{arith}
+use lib.ListN.{length}
 use Rattle.rules.specs.Directive.{inOrder}
+use Rattle.rules.specs.Piece.{accepts}
 use Rattle.rules.specs.Text.{Token, tokensAt, textVerdict, innermost, levelsOf, levelsAt}
 use Rattle.rules.specs.declared.Bracket.the-variants.{Conditional, Iteration}
 use Rattle.rules.specs.declared.Code.{Code}
@@ -13,8 +16,9 @@ use Rattle.rules.specs.declared.Item.the-variants.{End, Literal, Written, BadNu
 use Rattle.rules.specs.declared.Verdict.{Verdict}
 use Rattle.rules.specs.declared.Verdict.the-variants.{Accepted, Refused}
 use Rattle.rules.proofs.Tests.{both-true, true-both}
-use Rattle.vet.specs.Plain.{plainCode, noneNext, plainItem, plainFrom, plainVerdict, takenVerdict}
-use Rattle.vet.specs.Turns.{turnOf}
+use Rattle.vet.specs.Plain.{plainCode, noneNext, plainItem, plainFrom, plainVerdict, vettableVerdict}
+use Rattle.vet.specs.Turns.{kindIn, turnBy, turnOf}
+use Rattle.vet.specs.Use.{Use, writes, shows, stops, useOf}
 use Rattle.vet.specs.Vet.{askedVerdict, unlessDeclined, answerBy, runAnswer, vetOf}
 use Rattle.vet.specs.Ways.{Way, onTurn, wayOf}
 use Rattle.vet.specs.declared.Turn.{Turn}
@@ -23,37 +27,38 @@ use Rattle.vet.specs.declared.Vetted.{Vetted}
 use Rattle.vet.proofs.Ordinary.{AllOrdinary, past-test, items-ordinary}
 use Rattle.vet.proofs.PlainRun.{before-ordinary}
 use Rattle.vet.proofs.PlainVet.{onTurn as onItem, vetFrom, vetPlain}
+use Rattle.vet.proofs.Uses.{Within, by-test, use-within}
 
--- what is plain is taken
-code-taken : (c : Code) → plainCode false c ≡ true → plainCode true c ≡ true
-code-taken (Writes f) e = refl
-code-taken Jump e = e
-code-taken Escape e = e
-code-taken (Opens Conditional) e = refl
-code-taken (Opens Iteration) e = e
-code-taken Separator e = refl
-code-taken (Closes b) e = refl
-code-taken Unknown e = refl
+-- what is plain a vet takes
+code-vettable : (c : Code) → plainCode false c ≡ true → plainCode true c ≡ true
+code-vettable (Writes f) e = refl
+code-vettable Jump e = e
+code-vettable Escape e = e
+code-vettable (Opens Conditional) e = refl
+code-vettable (Opens Iteration) e = e
+code-vettable Separator e = refl
+code-vettable (Closes b) e = refl
+code-vettable Unknown e = refl
 
-item-taken : (x : Item) → plainItem false x ≡ true → plainItem true x ≡ true
+item-vettable : (x : Item) → plainItem false x ≡ true → plainItem true x ≡ true
 unfolding plainItem
-item-taken End e = refl
-item-taken (Literal b) e = refl
-item-taken (Written d) e =
+item-vettable End e = refl
+item-vettable (Literal b) e = refl
+item-vettable (Written d) e =
     let h = both-true (plainCode false (d .code)) (noneNext (inOrder (d .parameters))) e in
-    true-both (code-taken (d .code) (h .0)) (h .1)
-item-taken BadNumber e = refl
-item-taken Unfinished e = refl
+    true-both (code-vettable (d .code) (h .0)) (h .1)
+item-vettable BadNumber e = refl
+item-vettable Unfinished e = refl
 
-items-taken : (xs : List Token) → plainFrom false xs ≡ Accepted → plainFrom true xs ≡ Accepted
+items-vettable : (xs : List Token) → plainFrom false xs ≡ Accepted → plainFrom true xs ≡ Accepted
 unfolding plainFrom
-items-taken [] e = refl
-items-taken (x ∷ xs) e =
+items-vettable [] e = refl
+items-vettable (x ∷ xs) e =
     let h = past-test (plainItem false (x .item)) 11 (x .at) (λ _. plainFrom false xs) e in
-    rw (item-taken (x .item) (h .0)) (items-taken xs (h .1))
+    rw (item-vettable (x .item) (h .0)) (items-vettable xs (h .1))
 
-pub plain-taken : (format : List ℕ) → plainVerdict format ≡ Accepted → takenVerdict format ≡ Accepted
-plain-taken format e = items-taken (tokensAt format 0) e
+pub plain-vettable : (format : List ℕ) → plainVerdict format ≡ Accepted → vettableVerdict format ≡ Accepted
+plain-vettable format e = items-vettable (tokensAt format 0) e
 
 -- the way through ordinary items goes by them
 module _ (kinds : List ℕ) (longest : ℕ) where
@@ -73,23 +78,43 @@ module _ (kinds : List ℕ) (longest : ℕ) where
       (λ n s. wayOf kinds longest (innermost (levelsOf xs) .rest) n s) (λ n s. vetFrom kinds longest xs n s)
       (items-way xs (o .1)))
 
+  -- and its codes are those of items
+  use-code : (p : ℕ) (u : Use) (next sum : ℕ) (rest : ℕ → ℕ → Vetted) → Within (length kinds) next u
+      → ((n s : ℕ) → rest n s .code ≤ 8) → onItem p (turnBy kinds longest u) sum rest .code ≤ 8
+  use-code p (writes text after) next sum rest w h = h after (sum + length text)
+  use-code p (stops code) next sum rest w h = w .1
+  use-code p (shows f d s i after) next sum rest w h =
+      by-test (λ (t : Turn). onItem p t sum rest .code ≤ 8) (accepts f (kindIn kinds i)) _ _ (λ _. h after _) (λ _. omega arith)
+
+  items-code : (xs : List Token) → AllOrdinary xs → (next sum : ℕ) → vetFrom kinds longest xs next sum .code ≤ 8
+  unfolding vetFrom turnOf
+  items-code [] o next sum = omega arith
+  items-code (x ∷ xs) o next sum =
+      use-code (x .at) (useOf (length kinds) (x .item) next) next sum (λ n s. vetFrom kinds longest xs n s)
+      (use-within (length kinds) (x .item) next (o .0)) (items-code xs (o .1))
+
 module _ (format kinds : List ℕ) (longest : ℕ) (plain : plainVerdict format ≡ Accepted) where
   pub plain-answer : textVerdict format ≡ Accepted
       → runAnswer format kinds longest ≡ vetFrom kinds longest (tokensAt format 0) 0 0
   unfolding levelsAt
   plain-answer text = items-way kinds longest (tokensAt format 0) (items-ordinary format text plain) 0 0
 
-  -- so that the whole answer is as it was before there were conditionals
+  -- so that a run of it meets no 11
+  pub plain-code : textVerdict format ≡ Accepted → runAnswer format kinds longest .code ≤ 8
+  plain-code text =
+      rw (plain-answer text) (items-code kinds longest (tokensAt format 0) (items-ordinary format text plain) 0 0)
+
+  -- and that the whole answer is as it was before there were conditionals
   pub plain-as-before : vetOf format kinds longest ≡ vetPlain format kinds longest
   unfolding vetOf
   plain-as-before = by (askedVerdict kinds longest) (textVerdict format) refl
     where
       by : (asked text : Verdict) → textVerdict format ≡ text
           → unlessDeclined asked
-          (λ _. unlessDeclined text (λ _. unlessDeclined (takenVerdict format) (λ _. runAnswer format kinds longest)))
+          (λ _. unlessDeclined text (λ _. unlessDeclined (vettableVerdict format) (λ _. runAnswer format kinds longest)))
           ≡ unlessDeclined asked
           (λ _. unlessDeclined text
           (λ _. unlessDeclined (plainVerdict format) (λ _. vetFrom kinds longest (tokensAt format 0) 0 0)))
       by (Refused code p) text e = refl
       by Accepted (Refused code p) e = refl
-      by Accepted Accepted e = rw (plain-taken format plain, plain) (plain-answer e)
+      by Accepted Accepted e = rw (plain-vettable format plain, plain) (plain-answer e)

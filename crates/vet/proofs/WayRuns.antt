@@ -26,7 +26,7 @@ use Rattle.vet.proofs.Picks.{chosen, Any, picks}
 use Rattle.vet.proofs.PlainRun.{valueIn}
 use Rattle.vet.proofs.Reached.{Reached, Runs, Walks, reached-weaker, runs-grow, reached-end, reached-after}
 use Rattle.vet.proofs.Starts.{Begun}
-use Rattle.vet.proofs.Taken.{Taken, TakenClauses}
+use Rattle.vet.proofs.Vettable.{Vettable, VettableClauses}
 use Rattle.vet.proofs.Values.{Allowed}
 use Rattle.vet.proofs.Weights.{weight, weights}
 
@@ -124,9 +124,9 @@ module _ (kinds : List ℕ) (longest : ℕ) (v : View)
     (agree : (i : ℕ) → i < length kinds → kindOf (valueIn v (length kinds) i) ≡ kindIn kinds i)
     (allowed : (i : ℕ) → i < length kinds → Allowed longest (valueIn v (length kinds) i)) where
   mutual
-    unfolding Taken wayOf weight
+    unfolding Vettable wayOf weight
 
-    pub sequence-walks : (x : Sequence) (k : ℕ) → Taken k x → Walks kinds longest v k x
+    pub sequence-walks : (x : Sequence) (k : ℕ) → Vettable k x → Walks kinds longest v k x
     sequence-walks end k t = λ next sum ks h left l.
         reached-end v (length kinds) left ks (left - 0) sum next sum (omega arith) (omega arith)
     sequence-walks (acts p x rest) k t =
@@ -138,6 +138,6 @@ module _ (kinds : List ℕ) (longest : ℕ) (v : View)
         by-start kinds longest v k p d cs rest (sequence-walks rest (suc k) (t .2)) next sum (clauses-walks cs k (t .1))
         (startOf kinds longest d next) (λ m on P. picks kinds longest v agree p m d cs (t .0) next on P)
 
-    clauses-walks : (cs : Clauses) (k : ℕ) → TakenClauses k cs → Each (Walks kinds longest v k) cs
+    clauses-walks : (cs : Clauses) (k : ℕ) → VettableClauses k cs → Each (Walks kinds longest v k) cs
     clauses-walks none k t = tt
     clauses-walks (clause colon x more) k t = (sequence-walks x k (t .0), clauses-walks more k (t .1))

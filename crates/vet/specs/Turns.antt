@@ -1,4 +1,5 @@
--- What an item of a plain format does to a vet, by the kinds of the arguments. Assumes nothing: these are definitions.
+-- What an item of a plain format, or of a clause, does to a vet, by the kinds of the arguments. Assumes nothing: these are
+-- definitions.
 use Prim.Native.Nat.{ℕ}
 use mathlib.Core.Bool.{cond}
 use mathlib.Core.List.{List}

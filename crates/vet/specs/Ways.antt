@@ -21,7 +21,8 @@ use Rattle.vet.specs.declared.Ends.the-variants.{Nowhere, Equal, Unequal
 use Rattle.vet.specs.declared.Turn.{Turn}
 use Rattle.vet.specs.declared.Turn.the-variants.{Goes, Stops}
 
--- A way through a sequence leads to the argument `next` with at most `size` bytes, or it fails with a code at a position
+-- The ways through a sequence, joined: they lead to the argument `next` with at most `size` bytes, or fail with a code at a
+-- position
 pub data Way : Type 0 where
   leads : ℕ → ℕ → Way
   fails : ℕ → ℕ → Way
@@ -56,12 +57,12 @@ abbrev pub onTurn : ℕ → Turn → ℕ → (ℕ → ℕ → Way) → Way
 onTurn p (Goes next size) sum on = on next (sum + size)
 onTurn p (Stops code) sum on = fails code p
 
--- "6 to 8 for a clause that fails, the first met"
+-- "6 to 8 for a clause that fails, the first met", or the 11 of a block in it
 abbrev pub onWay : Way → (ℕ → ℕ → Ways) → Ways
 onWay (leads next size) on = on next size
 onWay (fails code p) on = failing code p
 
--- "code 11 at the block's tilde .. for unequal ends"
+-- "code 11 at the block's tilde .. for unequal ends". Every block has a clause, so that its ways end somewhere
 abbrev pub onEnds : ℕ → Ends → (ℕ → ℕ → Way) → Way
 onEnds p Nowhere on = fails 11 p
 onEnds p (Equal next size) on = on next size
@@ -76,7 +77,7 @@ module _ (kinds : List ℕ) (longest : ℕ) where
   abbrev pub count : ℕ
   count = length kinds
 
-  -- a block that takes an argument of its own: "none left is 6"
+  -- a block that looks at the next argument: "own argument 6", and of `~@[` "none left is 6"
   abbrev pub onOwn : ℕ → Turn → Turn
   onOwn next go = cond (ltb next count) go (Stops 6)
 
@@ -98,7 +99,8 @@ module _ (kinds : List ℕ) (longest : ℕ) where
       (settledStart (settle noEntries (inHand count next) (placesOf (Opens Conditional) false) (inOrder (d .parameters)) next)))
 
   unfoldable mutual
-    -- the way through a sequence from the argument `next`, where the pieces before it are `sum` bytes at the most
+    -- the ways through a sequence from the argument `next`, where the pieces before it are `sum` bytes at the most; a format
+    -- with an escape or an iteration was refused before
     pub wayOf : Sequence → ℕ → ℕ → Way
     wayOf end next sum = leads next sum
     wayOf (acts p x rest) next sum = onTurn p (turnOf kinds longest x next) sum (λ next₂ sum₂. wayOf rest next₂ sum₂)

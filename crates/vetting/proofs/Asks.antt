@@ -13,7 +13,7 @@ use Rattle.rules.specs.Choice.{both}
 use Rattle.rules.specs.Text.{textVerdict, provided}
 use Rattle.rules.specs.declared.Verdict.{Verdict}
 use Rattle.rules.specs.declared.Verdict.the-variants.{Accepted, Refused}
-use Rattle.vet.specs.Plain.{takenVerdict}
+use Rattle.vet.specs.Plain.{vettableVerdict}
 use Rattle.vet.specs.Vet.{knownTags, mayAsk, askedVerdict, declined, unlessDeclined, runAnswer, vetOf}
 use Rattle.vet.specs.declared.Vetted.{Vetted}
 use Rattle.vet.specs.Demand.{Promised}
@@ -57,34 +57,34 @@ module _ (format kinds : List ℕ) (longest : ℕ) where
   abbrev counting : Bool → Vetted
   counting _ = runAnswer format kinds longest
 
-  abbrev taking : Bool → Vetted
-  taking _ = unlessDeclined (takenVerdict format) counting
+  abbrev judging : Bool → Vetted
+  judging _ = unlessDeclined (vettableVerdict format) counting
 
   abbrev reading : Bool → Vetted
-  reading _ = unlessDeclined (textVerdict format) taking
+  reading _ = unlessDeclined (textVerdict format) judging
 
   pub not-asked : mayAsk kinds longest ≡ false → declined 12 0 ≡ vetOf format kinds longest
   unfolding vetOf askedVerdict
   not-asked e = sym (ap (λ (b : Bool). unlessDeclined (provided b 12 0 (λ _. Accepted)) reading) e)
 
   module _ (may : mayAsk kinds longest ≡ true) where
-    asked : vetOf format kinds longest ≡ unlessDeclined (textVerdict format) taking
+    asked : vetOf format kinds longest ≡ unlessDeclined (textVerdict format) judging
     unfolding vetOf askedVerdict
     asked = ap (λ (b : Bool). unlessDeclined (provided b 12 0 (λ _. Accepted)) reading) may
 
     pub not-read : {code position : ℕ} → textVerdict format ≡ Refused code position
         → declined code position ≡ vetOf format kinds longest
-    not-read e = sym (asked ∙ ap (λ (x : Verdict). unlessDeclined x taking) e)
+    not-read e = sym (asked ∙ ap (λ (x : Verdict). unlessDeclined x judging) e)
 
     module _ (text : textVerdict format ≡ Accepted) where
-      read : vetOf format kinds longest ≡ unlessDeclined (takenVerdict format) counting
-      read = asked ∙ ap (λ (x : Verdict). unlessDeclined x taking) text
+      read : vetOf format kinds longest ≡ unlessDeclined (vettableVerdict format) counting
+      read = asked ∙ ap (λ (x : Verdict). unlessDeclined x judging) text
 
-      pub not-taken : {code position : ℕ} → takenVerdict format ≡ Refused code position
+      pub not-vettable : {code position : ℕ} → vettableVerdict format ≡ Refused code position
           → declined code position ≡ vetOf format kinds longest
-      not-taken e = sym (read ∙ ap (λ (x : Verdict). unlessDeclined x counting) e)
+      not-vettable e = sym (read ∙ ap (λ (x : Verdict). unlessDeclined x counting) e)
 
-      pub ran : takenVerdict format ≡ Accepted → runAnswer format kinds longest ≡ vetOf format kinds longest
+      pub ran : vettableVerdict format ≡ Accepted → runAnswer format kinds longest ≡ vetOf format kinds longest
       ran e = sym (read ∙ ap (λ (x : Verdict). unlessDeclined x counting) e)
 
 -- the definition's answer keeps every promise

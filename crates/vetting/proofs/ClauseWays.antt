@@ -47,12 +47,12 @@ pub record Gathering (t kinds : List ℕ) (longest : ℕ) (d : Directive) (start
   pub outside : outer (levelsAt t z) ≡ outer (levelsAt t (d .next))
   pub least : d .next ≤ z
   pub size : EndsIn (length kinds) (mostPiece * (z - d .next)) e
-  pub taken : VettableAt t z
+  pub vettable : VettableAt t z
 
 pub gather-start : (t kinds : List ℕ) (longest : ℕ) (d : Directive) (start : ℕ) → VettableAt t (d .next)
     → Gathering t kinds longest d start (d .next) false Nowhere
 gather-start t kinds longest d start k =
-    record { ways = refl; last = refl; outside = refl; least = omega arith; size = tt; taken = k }
+    record { ways = refl; last = refl; outside = refl; least = omega arith; size = tt; vettable = k }
 
 ends-wider : (count few most : ℕ) (e : Ends) → few ≤ most → EndsIn count few e → EndsIn count most e
 ends-wider count few most Nowhere h i = tt
@@ -92,7 +92,7 @@ module _ {t kinds : List ℕ} {longest : ℕ} {d : Directive} {start z : ℕ} {c
       outside = w .ends .on ∙ g .outside;
       least = omega (arith, g .least, w .least, w .ends .least);
       size = gather-in after next size (omega (arith, w .least, w .ends .least)) (w .reached) (omega (arith, w .small, w .least, w .ends .least));
-      taken = w .taken;
+      vettable = w .vettable;
     }
 
     module _ (w : Walked t kinds longest z start next size (Last q after)) where
@@ -121,7 +121,7 @@ module _ {t kinds : List ℕ} {longest : ℕ} {d : Directive} {start z : ℕ} {c
             (none-in (length kinds) (mostPiece * (after - d .next)) d colon start (meeting e next size) (meet-some e next size)
             (gather-in after next size (omega (arith, w .least, w .ends .least)) (w .reached)
             (omega (arith, w .small, w .least, w .ends .least))));
-        taken = w .taken;
+        vettable = w .vettable;
       }
 
 -- the conditional d at p
@@ -182,7 +182,7 @@ module _ (t kinds : List ℕ) (longest p next : ℕ) (d : Directive) (e : itemAt
           reaches = record {
             reached = i .0;
             small = omega (arith, place .above, c .behind .least, i .1);
-            taken = c .taken;
+            vettable = c .vettable;
           };
         }
         by Unequal w i = λ sum. on sum ∙ w (follows sum)

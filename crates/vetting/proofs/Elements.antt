@@ -30,7 +30,7 @@ use Rattle.vet.proofs.TurnLaws.{turn-literal}
 use Rattle.vetting.specs.Counting.{VettableAt, elementBy, wayAt, AtEnd, ElementIs}
 use Rattle.vetting.specs.declared.counting.Element.{Element}
 use Rattle.vetting.specs.declared.counting.Element.the-variants.{Leads}
-use Rattle.vetting.proofs.VettablePlaces.{literal-taken, next-taken, taken-writes, taken-jump, taken-escape, taken-unknown}
+use Rattle.vetting.proofs.VettablePlaces.{literal-vettable, next-vettable, vettable-writes, vettable-jump, vettable-escape, vettable-unknown}
 
 module _ (t kinds : List ℕ) (longest p next : ℕ) where
   -- an item that acts, whatever its turn
@@ -49,7 +49,7 @@ module _ (t kinds : List ℕ) (longest p next : ℕ) where
       more = ap (λ (xs : List Level). innermost xs .more) is;
       outside = ap outer is;
       ahead = l;
-      reaches = record { reached = b .0; small = omega (arith, b .1, spread); taken = k };
+      reaches = record { reached = b .0; small = omega (arith, b .1, spread); vettable = k };
     }
       where
         spread : mostPiece ≤ mostPiece * (q - p)
@@ -60,7 +60,7 @@ module _ (t kinds : List ℕ) (longest p next : ℕ) where
     pub literal-is : (b : ℕ) → itemAt t p ≡ Literal b → ElementIs t kinds longest p next (Leads next 1 (p + 1))
     literal-is b e =
         acts-is (Literal b) (p + 1) (levels-literal t p b e) (Goes next 1) (turn-literal kinds longest b next)
-        (h, omega arith) (omega arith) (literal-taken k b e)
+        (h, omega arith) (omega arith) (literal-vettable k b e)
 
     module _ (d : Directive) (e : itemAt t p ≡ Written d) where
       place : Within (p + 1) (length t) (d .next)
@@ -69,11 +69,11 @@ module _ (t kinds : List ℕ) (longest p next : ℕ) where
       pub writes-is : (f : Form) → d .code ≡ Writes f → (x : Turn) → x ≡ turnOf kinds longest (Written d) next
           → (r : Element) → r ≡ elementBy x p (d .next) → ElementIs t kinds longest p next r
       writes-is f c x by r is =
-          let o : Ordinary (Written d) = taken-writes k d e f c in
+          let o : Ordinary (Written d) = vettable-writes k d e f c in
           let b = item-turned kinds longest (a .long) (Written d) o next h in
           subst (ElementIs t kinds longest p next) (sym is)
           (acts-is (Written d) (d .next) (levels-written t p d e (Writes f) c) x (sym by)
-          (subst (Turned (length kinds)) (sym by) b) (omega (arith, place .above)) (next-taken k d e))
+          (subst (Turned (length kinds)) (sym by) b) (omega (arith, place .above)) (next-vettable k d e))
 
       pub separator-is : d .code ≡ Separator → AtEnd t p (Another p (d .colon) (d .next))
       separator-is c =
@@ -83,7 +83,7 @@ module _ (t kinds : List ℕ) (longest p next : ℕ) where
             rest = ap (λ (xs : List Level). innermost xs .rest) is;
             ends = clause-splits (clause-start t p (k .inside)) refl s;
             here = refl;
-            taken = next-taken k d e;
+            vettable = next-vettable k d e;
           }
 
       -- the codes beside those that write, open and part
@@ -93,8 +93,8 @@ module _ (t kinds : List ℕ) (longest p next : ℕ) where
       pub closer-is : (c : Code) → d .code ≡ c → OneOf other-codes (tagOf code-declared.the-type c)
           → AtEnd t p (Last p (d .next))
       closer-is (Writes f) c o = absurd (miss other-codes 0 tt o)
-      closer-is Jump c o = absurd (taken-jump k d e c)
-      closer-is Escape c o = absurd (taken-escape k d e c)
+      closer-is Jump c o = absurd (vettable-jump k d e c)
+      closer-is Escape c o = absurd (vettable-escape k d e c)
       closer-is (Opens b) c o = absurd (miss other-codes 3 tt o)
       closer-is Separator c o = absurd (miss other-codes 4 tt o)
       closer-is (Closes b) c o =
@@ -104,16 +104,16 @@ module _ (t kinds : List ℕ) (longest p next : ℕ) where
             rest = ap (λ (xs : List Level). innermost xs .rest) is;
             ends = clause-finishes (clause-start t p (k .inside)) refl s;
             here = refl;
-            taken = next-taken k d e;
+            vettable = next-vettable k d e;
           }
-      closer-is Unknown c o = absurd (taken-unknown k d e c)
+      closer-is Unknown c o = absurd (vettable-unknown k d e c)
 
     nothing-is : levelsAt t p ≡ [] → AtEnd t p (Last p p)
     nothing-is is = record {
       rest = ap (λ (xs : List Level). innermost xs .rest) is;
       ends = clause-stops (clause-start t p (k .inside)) is;
       here = refl;
-      taken = k;
+      vettable = k;
     }
 
     -- the items beside literal bytes and directives

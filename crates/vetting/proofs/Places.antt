@@ -13,7 +13,7 @@ use Rattle.rules.specs.declared.Item.{Item}
 use Rattle.rules.specs.declared.Item.the-variants.{End, Literal, Written, BadNumber, Unfinished}
 use Rattle.rules.specs.declared.Verdict.the-variants.{Accepted, Refused}
 use Rattle.rules.proofs.TextLaws.{placeAfter, Stands, stands, tokens-is}
-use Rattle.vet.specs.Plain.{plainCode, isNext, noneNext, plainItem, plainFrom, takenVerdict}
+use Rattle.vet.specs.Plain.{plainCode, isNext, noneNext, plainItem, plainFrom, vettableVerdict}
 use Rattle.vet.proofs.Loop.{Follows, plain-on, plain-not, plain-end}
 
 -- the text goes on after the item's first byte, inside the text
@@ -36,24 +36,24 @@ module _ (t : List ℕ) (p q : ℕ) (i : Item) (h : p < length t) (is : i ≡ it
   follows = record { is = rw e (tokens-is t p i (sym is) h) }
 
 -- a text of which a vet takes the items before p
-pub record TakenTo (t : List ℕ) (p : ℕ) : Type 0 where
+pub record VettableTo (t : List ℕ) (p : ℕ) : Type 0 where
   pub inside : p ≤ length t
-  pub rest : takenVerdict t ≡ plainFrom true (tokensAt t p)
+  pub rest : vettableVerdict t ≡ plainFrom true (tokensAt t p)
 
-pub taken-start : (t : List ℕ) → TakenTo t 0
-taken-start t = record { inside = omega arith; rest = refl }
+pub vettable-start : (t : List ℕ) → VettableTo t 0
+vettable-start t = record { inside = omega arith; rest = refl }
 
-module _ {t : List ℕ} {p : ℕ} (l : TakenTo t p) where
-  pub taken-done : length t ≤ p → Accepted ≡ takenVerdict t
-  taken-done h = sym (l .rest ∙ plain-end true t p h)
+module _ {t : List ℕ} {p : ℕ} (l : VettableTo t p) where
+  pub vettable-done : length t ≤ p → Accepted ≡ vettableVerdict t
+  vettable-done h = sym (l .rest ∙ plain-end true t p h)
 
-  module _ (i : Item) (h : p < length t) (is : i ≡ itemAt t p) (taken : Bool) (test : taken ≡ plainItem true i) where
-    pub taken-refused : taken ≡ false → Refused 11 p ≡ takenVerdict t
-    taken-refused e =
+  module _ (i : Item) (h : p < length t) (is : i ≡ itemAt t p) (vettable : Bool) (test : vettable ≡ plainItem true i) where
+    pub vettable-refused : vettable ≡ false → Refused 11 p ≡ vettableVerdict t
+    vettable-refused e =
         sym (l .rest ∙ plain-not t p (placeAfter p i) i (follows t p (placeAfter p i) i h is refl) true (sym test ∙ e))
 
-    pub taken-more : taken ≡ true → (q : ℕ) → q ≡ placeAfter p i → TakenTo t q
-    taken-more e q f = record {
+    pub vettable-more : vettable ≡ true → (q : ℕ) → q ≡ placeAfter p i → VettableTo t q
+    vettable-more e q f = record {
       inside = goes-later t p q i h is f .inside;
       rest = l .rest ∙ plain-on t p q i (follows t p q i h is f) true (sym test ∙ e);
     }
@@ -63,11 +63,11 @@ both-end true = refl
 both-end false = refl
 
 -- a directive, from the tests of its code and of its four parameters
-pub directive-taken : (d : Directive) {k a b c e last more all r : Bool} → k ≡ plainCode true (d .code)
+pub directive-vettable : (d : Directive) {k a b c e last more all r : Bool} → k ≡ plainCode true (d .code)
     → a ≡ not (isNext (d .parameters .first)) → b ≡ not (isNext (d .parameters .second))
     → c ≡ not (isNext (d .parameters .third)) → e ≡ not (isNext (d .parameters .fourth))
     → last ≡ both c e → more ≡ both b last → all ≡ both a more → r ≡ both k all
     → r ≡ both (plainCode true (d .code)) (noneNext (inOrder (d .parameters)))
-directive-taken d {k} {a} {b} {c} {e} ek ea eb ec ee el em en er =
+directive-vettable d {k} {a} {b} {c} {e} ek ea eb ec ee el em en er =
     er ∙ rw (en, em, el, ← ek, ← ea, ← eb, ← ec, ← ee)
     (ap (λ (x : Bool). both k (both a (both b (both c x)))) (sym (both-end e)))

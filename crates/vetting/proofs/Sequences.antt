@@ -24,12 +24,12 @@ pub record Walking (t kinds : List ℕ) (longest start first p next sum : ℕ) :
   pub least : start ≤ p
   pub reached : next ≤ length kinds
   pub small : sum ≤ mostPiece * (p - start)
-  pub taken : VettableAt t p
+  pub vettable : VettableAt t p
 
 pub walk-start : (t kinds : List ℕ) (longest start first : ℕ) → VettableAt t start → first ≤ length kinds
     → Walking t kinds longest start first start first 0
 walk-start t kinds longest start first k h =
-    record { way = refl; more = refl; outside = refl; least = omega arith; reached = h; small = omega arith; taken = k }
+    record { way = refl; more = refl; outside = refl; least = omega arith; reached = h; small = omega arith; vettable = k }
 
 -- a clause that is read from a later place on ends where it ends
 ends-from : (t : List ℕ) (start p : ℕ) (e : ClauseEnd) → innermost (levelsAt t p) .more ≡ innermost (levelsAt t start) .more
@@ -48,7 +48,7 @@ module _ {t kinds : List ℕ} {longest start first p next sum : ℕ} (w : Walkin
   -- the sum of all that a text of 4,096 bytes can come to
   pub walk-small : {after size q : ℕ} → Onward t kinds longest p next after size q → sum + size ≤ 67112960
   walk-small o =
-      omega (arith, w .small, w .least, o .ahead, o .reaches .small, o .reaches .taken .inside, o .reaches .taken .short)
+      omega (arith, w .small, w .least, o .ahead, o .reaches .small, o .reaches .vettable .inside, o .reaches .vettable .short)
 
   pub walk-on : {after size q : ℕ} → Onward t kinds longest p next after size q
       → Walking t kinds longest start first q after (sum + size)
@@ -59,7 +59,7 @@ module _ {t kinds : List ℕ} {longest start first p next sum : ℕ} (w : Walkin
     least = omega (arith, w .least, o .ahead);
     reached = o .reaches .reached;
     small = omega (arith, w .small, w .least, o .ahead, o .reaches .small);
-    taken = o .reaches .taken;
+    vettable = o .reaches .vettable;
   }
 
   pub walk-fails : {code position : ℕ} → ((n : ℕ) → wayAt t kinds longest p next n ≡ fails code position)
@@ -74,7 +74,7 @@ module _ {t kinds : List ℕ} {longest start first p next sum : ℕ} (w : Walkin
     least = omega (arith, w .least, a .here);
     reached = w .reached;
     small = subst (λ (q : ℕ). sum ≤ mostPiece * (q - start)) (sym (a .here)) (w .small);
-    taken = a .taken;
+    vettable = a .vettable;
   }
 
 -- the whole text, from the first argument on

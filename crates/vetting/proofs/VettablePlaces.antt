@@ -18,13 +18,13 @@ use Rattle.rules.proofs.AcceptedAt.{AcceptedAt, accepted-literal, accepted-know
 use Rattle.rules.proofs.Bases.{code-right}
 use Rattle.rules.proofs.Tests.{both-true, not-both-ways}
 use Rattle.rules.proofs.TextLaws.{Within, stands, next-inside, sound-start}
-use Rattle.vet.specs.Plain.{Opener, plainCode, noneNext, plainItem, plainFrom, takenVerdict}
+use Rattle.vet.specs.Plain.{Opener, plainCode, noneNext, plainItem, plainFrom, vettableVerdict}
 use Rattle.vet.proofs.Ordinary.{PlainDirective}
-use Rattle.vet.proofs.Taken.{item-on}
+use Rattle.vet.proofs.Vettable.{item-on}
 use Rattle.vetting.specs.Counting.{VettableAt}
 
-pub taken-start : (t : List ℕ) → textVerdict t ≡ Accepted → takenVerdict t ≡ Accepted → VettableAt t 0
-taken-start t e k =
+pub vettable-text : (t : List ℕ) → textVerdict t ≡ Accepted → vettableVerdict t ≡ Accepted → VettableAt t 0
+vettable-text t e k =
     let s = sound-start t e in
     record { blocks = []; accepted = s .1 .is; plain = k; inside = omega arith; short = s .0 }
 
@@ -35,8 +35,8 @@ module _ {t : List ℕ} {p : ℕ} (k : VettableAt t p) where
   after : {q : ℕ} → AcceptedAt t q → plainFrom true (tokensAt t q) ≡ Accepted → q ≤ length t → VettableAt t q
   after a e h = record { blocks = a .blocks; accepted = a .sound .is; plain = e; inside = h; short = k .short }
 
-  pub literal-taken : (b : ℕ) → itemAt t p ≡ Literal b → VettableAt t (p + 1)
-  literal-taken b e =
+  pub literal-vettable : (b : ℕ) → itemAt t p ≡ Literal b → VettableAt t (p + 1)
+  literal-vettable b e =
       let h : p < length t = stands t p (Literal b) e in
       after (accepted-literal t p here b e) (item-on t p (Literal b) e h (k .plain) .1) (omega arith)
 
@@ -44,18 +44,18 @@ module _ {t : List ℕ} {p : ℕ} (k : VettableAt t p) where
     place : Within (p + 1) (length t) (d .next)
     place = next-inside t p d e
 
-    taken : (plainItem true (Written d) ≡ true) × (plainFrom true (tokensAt t (d .next)) ≡ Accepted)
-    taken = item-on t p (Written d) e (omega (arith, place .above, place .most)) (k .plain)
+    vettable : (plainItem true (Written d) ≡ true) × (plainFrom true (tokensAt t (d .next)) ≡ Accepted)
+    vettable = item-on t p (Written d) e (omega (arith, place .above, place .most)) (k .plain)
 
     parts : (plainCode true (d .code) ≡ true) × (noneNext (inOrder (d .parameters)) ≡ true)
     unfolding plainItem
-    parts = both-true (plainCode true (d .code)) (noneNext (inOrder (d .parameters))) (taken .0)
+    parts = both-true (plainCode true (d .code)) (noneNext (inOrder (d .parameters))) (vettable .0)
 
-    pub next-taken : VettableAt t (d .next)
-    next-taken = after (accepted-written t p here d e .1) (taken .1) (place .most)
+    pub next-vettable : VettableAt t (d .next)
+    next-vettable = after (accepted-written t p here d e .1) (vettable .1) (place .most)
 
-    pub taken-writes : (f : Form) → d .code ≡ Writes f → PlainDirective d
-    taken-writes f c = record {
+    pub vettable-writes : (f : Form) → d .code ≡ Writes f → PlainDirective d
+    vettable-writes f c = record {
       form = f;
       code = c;
       written = accepted-written t p here d e .0;
@@ -64,15 +64,15 @@ module _ {t : List ℕ} {p : ℕ} (k : VettableAt t p) where
     }
 
     -- of the codes that open a block only conditionals are taken
-    pub taken-opens : (b : Bracket) → d .code ≡ Opens b → Opener d
-    taken-opens Conditional c = record { code = c; written = accepted-written t p here d e .0; fixed = parts .1 }
-    taken-opens Iteration c = absurd (not-both-ways (parts .0) (rw c))
+    pub vettable-opens : (b : Bracket) → d .code ≡ Opens b → Opener d
+    vettable-opens Conditional c = record { code = c; written = accepted-written t p here d e .0; fixed = parts .1 }
+    vettable-opens Iteration c = absurd (not-both-ways (parts .0) (rw c))
 
-    pub taken-jump : d .code ≡ Jump → ⊥
-    taken-jump c = not-both-ways (parts .0) (rw c)
+    pub vettable-jump : d .code ≡ Jump → ⊥
+    vettable-jump c = not-both-ways (parts .0) (rw c)
 
-    pub taken-escape : d .code ≡ Escape → ⊥
-    taken-escape c = not-both-ways (parts .0) (rw c)
+    pub vettable-escape : d .code ≡ Escape → ⊥
+    vettable-escape c = not-both-ways (parts .0) (rw c)
 
-    pub taken-unknown : d .code ≡ Unknown → ⊥
-    taken-unknown c = accepted-known t p here d e c
+    pub vettable-unknown : d .code ≡ Unknown → ⊥
+    vettable-unknown c = accepted-known t p here d e c

@@ -63,7 +63,7 @@ pub record AtEnd (t : List ℕ) (p : ℕ) (e : ClauseEnd) : Type 0 where
   pub rest : innermost (levelsAt t p) .rest ≡ end
   pub ends : EndsClause t p e
   pub here : stopOf e ≡ p
-  pub taken : VettableAt t (afterOf e)
+  pub vettable : VettableAt t (afterOf e)
 
 module _ (t kinds : List ℕ) (longest : ℕ) where
   -- the way through the rest of the sequence at p
@@ -75,7 +75,7 @@ module _ (t kinds : List ℕ) (longest : ℕ) where
   pub record Reaches (p q after size : ℕ) : Type 0 where
     pub reached : after ≤ length kinds
     pub small : size ≤ mostPiece * (q - p)
-    pub taken : VettableAt t q
+    pub vettable : VettableAt t q
 
   -- the element at p, and what follows it at q in the same sequence
   pub record Onward (p next after size q : ℕ) : Type 0 where
@@ -97,7 +97,7 @@ module _ (t kinds : List ℕ) (longest : ℕ) where
     pub least : start ≤ stopOf e
     pub reached : next ≤ length kinds
     pub small : size ≤ mostPiece * (stopOf e - start)
-    pub taken : VettableAt t (afterOf e)
+    pub vettable : VettableAt t (afterOf e)
 
   abbrev pub SequenceIs : ℕ → ℕ → Counted → Type 0
   SequenceIs start first (Leads next size e) = Walked start first next size e
@@ -114,7 +114,7 @@ module _ (t kinds : List ℕ) (longest : ℕ) where
     pub way : (p : ℕ) (on : ℕ → ℕ → Way) → clausesWay d start p on ≡ onEnds p e on
     pub behind : AfterBlock t (d .next) q
     pub within : EndsIn (length kinds) (mostPiece * (q - d .next)) e
-    pub taken : VettableAt t q
+    pub vettable : VettableAt t q
 
   abbrev pub ClausesAre : Directive → ℕ → Clauses → Type 0
   ClausesAre d start (End e q) = Through d start e q

@@ -19,7 +19,7 @@ ghost use Rattle.rules.specs.Directive.{itemAt};
 ghost use Rattle.rules.specs.Text.{textVerdict};
 ghost use Rattle.rules.specs.declared.Item.the-variants.{Written};
 ghost use Rattle.rules.specs.declared.Verdict.the-variants.{Accepted};
-ghost use Rattle.vet.specs.Plain.{Opener, takenVerdict};
+ghost use Rattle.vet.specs.Plain.{Opener, vettableVerdict};
 ghost use Rattle.vet.specs.Vet.{runAnswer};
 ghost use Rattle.vet.proofs.Codes.{Asked};
 ghost use Rattle.vetting.specs.Counting.{VettableAt, elementBy, closedBy, ElementIs, SequenceIs, ClausesAre};
@@ -235,7 +235,7 @@ fn count_sequence(
 pub fn count_format(format: &[u8], kinds: &[u8], longest: usize) -> Vetted
     requires { ⌜ Asked (now kinds) longest ⌝ }
     requires { ⌜ textVerdict (now format) ≡ Accepted ⌝ }
-    requires { ⌜ takenVerdict (now format) ≡ Accepted ⌝ }
+    requires { ⌜ vettableVerdict (now format) ≡ Accepted ⌝ }
     ensures { λ r. ⌜ r ≡ runAnswer (now (format .entry)) (now (kinds .entry)) longest ⌝ }
 {
     let counted = count_sequence(format, kinds, longest, 0, 0);

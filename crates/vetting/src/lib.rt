@@ -2,14 +2,14 @@
 pub mod asking;
 pub mod counting;
 pub mod ends;
-pub mod taking;
+pub mod vettable;
 
 use asking::may_ask;
 use checking::text::check_text;
 use counting::count_format;
 use rules::Verdict;
-use taking::check_taken;
 use vet::Vetted;
+use vettable::check_vettable;
 ghost use mathlib.Core.Path.{_≡_};
 ghost use mathlib.Core.Bool.{true};
 ghost use Rattle.rules.specs.Text.{textVerdict};
@@ -33,8 +33,8 @@ fn vet_read(format: &[u8], kinds: &[u8], longest: usize) -> Vetted
     requires { ⌜ textVerdict (now format) ≡ Accepted ⌝ }
     ensures { λ r. ⌜ r ≡ vetOf (now (format .entry)) (now (kinds .entry)) longest ⌝ }
 {
-    let taken = check_taken(format);
-    match taken {
+    let vettable = check_vettable(format);
+    match vettable {
         Verdict::Accepted => count_format(format, kinds, longest),
         Verdict::Refused { code, position } => decline(code, position),
     }

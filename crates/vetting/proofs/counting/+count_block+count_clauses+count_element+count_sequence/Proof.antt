@@ -9,7 +9,7 @@ use Rattle.rules.proofs.TextLaws.{stands, next-inside}
 use Rattle.vet.specs.Ways.{withNone}
 use Rattle.turns.proofs.TurnBy.{writing-of}
 use Rattle.vetting.specs.Counting.{ElementIs, SequenceIs, ClausesAre}
-use Rattle.vetting.proofs.VettablePlaces.{next-taken, taken-writes, taken-opens}
+use Rattle.vetting.proofs.VettablePlaces.{next-vettable, vettable-writes, vettable-opens}
 use Rattle.vetting.proofs.Elements.{literal-is, writes-is, separator-is, closer-is, end-is}
 use Rattle.vetting.proofs.Sequences.{Walking, walk-start, walk-small, walk-on, walk-fails, walk-ends}
 use Rattle.vetting.proofs.ClauseWays.{Gathering, walked-by, gather-start, gather-fails, gather-on, gather-last, start-inside, block-stops, block-fails, block-closes}
@@ -152,7 +152,7 @@ count-block-count-clauses-requires t c κs =
     let pre = c .before .before .before .before .before .before .pre .1 in
     let begun = sym (c .before .before .before .start-of .ensures (args .longest)) ∙ c .before .turn2 .given .1 in (
       omega (arith, c .before .before .before .before .before .before .pre .0),
-      (pre .0, (next-taken (pre .1 .0) (args .d) (pre .1 .1 .0), start-inside (args .format .now) (args .kinds .now) (args .longest) (args .p) (args .next) (args .d) (pre .1 .1 .0) (pre .1 .1 .1 .0) (pre .1 .1 .1 .1) _ _ begun)),
+      (pre .0, (next-vettable (pre .1 .0) (args .d) (pre .1 .1 .0), start-inside (args .format .now) (args .kinds .now) (args .longest) (args .p) (args .next) (args .d) (pre .1 .1 .0) (pre .1 .1 .1 .0) (pre .1 .1 .1 .1) _ _ begun)),
     )
 
 count-block-enum-known-clauses : (t : ℕ) → count-block-lts.Need-enum-known-clauses (
@@ -266,7 +266,7 @@ count-clauses-count-sequence-requires : (t : ℕ) → count-clauses-lts.Need-cou
 count-clauses-count-sequence-requires t c κs =
     let args = c .before .before .before .args in
     let pre = c .before .before .before .pre .1 in
-    (omega (arith, c .before .before .before .pre .0, c .loop .inv .least), (pre .0, (c .loop .inv .taken, pre .1 .1)))
+    (omega (arith, c .before .before .before .pre .0, c .loop .inv .least), (pre .0, (c .loop .inv .vettable, pre .1 .1)))
 
 count-clauses-enum-known-counted : (t : ℕ) → count-clauses-lts.Need-enum-known-counted (
   count-sequence-below t,
@@ -468,7 +468,7 @@ count-element-turn-form-requires t c κs =
     let args = c .before .before .before .before .before .before .before .before .before .args in
     let pre = c .before .before .before .before .before .before .before .before .before .pre .1 in
     let is = sym (c .before .before .before .before .before .before .item-at .ensures) ∙ c .before .before .before .before .item .given .1 in
-    (writing-of _ (taken-writes (pre .1 .0) _ is _ (c .before .code .given .1)) _ (c .before .code .given .1), (pre .0, pre .1 .1))
+    (writing-of _ (vettable-writes (pre .1 .0) _ is _ (c .before .code .given .1)) _ (c .before .code .given .1), (pre .0, pre .1 .1))
 
 count-element-element-by-requires : (t : ℕ) → count-element-lts.Need-element-by-requires (
   item-at-reads.Asked,
@@ -510,7 +510,7 @@ count-element-count-block-requires t c κs =
     let is = sym (c .before .before .before .before .before .item-at .ensures) ∙ c .before .before .before .item .given .1 in
     let inside = next-inside (args .format .now) (args .p) _ is in (
       omega (arith, c .before .before .before .before .before .before .before .before .pre .0, inside .above, inside .most),
-      (pre .0, (pre .1 .0, (is, (taken-opens (pre .1 .0) _ is _ (c .enum-told2 .given .1), pre .1 .1)))),
+      (pre .0, (pre .1 .0, (is, (vettable-opens (pre .1 .0) _ is _ (c .enum-told2 .given .1), pre .1 .1)))),
     )
 
 count-element-enum-told-3 : (t : ℕ) → count-element-lts.Need-enum-told-3 (
@@ -638,7 +638,7 @@ count-sequence-count-element-requires : (t : ℕ) → count-sequence-lts.Need-co
 count-sequence-count-element-requires t c κs =
     let args = c .before .before .before .args in
     let pre = c .before .before .before .pre .1 in
-    (omega (arith, c .before .before .before .pre .0, c .loop .inv .least), (pre .0, (c .loop .inv .taken, c .loop .inv .reached)))
+    (omega (arith, c .before .before .before .pre .0, c .loop .inv .least), (pre .0, (c .loop .inv .vettable, c .loop .inv .reached)))
 
 count-sequence-enum-known-e : (t : ℕ) → count-sequence-lts.Need-enum-known-e (
   count-element-below t,
@@ -700,7 +700,7 @@ count-sequence-loop-less t c =
     let head = c .before .before .before .before .loop in
     let element = subst (ElementIs (args .format .now) (args .kinds .now) (args .longest) (head .p) (head .next)) (c .before .e3 .given .1)
     (c .before .before .before .count-element .ensures) in
-    omega (arith, element .ahead, element .reaches .taken .inside)
+    omega (arith, element .ahead, element .reaches .vettable .inside)
 
 count-sequence-loop-again : (t : ℕ) → count-sequence-lts.Need-loop-again (
   count-element-below t,

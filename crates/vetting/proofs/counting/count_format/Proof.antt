@@ -1,7 +1,7 @@
 -- `count_format` meets its contract: the sequence of the whole text, from the first argument on. Assumes nothing.
 use native.Mathlib.Omega.{arith}
 use Rattle.vetting.proofs.Sequences.{answer-fails, answer-leads}
-use Rattle.vetting.proofs.VettablePlaces.{taken-start}
+use Rattle.vetting.proofs.VettablePlaces.{vettable-text}
 use borrow.Author.Needs.{needs}
 use Rattle.vetting.proofs.counting.count_format.Statement.{statement}
 use Rattle.vetting.proofs.counting.count_format.Tie as tie
@@ -9,7 +9,7 @@ use Rattle.vetting.proofs.counting.count_format.Tie as tie
 count-sequence-requires : tie.Need-count-sequence-requires
 count-sequence-requires c κs =
     let pre = c .before .before .pre in
-    (pre .0, (taken-start (c .before .before .args .format .now) (pre .1 .0) (pre .1 .1), omega arith))
+    (pre .0, (vettable-text (c .before .before .args .format .now) (pre .1 .0) (pre .1 .1), omega arith))
 
 enum-known-counted : tie.Need-enum-known-counted
 enum-known-counted c = search needs

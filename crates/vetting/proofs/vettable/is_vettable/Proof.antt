@@ -1,10 +1,10 @@
--- `is_taken` meets its contract, item by item. Assumes nothing.
+-- `is_vettable` meets its contract, item by item. Assumes nothing.
 use mathlib.Core.Path.{sym, ap, _∙_}
 use mathlib.Core.Bool.{true}
 use borrow.Author.Needs.{needs}
 use Rattle.vet.specs.Plain.{plainItem}
-use Rattle.vetting.proofs.taking.is_taken.Statement.{statement}
-use Rattle.vetting.proofs.taking.is_taken.Tie as tie
+use Rattle.vetting.proofs.vettable.is_vettable.Statement.{statement}
+use Rattle.vetting.proofs.vettable.is_vettable.Tie as tie
 
 enum-told : tie.Need-enum-told
 enum-told c = search needs
@@ -15,8 +15,8 @@ enum-told-2 c = search needs
 enum-known-item : tie.Need-enum-known-item
 enum-known-item c = search needs
 
-is-taken-directive-requires : tie.Need-is-taken-directive-requires
-is-taken-directive-requires c κs = search needs
+is-vettable-directive-requires : tie.Need-is-vettable-directive-requires
+is-vettable-directive-requires c κs = search needs
 
 enum-told-3 : tie.Need-enum-told-3
 enum-told-3 c = search needs
@@ -34,7 +34,7 @@ returns-2 c = sym (ap (plainItem true) (c .enum-told2 .given .1))
 
 returns-3 : tie.Need-returns-3
 unfolding plainItem
-returns-3 c = (c .is-taken-directive .ensures) ∙ sym (ap (plainItem true) (c .before .before .item .given .1))
+returns-3 c = (c .is-vettable-directive .ensures) ∙ sym (ap (plainItem true) (c .before .before .item .given .1))
 
 returns-4 : tie.Need-returns-4
 unfolding plainItem
@@ -44,14 +44,14 @@ returns-5 : tie.Need-returns-5
 unfolding plainItem
 returns-5 c = sym (ap (plainItem true) (c .enum-told4 .given .1))
 
-pub is-taken-spec : {M : Type 1} → statement M
-is-taken-spec =
+pub is-vettable-spec : {M : Type 1} → statement M
+is-vettable-spec =
     tie.close
     (tie.spec
     enum-told
     enum-told-2
     enum-known-item
-    is-taken-directive-requires
+    is-vettable-directive-requires
     enum-told-3
     enum-told-4
     returns

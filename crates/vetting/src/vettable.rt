@@ -13,12 +13,12 @@ ghost use Prim.Native.Nat.{_<_};
 ghost use Rattle.rules.specs.Choice.{both};
 ghost use Rattle.rules.specs.Directive.{inOrder};
 ghost use Rattle.rules.proofs.TextLaws.{placeAfter};
-ghost use Rattle.vet.specs.Plain.{plainCode, isNext, noneNext, plainItem, takenVerdict};
+ghost use Rattle.vet.specs.Plain.{plainCode, isNext, noneNext, plainItem, vettableVerdict};
 
 // Not for a vet.
 const NOT_TAKEN: u32 = 11;
 
-fn is_taken_code(code: Code) -> bool
+fn is_vettable_code(code: Code) -> bool
     ensures { λ r. ⌜ r ≡ plainCode true code ⌝ }
 {
     match code {
@@ -48,7 +48,7 @@ fn is_fixed(x: Parameter) -> bool
     }
 }
 
-fn is_taken_directive(d: Directive) -> bool
+fn is_vettable_directive(d: Directive) -> bool
     ensures { λ r. ⌜ r ≡ both (plainCode true (d .code)) (noneNext (inOrder (d .parameters))) ⌝ }
 {
     let code = d.code;
@@ -59,16 +59,16 @@ fn is_taken_directive(d: Directive) -> bool
     let p4 = ps.fourth;
     let last = both(is_fixed(p3), is_fixed(p4));
     let all = both(is_fixed(p1), both(is_fixed(p2), last));
-    both(is_taken_code(code), all)
+    both(is_vettable_code(code), all)
 }
 
-fn is_taken(item: Item) -> bool
+fn is_vettable(item: Item) -> bool
     ensures { λ r. ⌜ r ≡ plainItem true item ⌝ }
 {
     match item {
         Item::End => true,
         Item::Literal(_) => true,
-        Item::Written(d) => is_taken_directive(d),
+        Item::Written(d) => is_vettable_directive(d),
         Item::BadNumber => true,
         Item::Unfinished => true,
     }
@@ -89,13 +89,13 @@ pub fn place_after(item: Item, p: usize) -> usize
 }
 
 // The first tilde that no vet takes.
-pub fn check_taken(format: &[u8]) -> Verdict
-    ensures { λ r. ⌜ r ≡ takenVerdict (now (format .entry)) ⌝ }
+pub fn check_vettable(format: &[u8]) -> Verdict
+    ensures { λ r. ⌜ r ≡ vettableVerdict (now (format .entry)) ⌝ }
 {
     let mut p = 0;
     while p < format.len() {
         let item = item_at(format, p);
-        if !is_taken(item) {
+        if !is_vettable(item) {
             return Verdict::Refused {
                 code: NOT_TAKEN,
                 position: p,

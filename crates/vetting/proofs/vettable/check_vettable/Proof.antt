@@ -1,38 +1,38 @@
--- `check_taken` meets its contract: a vet takes the items passed, so those that remain decide. Assumes nothing.
+-- `check_vettable` meets its contract: a vet takes the items passed, so those that remain decide. Assumes nothing.
 use Prim.Native.Nat.{_-_}
 use native.Mathlib.Omega.{arith}
 use lib.ListN.{length}
 use borrow.Author.Tests.{not-true, not-false}
 use borrow.Author.Needs.{needs}
-use Rattle.vetting.proofs.Places.{TakenTo, taken-start, taken-done, taken-refused, taken-more, goes-later}
-use Rattle.vetting.proofs.taking.check_taken.Statement.{statement}
-use Rattle.vetting.proofs.taking.check_taken.Tie as tie
+use Rattle.vetting.proofs.Places.{VettableTo, vettable-start, vettable-done, vettable-refused, vettable-more, goes-later}
+use Rattle.vetting.proofs.vettable.check_vettable.Statement.{statement}
+use Rattle.vetting.proofs.vettable.check_vettable.Tie as tie
 
 abbrev Inv-loop : tie.InvT-loop
 Inv-loop format p₀ p =
-    TakenTo format p
+    VettableTo format p
 
 abbrev μ-loop : tie.MeasureT-loop
 μ-loop format p₀ p =
     length format - p
 
 loop-holds : tie.Need-loop-holds Inv-loop μ-loop
-loop-holds c = taken-start (c .before .args .format .now)
+loop-holds c = vettable-start (c .before .args .format .now)
 
 item-at-requires : tie.Need-item-at-requires Inv-loop μ-loop
 item-at-requires c κs = search needs
 
-is-taken-requires : tie.Need-is-taken-requires Inv-loop μ-loop
-is-taken-requires c κs = search needs
+is-vettable-requires : tie.Need-is-vettable-requires Inv-loop μ-loop
+is-vettable-requires c κs = search needs
 
 returns : tie.Need-returns Inv-loop μ-loop
 returns c =
     let head = c .before .before .before .before .loop in
     let loop-test = c .before .before .before .loop-test in
     let item-at = c .before .before .item-at in
-    let is-taken = c .before .is-taken in
-    taken-refused (head .inv) (item-at .result) (loop-test .taken) (item-at .ensures) (is-taken .result)
-    (is-taken .ensures) (not-true _ (c .if1 .taken))
+    let is-vettable = c .before .is-vettable in
+    vettable-refused (head .inv) (item-at .result) (loop-test .taken) (item-at .ensures) (is-vettable .result)
+    (is-vettable .ensures) (not-true _ (c .if1 .taken))
 
 place-after-requires : tie.Need-place-after-requires Inv-loop μ-loop
 place-after-requires c κs = omega arith
@@ -52,22 +52,22 @@ loop-again c =
     let head = c .before .before .before .before .before .loop in
     let loop-test = c .before .before .before .before .loop-test in
     let item-at = c .before .before .before .item-at in
-    let is-taken = c .before .before .is-taken in
-    taken-more (head .inv) (item-at .result) (loop-test .taken) (item-at .ensures) (is-taken .result)
-    (is-taken .ensures) (not-false _ (c .before .if1 .left)) (c .place-after .result) (c .place-after .ensures)
+    let is-vettable = c .before .before .is-vettable in
+    vettable-more (head .inv) (item-at .result) (loop-test .taken) (item-at .ensures) (is-vettable .result)
+    (is-vettable .ensures) (not-false _ (c .before .if1 .left)) (c .place-after .result) (c .place-after .ensures)
 
 returns-2 : tie.Need-returns-2 Inv-loop μ-loop
-returns-2 c = taken-done (c .before .loop .inv) (c .loop-test .left)
+returns-2 c = vettable-done (c .before .loop .inv) (c .loop-test .left)
 
-pub check-taken-spec : {M : Type 1} → statement M
-check-taken-spec =
+pub check-vettable-spec : {M : Type 1} → statement M
+check-vettable-spec =
     tie.close
     (tie.spec
     Inv-loop
     μ-loop
     loop-holds
     item-at-requires
-    is-taken-requires
+    is-vettable-requires
     returns
     place-after-requires
     loop-less

@@ -2,8 +2,8 @@
 use mathlib.Core.Path.{sym, ap}
 use borrow.Author.Needs.{needs}
 use Rattle.rules.proofs.TextLaws.{placeAfter}
-use Rattle.vetting.proofs.taking.place_after.Statement.{statement}
-use Rattle.vetting.proofs.taking.place_after.Tie as tie
+use Rattle.vetting.proofs.vettable.place_after.Statement.{statement}
+use Rattle.vetting.proofs.vettable.place_after.Tie as tie
 
 enum-told : tie.Need-enum-told
 enum-told c = search needs

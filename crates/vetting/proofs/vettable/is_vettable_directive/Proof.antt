@@ -1,8 +1,8 @@
--- `is_taken_directive` meets its contract: the code and the four parameters. Assumes nothing.
+-- `is_vettable_directive` meets its contract: the code and the four parameters. Assumes nothing.
 use borrow.Author.Needs.{needs}
-use Rattle.vetting.proofs.Places.{directive-taken}
-use Rattle.vetting.proofs.taking.is_taken_directive.Statement.{statement}
-use Rattle.vetting.proofs.taking.is_taken_directive.Tie as tie
+use Rattle.vetting.proofs.Places.{directive-vettable}
+use Rattle.vetting.proofs.vettable.is_vettable_directive.Statement.{statement}
+use Rattle.vetting.proofs.vettable.is_vettable_directive.Tie as tie
 
 is-fixed-requires : tie.Need-is-fixed-requires
 is-fixed-requires c κs = search needs
@@ -25,8 +25,8 @@ both-requires-2 c κs = search needs
 both-requires-3 : tie.Need-both-requires-3
 both-requires-3 c κs = search needs
 
-is-taken-code-requires : tie.Need-is-taken-code-requires
-is-taken-code-requires c κs = search needs
+is-vettable-code-requires : tie.Need-is-vettable-code-requires
+is-vettable-code-requires c κs = search needs
 
 both-requires-4 : tie.Need-both-requires-4
 both-requires-4 c κs = search needs
@@ -41,11 +41,11 @@ returns c =
     let is-fixed4 = c .before .before .before .before .is-fixed4 in
     let both2 = c .before .before .before .both2 in
     let both3 = c .before .before .both3 in
-    directive-taken (args .d) (c .before .is-taken-code .ensures) (is-fixed3 .ensures) (is-fixed4 .ensures)
+    directive-vettable (args .d) (c .before .is-vettable-code .ensures) (is-fixed3 .ensures) (is-fixed4 .ensures)
     (is-fixed .ensures) (is-fixed2 .ensures) (both .ensures) (both2 .ensures) (both3 .ensures) (c .both4 .ensures)
 
-pub is-taken-directive-spec : {M : Type 1} → statement M
-is-taken-directive-spec =
+pub is-vettable-directive-spec : {M : Type 1} → statement M
+is-vettable-directive-spec =
     tie.close
     (tie.spec
     is-fixed-requires
@@ -55,6 +55,6 @@ is-taken-directive-spec =
     is-fixed-requires-4
     both-requires-2
     both-requires-3
-    is-taken-code-requires
+    is-vettable-code-requires
     both-requires-4
     returns)
