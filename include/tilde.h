@@ -36,7 +36,8 @@ enum tilde_code {
     TILDE_STEP_LIMIT = 9,
     /* Piece doesn't fit. Position of its byte or tilde. */
     TILDE_NO_ROOM = 10,
-    /* Vet: not plain, that is one of ~* ~[ ~{ ~^ or a parameter v. Position of the first such tilde. */
+    /* Vet: one of ~* ~{ ~^ or a parameter v; position of the first such tilde. Or a conditional whose ways end at
+       different arguments, or ~@[ for another kind than a boolean; position of its tilde. */
     TILDE_NOT_PLAIN = 11,
     /* Vet: more than 1,024 kinds, unknown tag, or longest above 4,096. Position 0. */
     TILDE_BAD_KINDS = 12
@@ -101,8 +102,8 @@ enum tilde_tag {
 uint32_t tilde_format(const uint8_t *format, size_t format_length, const uint8_t *table, size_t table_length,
                       uint8_t *buffer, size_t buffer_length, size_t *position, size_t *steps, size_t *written);
 
-/* Judges a plain format once for all tables whose arguments are of the given kinds, and answers a tilde_code: one of
-   0, 2 to 8, 11 and 12.
+/* Judges a format once for all tables whose arguments are of the given kinds, and answers a tilde_code: one of 0, 2 to
+   8, 11 and 12. The format may have conditionals, but no jump, iteration, escape or parameter v.
 
    format, format_length   the format; only read
    kinds, kinds_length     one byte for each argument in order, a tilde_tag; only read
@@ -116,10 +117,12 @@ uint32_t tilde_format(const uint8_t *format, size_t format_length, const uint8_t
    A table suits the kinds when tilde_format finds no fault in it, it has as many arguments as there are kinds, each
    with the tag of its kind, and no string argument is above longest. Other entries, those of list arguments among them,
    may be any.
-   - TILDE_DONE: every table that suits is formatted with TILDE_DONE in every buffer of count bytes or more, and some
-     table that suits fills count to the last byte, so that no smaller count would do.
-   - Codes 6 to 8: every table that suits is refused with the same code and position, or with TILDE_NO_ROOM where the
-     buffer is too small for the pieces before that position.
+   - TILDE_DONE: every table that suits is formatted with TILDE_DONE in every buffer of count bytes or more. Without
+     conditionals some table that suits fills count to the last byte, so that no smaller count would do; a conditional
+     counts as its longest clause, even one that is never picked.
+   - Codes 6 to 8: without conditionals every table that suits is refused with the same code and position, or with
+     TILDE_NO_ROOM where the buffer is too small for the pieces before that position. With them nothing is said of
+     tilde_format: every clause is judged, and the one that fails may never be picked.
    - Codes 2 to 5: tilde_format refuses the format with the same code and position over every good table.
    - TILDE_NOT_PLAIN, TILDE_BAD_KINDS: nothing is said of tilde_format. */
 uint32_t tilde_vet(const uint8_t *format, size_t format_length, const uint8_t *kinds, size_t kinds_length,

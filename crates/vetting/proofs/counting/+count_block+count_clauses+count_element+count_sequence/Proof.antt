@@ -106,47 +106,35 @@ count-sequence-below t =
     (falls 2 count-sequence-kinds.ps _<_ μ-count-sequence t)
     count-sequence.Pre
 
-count-block-start-of-requires : (t : ℕ) → count-block-lts.Need-start-of-requires (
-  start-of-reads.Asked,
-  start-of-reads.Learnt,
-  count-clauses-below t,
-  count-clauses.Post,
-  close-block-reads.Asked,
-  close-block-reads.Learnt,
-) (count-block-at t) count-block.Post
+abbrev count-block-claims : ℕ → count-block-lts.Claims
+count-block-claims t =
+    (start-of-reads.Asked, start-of-reads.Learnt, count-clauses-below t, count-clauses.Post, close-block-reads.Asked, close-block-reads.Learnt)
+
+abbrev count-clauses-claims : ℕ → count-clauses-lts.Claims
+count-clauses-claims t =
+    (count-sequence-below t, count-sequence.Post, meet-reads.Asked, meet-reads.Learnt, with-none-reads.Asked, with-none-reads.Learnt)
+
+abbrev count-element-claims : ℕ → count-element-lts.Claims
+count-element-claims t =
+    (item-at-reads.Asked, item-at-reads.Learnt, turn-form-reads.Asked, turn-form-reads.Learnt, element-by-reads.Asked, element-by-reads.Learnt, count-block-below t, count-block.Post)
+
+abbrev count-sequence-claims : ℕ → count-sequence-lts.Claims
+count-sequence-claims t =
+    (count-element-below t, count-element.Post)
+
+count-block-start-of-requires : (t : ℕ) → count-block-lts.Need-start-of-requires (count-block-claims t) (count-block-at t) count-block.Post
 count-block-start-of-requires t c κs =
     let args = c .before .before .args in
     let pre = c .before .before .pre .1 in
     (pre .1 .1 .1 .0, (pre .1 .1 .1 .1, pre .0 .many))
 
-count-block-enum-known-turn : (t : ℕ) → count-block-lts.Need-enum-known-turn (
-  start-of-reads.Asked,
-  start-of-reads.Learnt,
-  count-clauses-below t,
-  count-clauses.Post,
-  close-block-reads.Asked,
-  close-block-reads.Learnt,
-) (count-block-at t) count-block.Post
+count-block-enum-known-turn : (t : ℕ) → count-block-lts.Need-enum-known-turn (count-block-claims t) (count-block-at t) count-block.Post
 count-block-enum-known-turn t c = search needs
 
-count-block-enum-known-turn-2 : (t : ℕ) → count-block-lts.Need-enum-known-turn-2 (
-  start-of-reads.Asked,
-  start-of-reads.Learnt,
-  count-clauses-below t,
-  count-clauses.Post,
-  close-block-reads.Asked,
-  close-block-reads.Learnt,
-) (count-block-at t) count-block.Post
+count-block-enum-known-turn-2 : (t : ℕ) → count-block-lts.Need-enum-known-turn-2 (count-block-claims t) (count-block-at t) count-block.Post
 count-block-enum-known-turn-2 t c = search needs
 
-count-block-count-clauses-requires : (t : ℕ) → count-block-lts.Need-count-clauses-requires (
-  start-of-reads.Asked,
-  start-of-reads.Learnt,
-  count-clauses-below t,
-  count-clauses.Post,
-  close-block-reads.Asked,
-  close-block-reads.Learnt,
-) (count-block-at t) count-block.Post
+count-block-count-clauses-requires : (t : ℕ) → count-block-lts.Need-count-clauses-requires (count-block-claims t) (count-block-at t) count-block.Post
 count-block-count-clauses-requires t c κs =
     let args = c .before .before .before .before .before .before .args in
     let pre = c .before .before .before .before .before .before .pre .1 in
@@ -155,44 +143,16 @@ count-block-count-clauses-requires t c κs =
       (pre .0, (next-vettable (pre .1 .0) (args .d) (pre .1 .1 .0), start-inside (args .format .now) (args .kinds .now) (args .longest) (args .p) (args .next) (args .d) (pre .1 .1 .0) (pre .1 .1 .1 .0) (pre .1 .1 .1 .1) _ _ begun)),
     )
 
-count-block-enum-known-clauses : (t : ℕ) → count-block-lts.Need-enum-known-clauses (
-  start-of-reads.Asked,
-  start-of-reads.Learnt,
-  count-clauses-below t,
-  count-clauses.Post,
-  close-block-reads.Asked,
-  close-block-reads.Learnt,
-) (count-block-at t) count-block.Post
+count-block-enum-known-clauses : (t : ℕ) → count-block-lts.Need-enum-known-clauses (count-block-claims t) (count-block-at t) count-block.Post
 count-block-enum-known-clauses t c = search needs
 
-count-block-enum-known-clauses-2 : (t : ℕ) → count-block-lts.Need-enum-known-clauses-2 (
-  start-of-reads.Asked,
-  start-of-reads.Learnt,
-  count-clauses-below t,
-  count-clauses.Post,
-  close-block-reads.Asked,
-  close-block-reads.Learnt,
-) (count-block-at t) count-block.Post
+count-block-enum-known-clauses-2 : (t : ℕ) → count-block-lts.Need-enum-known-clauses-2 (count-block-claims t) (count-block-at t) count-block.Post
 count-block-enum-known-clauses-2 t c = search needs
 
-count-block-close-block-requires : (t : ℕ) → count-block-lts.Need-close-block-requires (
-  start-of-reads.Asked,
-  start-of-reads.Learnt,
-  count-clauses-below t,
-  count-clauses.Post,
-  close-block-reads.Asked,
-  close-block-reads.Learnt,
-) (count-block-at t) count-block.Post
+count-block-close-block-requires : (t : ℕ) → count-block-lts.Need-close-block-requires (count-block-claims t) (count-block-at t) count-block.Post
 count-block-close-block-requires t c κs = search needs
 
-count-block-returns : (t : ℕ) → count-block-lts.Need-returns (
-  start-of-reads.Asked,
-  start-of-reads.Learnt,
-  count-clauses-below t,
-  count-clauses.Post,
-  close-block-reads.Asked,
-  close-block-reads.Learnt,
-) (count-block-at t) count-block.Post
+count-block-returns : (t : ℕ) → count-block-lts.Need-returns (count-block-claims t) (count-block-at t) count-block.Post
 count-block-returns t c =
     let args = c .before .before .before .before .before .before .args in
     let pre = c .before .before .before .before .before .before .pre .1 in
@@ -200,14 +160,7 @@ count-block-returns t c =
     block-stops (args .format .now) (args .kinds .now) (args .longest) (args .p) (args .next) (args .d) (pre .1 .1 .0)
     (pre .1 .1 .1 .0) _ begun
 
-count-block-returns-2 : (t : ℕ) → count-block-lts.Need-returns-2 (
-  start-of-reads.Asked,
-  start-of-reads.Learnt,
-  count-clauses-below t,
-  count-clauses.Post,
-  close-block-reads.Asked,
-  close-block-reads.Learnt,
-) (count-block-at t) count-block.Post
+count-block-returns-2 : (t : ℕ) → count-block-lts.Need-returns-2 (count-block-claims t) (count-block-at t) count-block.Post
 count-block-returns-2 t c =
     let args = c .before .before .before .before .before .before .before .before .before .before .args in
     let pre = c .before .before .before .before .before .before .before .before .before .before .pre .1 in
@@ -217,14 +170,7 @@ count-block-returns-2 t c =
     block-fails (args .format .now) (args .kinds .now) (args .longest) (args .p) (args .next) (args .d) (pre .1 .1 .0)
     (pre .1 .1 .1 .0) (pre .1 .1 .1 .1) _ _ begun clauses
 
-count-block-returns-3 : (t : ℕ) → count-block-lts.Need-returns-3 (
-  start-of-reads.Asked,
-  start-of-reads.Learnt,
-  count-clauses-below t,
-  count-clauses.Post,
-  close-block-reads.Asked,
-  close-block-reads.Learnt,
-) (count-block-at t) count-block.Post
+count-block-returns-3 : (t : ℕ) → count-block-lts.Need-returns-3 (count-block-claims t) (count-block-at t) count-block.Post
 count-block-returns-3 t c =
     let args = c .before .before .before .before .before .before .before .before .before .before .before .args in
     let pre = c .before .before .before .before .before .before .before .before .before .before .before .pre .1 in
@@ -242,94 +188,38 @@ abbrev count-clauses-μ-loop : count-clauses-lts.MeasureT-loop
 count-clauses-μ-loop format kinds longest d start z₀ fallback₀ ends₀ z fallback ends =
     length format - z
 
-count-clauses-loop-holds : (t : ℕ) → count-clauses-lts.Need-loop-holds (
-  count-sequence-below t,
-  count-sequence.Post,
-  meet-reads.Asked,
-  meet-reads.Learnt,
-  with-none-reads.Asked,
-  with-none-reads.Learnt,
-) (count-clauses-at t) count-clauses.Post count-clauses-Inv-loop count-clauses-μ-loop
+count-clauses-loop-holds : (t : ℕ) → count-clauses-lts.Need-loop-holds (count-clauses-claims t) (count-clauses-at t) count-clauses.Post count-clauses-Inv-loop count-clauses-μ-loop
 count-clauses-loop-holds t c =
     let args = c .before .before .args in
     let pre = c .before .before .pre .1 in
     gather-start (args .format .now) (args .kinds .now) (args .longest) (args .d) (args .start) (pre .1 .0)
 
-count-clauses-count-sequence-requires : (t : ℕ) → count-clauses-lts.Need-count-sequence-requires (
-  count-sequence-below t,
-  count-sequence.Post,
-  meet-reads.Asked,
-  meet-reads.Learnt,
-  with-none-reads.Asked,
-  with-none-reads.Learnt,
-) (count-clauses-at t) count-clauses.Post count-clauses-Inv-loop count-clauses-μ-loop
+count-clauses-count-sequence-requires : (t : ℕ) → count-clauses-lts.Need-count-sequence-requires (count-clauses-claims t) (count-clauses-at t) count-clauses.Post count-clauses-Inv-loop count-clauses-μ-loop
 count-clauses-count-sequence-requires t c κs =
     let args = c .before .before .before .args in
     let pre = c .before .before .before .pre .1 in
     (omega (arith, c .before .before .before .pre .0, c .loop .inv .least), (pre .0, (c .loop .inv .vettable, pre .1 .1)))
 
-count-clauses-enum-known-counted : (t : ℕ) → count-clauses-lts.Need-enum-known-counted (
-  count-sequence-below t,
-  count-sequence.Post,
-  meet-reads.Asked,
-  meet-reads.Learnt,
-  with-none-reads.Asked,
-  with-none-reads.Learnt,
-) (count-clauses-at t) count-clauses.Post count-clauses-Inv-loop count-clauses-μ-loop
+count-clauses-enum-known-counted : (t : ℕ) → count-clauses-lts.Need-enum-known-counted (count-clauses-claims t) (count-clauses-at t) count-clauses.Post count-clauses-Inv-loop count-clauses-μ-loop
 count-clauses-enum-known-counted t c = search needs
 
-count-clauses-returns : (t : ℕ) → count-clauses-lts.Need-returns (
-  count-sequence-below t,
-  count-sequence.Post,
-  meet-reads.Asked,
-  meet-reads.Learnt,
-  with-none-reads.Asked,
-  with-none-reads.Learnt,
-) (count-clauses-at t) count-clauses.Post count-clauses-Inv-loop count-clauses-μ-loop
+count-clauses-returns : (t : ℕ) → count-clauses-lts.Need-returns (count-clauses-claims t) (count-clauses-at t) count-clauses.Post count-clauses-Inv-loop count-clauses-μ-loop
 count-clauses-returns t c =
     let args = c .before .before .before .before .before .before .before .args in
     gather-fails (c .before .before .before .before .loop .inv)
     (subst (SequenceIs (args .format .now) (args .kinds .now) (args .longest) (c .before .before .before .before .loop .z) (args .start)) (c .before .counted .given .1)
     (c .before .before .before .count-sequence .ensures))
 
-count-clauses-enum-known-counted-2 : (t : ℕ) → count-clauses-lts.Need-enum-known-counted-2 (
-  count-sequence-below t,
-  count-sequence.Post,
-  meet-reads.Asked,
-  meet-reads.Learnt,
-  with-none-reads.Asked,
-  with-none-reads.Learnt,
-) (count-clauses-at t) count-clauses.Post count-clauses-Inv-loop count-clauses-μ-loop
+count-clauses-enum-known-counted-2 : (t : ℕ) → count-clauses-lts.Need-enum-known-counted-2 (count-clauses-claims t) (count-clauses-at t) count-clauses.Post count-clauses-Inv-loop count-clauses-μ-loop
 count-clauses-enum-known-counted-2 t c = search needs
 
-count-clauses-meet-requires : (t : ℕ) → count-clauses-lts.Need-meet-requires (
-  count-sequence-below t,
-  count-sequence.Post,
-  meet-reads.Asked,
-  meet-reads.Learnt,
-  with-none-reads.Asked,
-  with-none-reads.Learnt,
-) (count-clauses-at t) count-clauses.Post count-clauses-Inv-loop count-clauses-μ-loop
+count-clauses-meet-requires : (t : ℕ) → count-clauses-lts.Need-meet-requires (count-clauses-claims t) (count-clauses-at t) count-clauses.Post count-clauses-Inv-loop count-clauses-μ-loop
 count-clauses-meet-requires t c κs = search needs
 
-count-clauses-enum-known-end : (t : ℕ) → count-clauses-lts.Need-enum-known-end (
-  count-sequence-below t,
-  count-sequence.Post,
-  meet-reads.Asked,
-  meet-reads.Learnt,
-  with-none-reads.Asked,
-  with-none-reads.Learnt,
-) (count-clauses-at t) count-clauses.Post count-clauses-Inv-loop count-clauses-μ-loop
+count-clauses-enum-known-end : (t : ℕ) → count-clauses-lts.Need-enum-known-end (count-clauses-claims t) (count-clauses-at t) count-clauses.Post count-clauses-Inv-loop count-clauses-μ-loop
 count-clauses-enum-known-end t c = search needs
 
-count-clauses-loop-less : (t : ℕ) → count-clauses-lts.Need-loop-less (
-  count-sequence-below t,
-  count-sequence.Post,
-  meet-reads.Asked,
-  meet-reads.Learnt,
-  with-none-reads.Asked,
-  with-none-reads.Learnt,
-) (count-clauses-at t) count-clauses.Post count-clauses-Inv-loop count-clauses-μ-loop
+count-clauses-loop-less : (t : ℕ) → count-clauses-lts.Need-loop-less (count-clauses-claims t) (count-clauses-at t) count-clauses.Post count-clauses-Inv-loop count-clauses-μ-loop
 count-clauses-loop-less t c =
     let args = c .before .before .before .before .before .before .before .before .before .before .before .args in
     let head = c .before .before .before .before .before .before .before .before .loop in
@@ -337,14 +227,7 @@ count-clauses-loop-less t c =
     (c .before .before .before .before .before .before .before .count-sequence .ensures) (c .before .before .before .before .before .counted2 .given .1) (c .before .end .given .1) in
     omega (arith, way .least, way .ends .least, way .ends .most)
 
-count-clauses-loop-again : (t : ℕ) → count-clauses-lts.Need-loop-again (
-  count-sequence-below t,
-  count-sequence.Post,
-  meet-reads.Asked,
-  meet-reads.Learnt,
-  with-none-reads.Asked,
-  with-none-reads.Learnt,
-) (count-clauses-at t) count-clauses.Post count-clauses-Inv-loop count-clauses-μ-loop
+count-clauses-loop-again : (t : ℕ) → count-clauses-lts.Need-loop-again (count-clauses-claims t) (count-clauses-at t) count-clauses.Post count-clauses-Inv-loop count-clauses-μ-loop
 count-clauses-loop-again t c =
     let args = c .before .before .before .before .before .before .before .before .before .before .before .args in
     let head = c .before .before .before .before .before .before .before .before .loop in
@@ -352,37 +235,16 @@ count-clauses-loop-again t c =
     (c .before .before .before .before .before .before .before .count-sequence .ensures) (c .before .before .before .before .before .counted2 .given .1) (c .before .end .given .1) in
     gather-on (head .inv) way (c .before .before .before .meet .result) (c .before .before .before .meet .ensures)
 
-count-clauses-enum-known-end-2 : (t : ℕ) → count-clauses-lts.Need-enum-known-end-2 (
-  count-sequence-below t,
-  count-sequence.Post,
-  meet-reads.Asked,
-  meet-reads.Learnt,
-  with-none-reads.Asked,
-  with-none-reads.Learnt,
-) (count-clauses-at t) count-clauses.Post count-clauses-Inv-loop count-clauses-μ-loop
+count-clauses-enum-known-end-2 : (t : ℕ) → count-clauses-lts.Need-enum-known-end-2 (count-clauses-claims t) (count-clauses-at t) count-clauses.Post count-clauses-Inv-loop count-clauses-μ-loop
 count-clauses-enum-known-end-2 t c = search needs
 
-count-clauses-with-none-requires : (t : ℕ) → count-clauses-lts.Need-with-none-requires (
-  count-sequence-below t,
-  count-sequence.Post,
-  meet-reads.Asked,
-  meet-reads.Learnt,
-  with-none-reads.Asked,
-  with-none-reads.Learnt,
-) (count-clauses-at t) count-clauses.Post count-clauses-Inv-loop count-clauses-μ-loop
+count-clauses-with-none-requires : (t : ℕ) → count-clauses-lts.Need-with-none-requires (count-clauses-claims t) (count-clauses-at t) count-clauses.Post count-clauses-Inv-loop count-clauses-μ-loop
 count-clauses-with-none-requires t c κs =
     let args = c .before .before .before .before .before .before .before .before .before .before .before .args in
     let pre = c .before .before .before .before .before .before .before .before .before .before .before .pre .1 in
     omega (arith, pre .1 .1, pre .0 .many)
 
-count-clauses-returns-2 : (t : ℕ) → count-clauses-lts.Need-returns-2 (
-  count-sequence-below t,
-  count-sequence.Post,
-  meet-reads.Asked,
-  meet-reads.Learnt,
-  with-none-reads.Asked,
-  with-none-reads.Learnt,
-) (count-clauses-at t) count-clauses.Post count-clauses-Inv-loop count-clauses-μ-loop
+count-clauses-returns-2 : (t : ℕ) → count-clauses-lts.Need-returns-2 (count-clauses-claims t) (count-clauses-at t) count-clauses.Post count-clauses-Inv-loop count-clauses-μ-loop
 count-clauses-returns-2 t c =
     let args = c .before .before .before .before .before .before .before .before .before .before .before .before .args in
     let head = c .before .before .before .before .before .before .before .before .before .loop in
@@ -391,119 +253,38 @@ count-clauses-returns-2 t c =
     gather-last (head .inv) way (c .with-none .result)
     (c .with-none .ensures ∙ ap (withNone (args .d) (head .fallback) (args .start)) (c .before .before .before .before .meet .ensures))
 
-count-element-item-at-requires : (t : ℕ) → count-element-lts.Need-item-at-requires (
-  item-at-reads.Asked,
-  item-at-reads.Learnt,
-  turn-form-reads.Asked,
-  turn-form-reads.Learnt,
-  element-by-reads.Asked,
-  element-by-reads.Learnt,
-  count-block-below t,
-  count-block.Post,
-) (count-element-at t) count-element.Post
+count-element-item-at-requires : (t : ℕ) → count-element-lts.Need-item-at-requires (count-element-claims t) (count-element-at t) count-element.Post
 count-element-item-at-requires t c κs = search needs
 
-count-element-enum-told : (t : ℕ) → count-element-lts.Need-enum-told (
-  item-at-reads.Asked,
-  item-at-reads.Learnt,
-  turn-form-reads.Asked,
-  turn-form-reads.Learnt,
-  element-by-reads.Asked,
-  element-by-reads.Learnt,
-  count-block-below t,
-  count-block.Post,
-) (count-element-at t) count-element.Post
+count-element-enum-told : (t : ℕ) → count-element-lts.Need-enum-told (count-element-claims t) (count-element-at t) count-element.Post
 count-element-enum-told t c = search needs
 
-count-element-add-t11 : (t : ℕ) → count-element-lts.Need-add-t11 (
-  item-at-reads.Asked,
-  item-at-reads.Learnt,
-  turn-form-reads.Asked,
-  turn-form-reads.Learnt,
-  element-by-reads.Asked,
-  element-by-reads.Learnt,
-  count-block-below t,
-  count-block.Post,
-) (count-element-at t) count-element.Post
+count-element-add-t11 : (t : ℕ) → count-element-lts.Need-add-t11 (count-element-claims t) (count-element-at t) count-element.Post
 count-element-add-t11 t c =
     let args = c .before .before .before .before .before .args in
     let pre = c .before .before .before .before .before .pre .1 in
     omega (arith, stands (args .format .now) (args .p) (Literal _) (sym (c .before .before .item-at .ensures) ∙ c .enum-told .given .1), c .before .before .before .before .before .good)
 
-count-element-enum-known-item : (t : ℕ) → count-element-lts.Need-enum-known-item (
-  item-at-reads.Asked,
-  item-at-reads.Learnt,
-  turn-form-reads.Asked,
-  turn-form-reads.Learnt,
-  element-by-reads.Asked,
-  element-by-reads.Learnt,
-  count-block-below t,
-  count-block.Post,
-) (count-element-at t) count-element.Post
+count-element-enum-known-item : (t : ℕ) → count-element-lts.Need-enum-known-item (count-element-claims t) (count-element-at t) count-element.Post
 count-element-enum-known-item t c = search needs
 
-count-element-enum-known-code : (t : ℕ) → count-element-lts.Need-enum-known-code (
-  item-at-reads.Asked,
-  item-at-reads.Learnt,
-  turn-form-reads.Asked,
-  turn-form-reads.Learnt,
-  element-by-reads.Asked,
-  element-by-reads.Learnt,
-  count-block-below t,
-  count-block.Post,
-) (count-element-at t) count-element.Post
+count-element-enum-known-code : (t : ℕ) → count-element-lts.Need-enum-known-code (count-element-claims t) (count-element-at t) count-element.Post
 count-element-enum-known-code t c = search needs
 
-count-element-turn-form-requires : (t : ℕ) → count-element-lts.Need-turn-form-requires (
-  item-at-reads.Asked,
-  item-at-reads.Learnt,
-  turn-form-reads.Asked,
-  turn-form-reads.Learnt,
-  element-by-reads.Asked,
-  element-by-reads.Learnt,
-  count-block-below t,
-  count-block.Post,
-) (count-element-at t) count-element.Post
+count-element-turn-form-requires : (t : ℕ) → count-element-lts.Need-turn-form-requires (count-element-claims t) (count-element-at t) count-element.Post
 count-element-turn-form-requires t c κs =
     let args = c .before .before .before .before .before .before .before .before .before .args in
     let pre = c .before .before .before .before .before .before .before .before .before .pre .1 in
     let is = sym (c .before .before .before .before .before .before .item-at .ensures) ∙ c .before .before .before .before .item .given .1 in
     (writing-of _ (vettable-writes (pre .1 .0) _ is _ (c .before .code .given .1)) _ (c .before .code .given .1), (pre .0, pre .1 .1))
 
-count-element-element-by-requires : (t : ℕ) → count-element-lts.Need-element-by-requires (
-  item-at-reads.Asked,
-  item-at-reads.Learnt,
-  turn-form-reads.Asked,
-  turn-form-reads.Learnt,
-  element-by-reads.Asked,
-  element-by-reads.Learnt,
-  count-block-below t,
-  count-block.Post,
-) (count-element-at t) count-element.Post
+count-element-element-by-requires : (t : ℕ) → count-element-lts.Need-element-by-requires (count-element-claims t) (count-element-at t) count-element.Post
 count-element-element-by-requires t c κs = search needs
 
-count-element-enum-told-2 : (t : ℕ) → count-element-lts.Need-enum-told-2 (
-  item-at-reads.Asked,
-  item-at-reads.Learnt,
-  turn-form-reads.Asked,
-  turn-form-reads.Learnt,
-  element-by-reads.Asked,
-  element-by-reads.Learnt,
-  count-block-below t,
-  count-block.Post,
-) (count-element-at t) count-element.Post
+count-element-enum-told-2 : (t : ℕ) → count-element-lts.Need-enum-told-2 (count-element-claims t) (count-element-at t) count-element.Post
 count-element-enum-told-2 t c = search needs
 
-count-element-count-block-requires : (t : ℕ) → count-element-lts.Need-count-block-requires (
-  item-at-reads.Asked,
-  item-at-reads.Learnt,
-  turn-form-reads.Asked,
-  turn-form-reads.Learnt,
-  element-by-reads.Asked,
-  element-by-reads.Learnt,
-  count-block-below t,
-  count-block.Post,
-) (count-element-at t) count-element.Post
+count-element-count-block-requires : (t : ℕ) → count-element-lts.Need-count-block-requires (count-element-claims t) (count-element-at t) count-element.Post
 count-element-count-block-requires t c κs =
     let args = c .before .before .before .before .before .before .before .before .args in
     let pre = c .before .before .before .before .before .before .before .before .pre .1 in
@@ -513,102 +294,39 @@ count-element-count-block-requires t c κs =
       (pre .0, (pre .1 .0, (is, (vettable-opens (pre .1 .0) _ is _ (c .enum-told2 .given .1), pre .1 .1)))),
     )
 
-count-element-enum-told-3 : (t : ℕ) → count-element-lts.Need-enum-told-3 (
-  item-at-reads.Asked,
-  item-at-reads.Learnt,
-  turn-form-reads.Asked,
-  turn-form-reads.Learnt,
-  element-by-reads.Asked,
-  element-by-reads.Learnt,
-  count-block-below t,
-  count-block.Post,
-) (count-element-at t) count-element.Post
+count-element-enum-told-3 : (t : ℕ) → count-element-lts.Need-enum-told-3 (count-element-claims t) (count-element-at t) count-element.Post
 count-element-enum-told-3 t c = search needs
 
-count-element-returns : (t : ℕ) → count-element-lts.Need-returns (
-  item-at-reads.Asked,
-  item-at-reads.Learnt,
-  turn-form-reads.Asked,
-  turn-form-reads.Learnt,
-  element-by-reads.Asked,
-  element-by-reads.Learnt,
-  count-block-below t,
-  count-block.Post,
-) (count-element-at t) count-element.Post
+count-element-returns : (t : ℕ) → count-element-lts.Need-returns (count-element-claims t) (count-element-at t) count-element.Post
 count-element-returns t c =
     let args = c .before .before .before .before .before .args in
     let pre = c .before .before .before .before .before .pre .1 in
     literal-is (args .format .now) (args .kinds .now) (args .longest) (args .p) (args .next) (pre .1 .0) (pre .0) (pre .1 .1) _ (sym (c .before .before .item-at .ensures) ∙ c .enum-told .given .1)
 
-count-element-returns-2 : (t : ℕ) → count-element-lts.Need-returns-2 (
-  item-at-reads.Asked,
-  item-at-reads.Learnt,
-  turn-form-reads.Asked,
-  turn-form-reads.Learnt,
-  element-by-reads.Asked,
-  element-by-reads.Learnt,
-  count-block-below t,
-  count-block.Post,
-) (count-element-at t) count-element.Post
+count-element-returns-2 : (t : ℕ) → count-element-lts.Need-returns-2 (count-element-claims t) (count-element-at t) count-element.Post
 count-element-returns-2 t c =
     let args = c .before .before .before .before .before .before .before .before .before .before .before .args in
     let pre = c .before .before .before .before .before .before .before .before .before .before .before .pre .1 in
     writes-is (args .format .now) (args .kinds .now) (args .longest) (args .p) (args .next) (pre .1 .0) (pre .0) (pre .1 .1) _ (sym (c .before .before .before .before .before .before .before .before .item-at .ensures) ∙ c .before .before .before .before .before .before .item .given .1) _ (c .before .before .before .code .given .1)
     (c .before .turn-form .result) (c .before .turn-form .ensures) (c .element-by .result) (c .element-by .ensures)
 
-count-element-returns-3 : (t : ℕ) → count-element-lts.Need-returns-3 (
-  item-at-reads.Asked,
-  item-at-reads.Learnt,
-  turn-form-reads.Asked,
-  turn-form-reads.Learnt,
-  element-by-reads.Asked,
-  element-by-reads.Learnt,
-  count-block-below t,
-  count-block.Post,
-) (count-element-at t) count-element.Post
+count-element-returns-3 : (t : ℕ) → count-element-lts.Need-returns-3 (count-element-claims t) (count-element-at t) count-element.Post
 count-element-returns-3 t c =
     c .count-block .ensures
 
-count-element-returns-4 : (t : ℕ) → count-element-lts.Need-returns-4 (
-  item-at-reads.Asked,
-  item-at-reads.Learnt,
-  turn-form-reads.Asked,
-  turn-form-reads.Learnt,
-  element-by-reads.Asked,
-  element-by-reads.Learnt,
-  count-block-below t,
-  count-block.Post,
-) (count-element-at t) count-element.Post
+count-element-returns-4 : (t : ℕ) → count-element-lts.Need-returns-4 (count-element-claims t) (count-element-at t) count-element.Post
 count-element-returns-4 t c =
     let args = c .before .before .before .before .before .before .before .before .args in
     let pre = c .before .before .before .before .before .before .before .before .pre .1 in
     separator-is (args .format .now) (args .kinds .now) (args .longest) (args .p) (args .next) (pre .1 .0) (pre .0) (pre .1 .1) _ (sym (c .before .before .before .before .before .item-at .ensures) ∙ c .before .before .before .item .given .1) (c .enum-told3 .given .1)
 
-count-element-returns-5 : (t : ℕ) → count-element-lts.Need-returns-5 (
-  item-at-reads.Asked,
-  item-at-reads.Learnt,
-  turn-form-reads.Asked,
-  turn-form-reads.Learnt,
-  element-by-reads.Asked,
-  element-by-reads.Learnt,
-  count-block-below t,
-  count-block.Post,
-) (count-element-at t) count-element.Post
+count-element-returns-5 : (t : ℕ) → count-element-lts.Need-returns-5 (count-element-claims t) (count-element-at t) count-element.Post
 count-element-returns-5 t c =
     let args = c .before .before .before .before .before .before .before .args in
     let pre = c .before .before .before .before .before .before .before .pre .1 in
     closer-is (args .format .now) (args .kinds .now) (args .longest) (args .p) (args .next) (pre .1 .0) (pre .0) (pre .1 .1) _ (sym (c .before .before .before .before .item-at .ensures) ∙ c .before .before .item .given .1) _ refl (c .match2 .keys4)
 
-count-element-returns-6 : (t : ℕ) → count-element-lts.Need-returns-6 (
-  item-at-reads.Asked,
-  item-at-reads.Learnt,
-  turn-form-reads.Asked,
-  turn-form-reads.Learnt,
-  element-by-reads.Asked,
-  element-by-reads.Learnt,
-  count-block-below t,
-  count-block.Post,
-) (count-element-at t) count-element.Post
+count-element-returns-6 : (t : ℕ) → count-element-lts.Need-returns-6 (count-element-claims t) (count-element-at t) count-element.Post
 count-element-returns-6 t c =
     let args = c .before .before .before .before .args in
     let pre = c .before .before .before .before .pre .1 in
@@ -622,34 +340,22 @@ abbrev count-sequence-μ-loop : count-sequence-lts.MeasureT-loop
 count-sequence-μ-loop format kinds longest start first p₀ next₀ sum₀ p next sum =
     length format - p
 
-count-sequence-loop-holds : (t : ℕ) → count-sequence-lts.Need-loop-holds (
-  count-element-below t,
-  count-element.Post,
-) (count-sequence-at t) count-sequence.Post count-sequence-Inv-loop count-sequence-μ-loop
+count-sequence-loop-holds : (t : ℕ) → count-sequence-lts.Need-loop-holds (count-sequence-claims t) (count-sequence-at t) count-sequence.Post count-sequence-Inv-loop count-sequence-μ-loop
 count-sequence-loop-holds t c =
     let args = c .before .before .args in
     let pre = c .before .before .pre .1 in
     walk-start (args .format .now) (args .kinds .now) (args .longest) (args .start) (args .first) (pre .1 .0) (pre .1 .1)
 
-count-sequence-count-element-requires : (t : ℕ) → count-sequence-lts.Need-count-element-requires (
-  count-element-below t,
-  count-element.Post,
-) (count-sequence-at t) count-sequence.Post count-sequence-Inv-loop count-sequence-μ-loop
+count-sequence-count-element-requires : (t : ℕ) → count-sequence-lts.Need-count-element-requires (count-sequence-claims t) (count-sequence-at t) count-sequence.Post count-sequence-Inv-loop count-sequence-μ-loop
 count-sequence-count-element-requires t c κs =
     let args = c .before .before .before .args in
     let pre = c .before .before .before .pre .1 in
     (omega (arith, c .before .before .before .pre .0, c .loop .inv .least), (pre .0, (c .loop .inv .vettable, c .loop .inv .reached)))
 
-count-sequence-enum-known-e : (t : ℕ) → count-sequence-lts.Need-enum-known-e (
-  count-element-below t,
-  count-element.Post,
-) (count-sequence-at t) count-sequence.Post count-sequence-Inv-loop count-sequence-μ-loop
+count-sequence-enum-known-e : (t : ℕ) → count-sequence-lts.Need-enum-known-e (count-sequence-claims t) (count-sequence-at t) count-sequence.Post count-sequence-Inv-loop count-sequence-μ-loop
 count-sequence-enum-known-e t c = search needs
 
-count-sequence-returns : (t : ℕ) → count-sequence-lts.Need-returns (
-  count-element-below t,
-  count-element.Post,
-) (count-sequence-at t) count-sequence.Post count-sequence-Inv-loop count-sequence-μ-loop
+count-sequence-returns : (t : ℕ) → count-sequence-lts.Need-returns (count-sequence-claims t) (count-sequence-at t) count-sequence.Post count-sequence-Inv-loop count-sequence-μ-loop
 count-sequence-returns t c =
     let args = c .before .before .before .before .before .before .before .args in
     let head = c .before .before .before .before .loop in
@@ -657,16 +363,10 @@ count-sequence-returns t c =
     (c .before .before .before .count-element .ensures) in
     walk-fails (head .inv) element
 
-count-sequence-enum-known-e-2 : (t : ℕ) → count-sequence-lts.Need-enum-known-e-2 (
-  count-element-below t,
-  count-element.Post,
-) (count-sequence-at t) count-sequence.Post count-sequence-Inv-loop count-sequence-μ-loop
+count-sequence-enum-known-e-2 : (t : ℕ) → count-sequence-lts.Need-enum-known-e-2 (count-sequence-claims t) (count-sequence-at t) count-sequence.Post count-sequence-Inv-loop count-sequence-μ-loop
 count-sequence-enum-known-e-2 t c = search needs
 
-count-sequence-returns-2 : (t : ℕ) → count-sequence-lts.Need-returns-2 (
-  count-element-below t,
-  count-element.Post,
-) (count-sequence-at t) count-sequence.Post count-sequence-Inv-loop count-sequence-μ-loop
+count-sequence-returns-2 : (t : ℕ) → count-sequence-lts.Need-returns-2 (count-sequence-claims t) (count-sequence-at t) count-sequence.Post count-sequence-Inv-loop count-sequence-μ-loop
 count-sequence-returns-2 t c =
     let args = c .before .before .before .before .before .before .before .args in
     let head = c .before .before .before .before .loop in
@@ -674,16 +374,10 @@ count-sequence-returns-2 t c =
     (c .before .before .before .count-element .ensures) in
     walk-ends (head .inv) _ element
 
-count-sequence-enum-known-e-3 : (t : ℕ) → count-sequence-lts.Need-enum-known-e-3 (
-  count-element-below t,
-  count-element.Post,
-) (count-sequence-at t) count-sequence.Post count-sequence-Inv-loop count-sequence-μ-loop
+count-sequence-enum-known-e-3 : (t : ℕ) → count-sequence-lts.Need-enum-known-e-3 (count-sequence-claims t) (count-sequence-at t) count-sequence.Post count-sequence-Inv-loop count-sequence-μ-loop
 count-sequence-enum-known-e-3 t c = search needs
 
-count-sequence-add-sum : (t : ℕ) → count-sequence-lts.Need-add-sum (
-  count-element-below t,
-  count-element.Post,
-) (count-sequence-at t) count-sequence.Post count-sequence-Inv-loop count-sequence-μ-loop
+count-sequence-add-sum : (t : ℕ) → count-sequence-lts.Need-add-sum (count-sequence-claims t) (count-sequence-at t) count-sequence.Post count-sequence-Inv-loop count-sequence-μ-loop
 count-sequence-add-sum t c =
     let args = c .before .before .before .before .before .before .before .args in
     let head = c .before .before .before .before .loop in
@@ -691,10 +385,7 @@ count-sequence-add-sum t c =
     (c .before .before .before .count-element .ensures) in
     omega (arith, walk-small (head .inv) element)
 
-count-sequence-loop-less : (t : ℕ) → count-sequence-lts.Need-loop-less (
-  count-element-below t,
-  count-element.Post,
-) (count-sequence-at t) count-sequence.Post count-sequence-Inv-loop count-sequence-μ-loop
+count-sequence-loop-less : (t : ℕ) → count-sequence-lts.Need-loop-less (count-sequence-claims t) (count-sequence-at t) count-sequence.Post count-sequence-Inv-loop count-sequence-μ-loop
 count-sequence-loop-less t c =
     let args = c .before .before .before .before .before .before .before .args in
     let head = c .before .before .before .before .loop in
@@ -702,10 +393,7 @@ count-sequence-loop-less t c =
     (c .before .before .before .count-element .ensures) in
     omega (arith, element .ahead, element .reaches .vettable .inside)
 
-count-sequence-loop-again : (t : ℕ) → count-sequence-lts.Need-loop-again (
-  count-element-below t,
-  count-element.Post,
-) (count-sequence-at t) count-sequence.Post count-sequence-Inv-loop count-sequence-μ-loop
+count-sequence-loop-again : (t : ℕ) → count-sequence-lts.Need-loop-again (count-sequence-claims t) (count-sequence-at t) count-sequence.Post count-sequence-Inv-loop count-sequence-μ-loop
 count-sequence-loop-again t c =
     let args = c .before .before .before .before .before .before .before .args in
     let head = c .before .before .before .before .loop in
@@ -720,14 +408,7 @@ pub +count-block+count-clauses+count-element+count-sequence-spec : {M : Type 1} 
     μ-count-clauses
     μ-count-element
     μ-count-sequence
-    (λ t. count-block-lts.spec (
-      start-of-reads.Asked,
-      start-of-reads.Learnt,
-      count-clauses-below t,
-      count-clauses.Post,
-      close-block-reads.Asked,
-      close-block-reads.Learnt,
-    )
+    (λ t. count-block-lts.spec (count-block-claims t)
     (count-block-at t)
     count-block.Post
     (count-block-start-of-requires t)
@@ -740,14 +421,7 @@ pub +count-block+count-clauses+count-element+count-sequence-spec : {M : Type 1} 
     (count-block-returns t)
     (count-block-returns-2 t)
     (count-block-returns-3 t))
-    (λ t. count-clauses-lts.spec (
-      count-sequence-below t,
-      count-sequence.Post,
-      meet-reads.Asked,
-      meet-reads.Learnt,
-      with-none-reads.Asked,
-      with-none-reads.Learnt,
-    )
+    (λ t. count-clauses-lts.spec (count-clauses-claims t)
     (count-clauses-at t)
     count-clauses.Post
     count-clauses-Inv-loop
@@ -764,16 +438,7 @@ pub +count-block+count-clauses+count-element+count-sequence-spec : {M : Type 1} 
     (count-clauses-enum-known-end-2 t)
     (count-clauses-with-none-requires t)
     (count-clauses-returns-2 t))
-    (λ t. count-element-lts.spec (
-      item-at-reads.Asked,
-      item-at-reads.Learnt,
-      turn-form-reads.Asked,
-      turn-form-reads.Learnt,
-      element-by-reads.Asked,
-      element-by-reads.Learnt,
-      count-block-below t,
-      count-block.Post,
-    )
+    (λ t. count-element-lts.spec (count-element-claims t)
     (count-element-at t)
     count-element.Post
     (count-element-item-at-requires t)
