@@ -440,6 +440,28 @@ static void refused_vets(void)
     raw_vet("", 0, many, 3, 0, TILDE_DONE, 0, 0);
 }
 
+/* A conditional counts as its longest clause, whichever is picked; what no vet takes is told at its tilde. */
+static void conditional_vets(void)
+{
+    const char *line = "~[calm~;light~:;~:[steady~;gusts~]~] at ~d~@[ ~a~]";
+
+    begin();
+    integer(0);
+    boolean(1);
+    integer(5);
+    boolean(0);
+    vet_case(line, 0, TILDE_NOT_PLAIN, 0, 0);
+    line = "~[calm~;light~:;wind~] ~:[steady~;gusts~] ~d~@[ ~a~]";
+    vet_case(line, 0, TILDE_DONE, 0, 5 + 1 + 6 + 1 + 20 + 3);
+    format_case(line, 4, 36, answer(TILDE_DONE, 0, 15, "calm gusts 5"));
+    vet_case("~[a~]~*", 0, TILDE_NOT_PLAIN, 5, 0);
+    vet_case("~d~@[x~]", 0, TILDE_NOT_PLAIN, 2, 0);
+    vet_case("~@[~d~]", 0, TILDE_NOT_PLAIN, 0, 0);
+    vet_case("~d~:[~c~;~d~]", 0, TILDE_WRONG_KIND, 5, 0);
+    vet_case("~0[a~;~d~d~]", 0, TILDE_WRONG_KIND, 8, 0);
+    yields("~0[a~;~d~d~]", 2, "a");
+}
+
 /* A vet's 6 to 8 are the answers of every table of those kinds that has room for what comes before. */
 static void refused_alike(void)
 {
@@ -492,6 +514,7 @@ int main(void)
     large_tables();
     counts();
     refused_vets();
+    conditional_vets();
     refused_alike();
     bulletin();
     for (size_t code = 0; code < sizeof met / sizeof *met; code++)

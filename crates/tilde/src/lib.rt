@@ -25,7 +25,7 @@ pub extern "C" fn tilde_format(
     outcome.code
 }
 
-// Vets a plain format over the kinds of its arguments, of which no string is longer than `longest`. Answers 01's code,
+// Vets a format over the kinds of its arguments, of which no string is longer than `longest`. Answers 01's code,
 // and with it the position and the byte count.
 #[no_mangle]
 pub extern "C" fn tilde_vet(
