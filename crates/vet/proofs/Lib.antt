@@ -1,5 +1,6 @@
 pub mod Before
 pub mod Below
+pub mod Blocks
 pub mod Causes
 pub mod Choices
 pub mod Clauses

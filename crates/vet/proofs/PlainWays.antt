@@ -4,9 +4,7 @@ use mathlib.Core.Path.{_≡_, refl}
 use mathlib.Core.Bool.{true, false}
 use mathlib.Core.List.{List, [], _∷_}
 use native.Mathlib.Omega.{arith}
-use lib.ListN.{length}
 use Rattle.rules.specs.Directive.{inOrder}
-use Rattle.rules.specs.Piece.{accepts}
 use Rattle.rules.specs.Text.{Token, tokensAt, textVerdict, innermost, levelsOf, levelsAt}
 use Rattle.rules.specs.declared.Bracket.the-variants.{Conditional, Iteration}
 use Rattle.rules.specs.declared.Code.{Code}
@@ -17,8 +15,7 @@ use Rattle.rules.specs.declared.Verdict.{Verdict}
 use Rattle.rules.specs.declared.Verdict.the-variants.{Accepted, Refused}
 use Rattle.rules.proofs.Tests.{both-true, true-both}
 use Rattle.vet.specs.Plain.{plainCode, noneNext, plainItem, plainFrom, plainVerdict, vettableVerdict}
-use Rattle.vet.specs.Turns.{kindIn, turnBy, turnOf}
-use Rattle.vet.specs.Use.{Use, writes, shows, stops, useOf}
+use Rattle.vet.specs.Turns.{turnOf}
 use Rattle.vet.specs.Vet.{askedVerdict, unlessDeclined, answerBy, runAnswer, vetOf}
 use Rattle.vet.specs.Ways.{Way, onTurn, wayOf}
 use Rattle.vet.specs.declared.Turn.{Turn}
@@ -27,7 +24,7 @@ use Rattle.vet.specs.declared.Vetted.{Vetted}
 use Rattle.vet.proofs.Ordinary.{AllOrdinary, past-test, items-ordinary}
 use Rattle.vet.proofs.PlainRun.{before-ordinary}
 use Rattle.vet.proofs.PlainVet.{onTurn as onItem, vetFrom, vetPlain}
-use Rattle.vet.proofs.Uses.{Within, by-test, use-within}
+use Rattle.vet.proofs.TurnLaws.{Low, item-low}
 
 -- what is plain a vet takes
 code-vettable : (c : Code) → plainCode false c ≡ true → plainCode true c ≡ true
@@ -79,19 +76,17 @@ module _ (kinds : List ℕ) (longest : ℕ) where
       (items-way xs (o .1)))
 
   -- and its codes are those of items
-  use-code : (p : ℕ) (u : Use) (next sum : ℕ) (rest : ℕ → ℕ → Vetted) → Within (length kinds) next u
-      → ((n s : ℕ) → rest n s .code ≤ 8) → onItem p (turnBy kinds longest u) sum rest .code ≤ 8
-  use-code p (writes text after) next sum rest w h = h after (sum + length text)
-  use-code p (stops code) next sum rest w h = w .1
-  use-code p (shows f d s i after) next sum rest w h =
-      by-test (λ (t : Turn). onItem p t sum rest .code ≤ 8) (accepts f (kindIn kinds i)) _ _ (λ _. h after _) (λ _. omega arith)
+  low-code : (p : ℕ) (t : Turn) → Low t → (sum : ℕ) (rest : ℕ → ℕ → Vetted) → ((n s : ℕ) → rest n s .code ≤ 8)
+      → onItem p t sum rest .code ≤ 8
+  low-code p (Goes n s) l sum rest h = h n (sum + s)
+  low-code p (Stops code) l sum rest h = l
 
   items-code : (xs : List Token) → AllOrdinary xs → (next sum : ℕ) → vetFrom kinds longest xs next sum .code ≤ 8
-  unfolding vetFrom turnOf
+  unfolding vetFrom
   items-code [] o next sum = omega arith
   items-code (x ∷ xs) o next sum =
-      use-code (x .at) (useOf (length kinds) (x .item) next) next sum (λ n s. vetFrom kinds longest xs n s)
-      (use-within (length kinds) (x .item) next (o .0)) (items-code xs (o .1))
+      low-code (x .at) (turnOf kinds longest (x .item) next) (item-low kinds longest (x .item) (o .0) next) sum
+      (λ n s. vetFrom kinds longest xs n s) (items-code xs (o .1))
 
 module _ (format kinds : List ℕ) (longest : ℕ) (plain : plainVerdict format ≡ Accepted) where
   pub plain-answer : textVerdict format ≡ Accepted

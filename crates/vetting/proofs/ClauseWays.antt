@@ -1,5 +1,5 @@
--- The clauses of a conditional, one after another, as the counting loop goes through them; and the conditional as an element
--- of its sequence. Assumes nothing.
+-- The clauses of a conditional, one after another, as the counting loop goes through them; and the conditional as an
+-- element of its sequence. Assumes nothing.
 use Prim.Native.Nat.{ℕ, _+_, _*_, _-_, _≤_}
 use mathlib.Core.Path.{_≡_, refl, sym, ap, subst, _∙_}
 use mathlib.Core.Bool.{Bool, false}
@@ -16,18 +16,18 @@ use Rattle.rules.proofs.TextLaws.{Within, next-inside, levels-written}
 use Rattle.checking.specs.declared.ends.ClauseEnd.{ClauseEnd}
 use Rattle.checking.specs.declared.ends.ClauseEnd.the-variants.{Last, Another}
 use Rattle.vet.specs.Plain.{Opener}
-use Rattle.vet.specs.Ways.{Way, fails, Ways, ending, onWay, onTurn, onWays, onEnds, meeting, withNone, hasFallback, startOf, wayOf, waysOf}
+use Rattle.vet.specs.Ways.{Way, leads, fails, Ways, ending, onWay, onTurn, onWays, onEnds, meeting, withNone, hasFallback, startOf, wayOf, waysOf}
 use Rattle.vet.specs.declared.Ends.{Ends}
 use Rattle.vet.specs.declared.Ends.the-variants.{Nowhere, Equal, Unequal}
 use Rattle.vet.specs.declared.Turn.{Turn}
 use Rattle.vet.specs.declared.Turn.the-variants.{Goes, Stops}
-use Rattle.vet.proofs.Sizes.{mostPiece}
+use Rattle.vet.proofs.Sizes.{mostPiece, EndsSized, none-sized}
 use Rattle.vet.proofs.Starts.{Started, start-turned}
 use Rattle.vetting.specs.Counting.{VettableAt, closedBy, wayAt, EndsIn, Walked, SequenceIs, clausesWay, Through, ElementIs}
 use Rattle.vetting.specs.declared.counting.Element.{Element}
 use Rattle.vetting.specs.declared.counting.Counted.{Counted}
 use Rattle.vetting.specs.declared.counting.Counted.the-variants.{Leads as LeadsAll}
-use Rattle.vetting.proofs.EndsBy.{meet-some, meet-in, none-in}
+use Rattle.vetting.proofs.EndsBy.{sized-in, meet-sized}
 
 -- the clauses of the block whose inside is at p
 abbrev clausesAt : List ℕ → ℕ → Clauses
@@ -42,7 +42,8 @@ walked-by t kinds longest start first r s {next} {size} e f =
 
 -- The clauses before z are counted, with these ends; the one at z stands after a `~:;` or not
 pub record Gathering (t kinds : List ℕ) (longest : ℕ) (d : Directive) (start z : ℕ) (colon : Bool) (e : Ends) : Type 0 where
-  pub ways : waysOf kinds longest (clausesAt t (d .next)) start Nowhere ≡ waysOf kinds longest (asClauses colon (levelsAt t z)) start e
+  pub ways : waysOf kinds longest (clausesAt t (d .next)) start Nowhere
+      ≡ waysOf kinds longest (asClauses colon (levelsAt t z)) start e
   pub last : hasFallback (clausesAt t (d .next)) ≡ hasFallback (asClauses colon (levelsAt t z))
   pub outside : outer (levelsAt t z) ≡ outer (levelsAt t (d .next))
   pub least : d .next ≤ z
@@ -61,54 +62,77 @@ ends-wider count few most Unequal h i = tt
 
 module _ {t kinds : List ℕ} {longest : ℕ} {d : Directive} {start z : ℕ} {colon : Bool} {e : Ends}
     (g : Gathering t kinds longest d start z colon e) where
-  -- the clause at z
+  -- the clause at z, and those behind it
+  abbrev more : Clauses
+  more = innermost (levelsAt t z) .more
+
   clause-met : (w : Way) → wayAt t kinds longest z start 0 ≡ w
       → waysOf kinds longest (clausesAt t (d .next)) start Nowhere
-      ≡ onWay w (λ n s. waysOf kinds longest (innermost (levelsAt t z) .more) start (meeting e n s))
+      ≡ onWay w (λ n s. waysOf kinds longest more start (meeting e n s))
   unfolding waysOf
   clause-met w is =
-      g .ways ∙ ap (λ (x : Way). onWay x (λ n s. waysOf kinds longest (innermost (levelsAt t z) .more) start (meeting e n s))) is
+      g .ways ∙ ap (λ (x : Way). onWay x (λ n s. waysOf kinds longest more start (meeting e n s))) is
 
   pub gather-fails : {code position : ℕ} → wayAt t kinds longest z start 0 ≡ fails code position
       → (p : ℕ) (on : ℕ → ℕ → Way) → clausesWay t kinds longest d start p on ≡ fails code position
   gather-fails {code} {position} is p on =
-      ap (λ (w : Ways). onWays p (withNone d (hasFallback (clausesAt t (d .next))) start) w on) (clause-met (fails code position) is)
+      ap (λ (w : Ways). onWays p (withNone d (hasFallback (clausesAt t (d .next))) start) w on)
+      (clause-met (fails code position) is)
 
   -- what the ways come to with this one
   gather-in : (stop next size : ℕ) → z ≤ stop → next ≤ length kinds → size ≤ mostPiece * (stop - z)
-      → EndsIn (length kinds) (mostPiece * (stop - d .next)) (meeting e next size)
+      → EndsSized (length kinds) (mostPiece * (stop - d .next)) (meeting e next size)
   gather-in stop next size l h s =
-      meet-in (length kinds) (mostPiece * (stop - d .next)) e next size
-      (ends-wider (length kinds) (mostPiece * (z - d .next)) (mostPiece * (stop - d .next)) e (omega (arith, g .least)) (g .size))
+      meet-sized (length kinds) (mostPiece * (stop - d .next)) e next size
+      (ends-wider (length kinds) (mostPiece * (z - d .next)) (mostPiece * (stop - d .next)) e (omega (arith, g .least))
+      (g .size))
       h (omega (arith, g .least))
+
+  -- with other words for the clauses behind it
+  met : {next size : ℕ} {cs : Clauses} → wayAt t kinds longest z start 0 ≡ leads next size → more ≡ cs
+      → waysOf kinds longest (clausesAt t (d .next)) start Nowhere ≡ waysOf kinds longest cs start (meeting e next size)
+  met {next} {size} is behind =
+      clause-met (leads next size) is ∙ ap (λ (cs : Clauses). waysOf kinds longest cs start (meeting e next size)) behind
+
+  last-by : {cs : Clauses} → more ≡ cs
+      → hasFallback (clausesAt t (d .next)) ≡ hasFallback (clause colon (innermost (levelsAt t z) .rest) cs)
+  last-by behind =
+      g .last ∙ ap (λ (cs : Clauses). hasFallback (clause colon (innermost (levelsAt t z) .rest) cs)) behind
 
   module _ {next size q after : ℕ} where
     pub gather-on : {colon₂ : Bool} → Walked t kinds longest z start next size (Another q colon₂ after)
         → (f : Ends) → f ≡ meeting e next size → Gathering t kinds longest d start after colon₂ f
     unfolding hasFallback
     gather-on {colon₂} w f is = subst (Gathering t kinds longest d start after colon₂) (sym is) record {
-      ways = clause-met _ (w .way) ∙ ap (λ (cs : Clauses). waysOf kinds longest cs start (meeting e next size)) (w .ends .more);
-      last = g .last ∙ ap (λ (cs : Clauses). hasFallback (clause colon (innermost (levelsAt t z) .rest) cs)) (w .ends .more);
+      ways = met (w .way) (w .ends .more);
+      last = last-by (w .ends .more);
       outside = w .ends .on ∙ g .outside;
       least = omega (arith, g .least, w .least, w .ends .least);
-      size = gather-in after next size (omega (arith, w .least, w .ends .least)) (w .reached) (omega (arith, w .small, w .least, w .ends .least));
+      size =
+          sized-in (length kinds) (mostPiece * (after - d .next)) (meeting e next size)
+          (gather-in after next size (omega (arith, w .least, w .ends .least)) (w .reached)
+          (omega (arith, w .small, w .least, w .ends .least)));
       vettable = w .vettable;
     }
 
     module _ (w : Walked t kinds longest z start next size (Last q after)) where
       all-met : waysOf kinds longest (clausesAt t (d .next)) start Nowhere ≡ ending (meeting e next size)
       unfolding waysOf
-      all-met = clause-met _ (w .way) ∙ ap (λ (cs : Clauses). waysOf kinds longest cs start (meeting e next size)) (w .ends .more)
+      all-met = met (w .way) (w .ends .more)
 
       last-is : hasFallback (clausesAt t (d .next)) ≡ colon
       unfolding hasFallback
-      last-is = g .last ∙ ap (λ (cs : Clauses). hasFallback (clause colon (innermost (levelsAt t z) .rest) cs)) (w .ends .more)
+      last-is = last-by (w .ends .more)
+
+      abbrev most : ℕ
+      most = mostPiece * (after - d .next)
 
       pub gather-last : (f : Ends) → f ≡ withNone d colon start (meeting e next size)
           → Through t kinds longest d start f after
       gather-last f is = record {
         way = λ p on.
-            ap (λ (b : Bool). onWays p (withNone d b start) (waysOf kinds longest (clausesAt t (d .next)) start Nowhere) on) last-is
+            ap (λ (b : Bool). onWays p (withNone d b start) (waysOf kinds longest (clausesAt t (d .next)) start Nowhere) on)
+            last-is
             ∙ ap (λ (v : Ways). onWays p (withNone d colon start) v on) all-met
             ∙ ap (λ (x : Ends). onEnds p x on) (sym is);
         behind = record {
@@ -117,10 +141,11 @@ module _ {t kinds : List ℕ} {longest : ℕ} {d : Directive} {start z : ℕ} {c
           most = w .ends .most;
         };
         within =
-            subst (EndsIn (length kinds) (mostPiece * (after - d .next))) (sym is)
-            (none-in (length kinds) (mostPiece * (after - d .next)) d colon start (meeting e next size) (meet-some e next size)
+            subst (EndsIn (length kinds) most) (sym is)
+            (sized-in (length kinds) most (withNone d colon start (meeting e next size))
+            (none-sized (length kinds) most d colon start (meeting e next size)
             (gather-in after next size (omega (arith, w .least, w .ends .least)) (w .reached)
-            (omega (arith, w .small, w .least, w .ends .least))));
+            (omega (arith, w .small, w .least, w .ends .least)))));
         vettable = w .vettable;
       }
 
@@ -176,7 +201,9 @@ module _ (t kinds : List ℕ) (longest p next : ℕ) (d : Directive) (e : itemAt
           way = λ sum.
               on sum ∙ w (follows sum)
               ∙ ap (λ (ys : List Level). wayOf kinds longest (innermost ys .rest) n (sum + s)) (sym (c .behind .is));
-          more = ap (λ (ys : List Level). innermost ys .more) opens ∙ ap (λ (ys : List Level). innermost ys .more) (sym (c .behind .is));
+          more =
+              ap (λ (ys : List Level). innermost ys .more) opens
+              ∙ ap (λ (ys : List Level). innermost ys .more) (sym (c .behind .is));
           outside = ap outer opens ∙ ap outer (sym (c .behind .is));
           ahead = omega (arith, place .above, c .behind .least);
           reaches = record {

@@ -1,4 +1,4 @@
--- What stands at a place is to a count: a literal byte, a directive that writes, or the end of the sequence. Assumes nothing.
+-- What an item is to a count: a literal byte, a directive that writes, or the end of the sequence. Assumes nothing.
 use Prim.Native.Nat.{ℕ, _+_, _*_, _-_, _≤_, _<_}
 use mathlib.Core.Path.{_≡_, refl, sym, ap, subst, _∙_}
 use mathlib.Core.List.{List, [], _∷_}
@@ -66,6 +66,9 @@ module _ (t kinds : List ℕ) (longest p next : ℕ) where
       place : Within (p + 1) (length t) (d .next)
       place = next-inside t p d e
 
+      behind : Within p (length t) (d .next)
+      behind = record { above = omega (arith, place .above); most = place .most }
+
       pub writes-is : (f : Form) → d .code ≡ Writes f → (x : Turn) → x ≡ turnOf kinds longest (Written d) next
           → (r : Element) → r ≡ elementBy x p (d .next) → ElementIs t kinds longest p next r
       writes-is f c x by r is =
@@ -78,7 +81,7 @@ module _ (t kinds : List ℕ) (longest p next : ℕ) where
       pub separator-is : d .code ≡ Separator → AtEnd t p (Another p (d .colon) (d .next))
       separator-is c =
           let is = levels-written t p d e Separator c in
-          let s : Split t p (d .colon) (d .next) = record { is = is; place = record { above = omega (arith, place .above); most = place .most } } in
+          let s : Split t p (d .colon) (d .next) = record { is = is; place = behind } in
           record {
             rest = ap (λ (xs : List Level). innermost xs .rest) is;
             ends = clause-splits (clause-start t p (k .inside)) refl s;
@@ -99,7 +102,7 @@ module _ (t kinds : List ℕ) (longest p next : ℕ) where
       closer-is Separator c o = absurd (miss other-codes 4 tt o)
       closer-is (Closes b) c o =
           let is = levels-written t p d e (Closes b) c in
-          let s : Finished t p (d .next) = record { is = is; place = record { above = omega (arith, place .above); most = place .most } } in
+          let s : Finished t p (d .next) = record { is = is; place = behind } in
           record {
             rest = ap (λ (xs : List Level). innermost xs .rest) is;
             ends = clause-finishes (clause-start t p (k .inside)) refl s;

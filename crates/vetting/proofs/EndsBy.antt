@@ -10,7 +10,7 @@ use denote.Enum.Declared.{tagOf}
 use types.Run.{OneOf, miss}
 use Rattle.rules.specs.declared.Directive.{Directive}
 use Rattle.vet.proofs.Ends as ends-declared
-use Rattle.vet.proofs.PieceSizes.{larger-most}
+use Rattle.vet.proofs.Sizes.{EndsSized, meeting-sized}
 use Rattle.vet.specs.Ways.{meeting, withNone}
 use Rattle.vet.specs.Worst.{larger}
 use Rattle.vet.specs.declared.Ends.{Ends}
@@ -52,50 +52,16 @@ closed-not Nowhere p place o = refl
 closed-not (Equal n s) p place o = absurd (miss no-ends 1 tt o)
 closed-not Unequal p place o = refl
 
--- there is a way
-abbrev pub Some : Ends → Type 0
-Some Nowhere = ⊥
-Some (Equal n s) = Unit {0}
-Some Unequal = Unit {0}
-
-pub meet-some : (e : Ends) (n s : ℕ) → Some (meeting e n s)
-unfolding meeting
-meet-some Nowhere n s = tt
-meet-some (Equal a b) n s = by (eqb a n)
-  where
-    by : (t : Bool) → Some (cond t (Equal a (larger b s)) Unequal)
-    by true = tt
-    by false = tt
-meet-some Unequal n s = tt
-
+-- how large the ends are, once there is a way
 module _ (count most : ℕ) where
-  pub meet-in : (e : Ends) (n s : ℕ) → EndsIn count most e → n ≤ count → s ≤ most → EndsIn count most (meeting e n s)
-  unfolding meeting
-  meet-in Nowhere n s i h k = (h, k)
-  meet-in (Equal a b) n s i h k = by (eqb a n)
-    where
-      by : (t : Bool) → EndsIn count most (cond t (Equal a (larger b s)) Unequal)
-      by true = (i .0, larger-most b s most (i .1) k)
-      by false = tt
-  meet-in Unequal n s i h k = tt
+  pub sized-in : (e : Ends) → EndsSized count most e → EndsIn count most e
+  sized-in Nowhere h = absurd h
+  sized-in (Equal n s) h = h
+  sized-in Unequal h = tt
 
-  -- where there is a way already, the one by which none runs brings no argument of its own
-  again-in : (e : Ends) (n : ℕ) → Some e → EndsIn count most e → EndsIn count most (meeting e n 0)
+  pub meet-sized : (e : Ends) (n s : ℕ) → EndsIn count most e → n ≤ count → s ≤ most
+      → EndsSized count most (meeting e n s)
   unfolding meeting
-  again-in Nowhere n w i = absurd w
-  again-in (Equal a b) n w i = by (eqb a n)
-    where
-      by : (t : Bool) → EndsIn count most (cond t (Equal a (larger b 0)) Unequal)
-      by true = (i .0, larger-most b 0 most (i .1) (omega arith))
-      by false = tt
-  again-in Unequal n w i = tt
-
-  pub none-in : (d : Directive) (fallback : Bool) (start : ℕ) (e : Ends) → Some e → EndsIn count most e
-      → EndsIn count most (withNone d fallback start e)
-  none-in d fallback start e w i = by (d .colon) (d .at) fallback
-    where
-      by : (x y z : Bool) → EndsIn count most (cond x e (cond y (meeting e (start + 1) 0) (cond z e (meeting e start 0))))
-      by true y z = i
-      by false true z = again-in e (start + 1) w i
-      by false false true = i
-      by false false false = again-in e start w i
+  meet-sized Nowhere n s i h k = (h, k)
+  meet-sized (Equal a b) n s i h k = meeting-sized count most (Equal a b) n s i k
+  meet-sized Unequal n s i h k = tt

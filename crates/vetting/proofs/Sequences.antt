@@ -32,7 +32,8 @@ walk-start t kinds longest start first k h =
     record { way = refl; more = refl; outside = refl; least = omega arith; reached = h; small = omega arith; vettable = k }
 
 -- a clause that is read from a later place on ends where it ends
-ends-from : (t : List ℕ) (start p : ℕ) (e : ClauseEnd) → innermost (levelsAt t p) .more ≡ innermost (levelsAt t start) .more
+ends-from : (t : List ℕ) (start p : ℕ) (e : ClauseEnd)
+    → innermost (levelsAt t p) .more ≡ innermost (levelsAt t start) .more
     → outer (levelsAt t p) ≡ outer (levelsAt t start) → start ≤ p → EndsClause t p e → EndsClause t start e
 ends-from t start p e m o l = by e
   where
@@ -40,7 +41,8 @@ ends-from t start p e m o l = by e
     here q c = record { rest = c .rest; more = c .more ∙ m; outside = c .outside ∙ o; least = omega (arith, c .least) }
 
     by : (e : ClauseEnd) → EndsClause t p e → EndsClause t start e
-    by (Last q next) c = record { here = here q (c .here); more = sym m ∙ c .more; on = c .on ∙ o; least = c .least; most = c .most }
+    by (Last q next) c =
+        record { here = here q (c .here); more = sym m ∙ c .more; on = c .on ∙ o; least = c .least; most = c .most }
     by (Another q colon next) c =
         record { here = here q (c .here); more = sym m ∙ c .more; on = c .on ∙ o; least = c .least; most = c .most }
 
