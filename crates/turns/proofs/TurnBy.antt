@@ -16,11 +16,11 @@ use Rattle.rules.specs.declared.Form.the-variants.{Object, Numeral, Glyph, Plur
 use Rattle.rules.specs.declared.Item.the-variants.{Written}
 use Rattle.rules.specs.declared.Setting.{Setting}
 use Rattle.rules.specs.declared.Setting.the-variants.{Absent, Is}
+use Rattle.vet.specs.Vet.{Asked}
 use Rattle.vet.specs.Use.{workedOut}
 use Rattle.vet.specs.Turns.{kindIn, turnOf}
 use Rattle.vet.specs.Worst.{worst}
 use Rattle.vet.specs.declared.Turn.the-variants.{Goes, Stops}
-use Rattle.vet.proofs.Codes.{Asked}
 use Rattle.vet.proofs.Ordinary.{PlainDirective}
 use Rattle.vet.proofs.Settling.{directive-suits}
 use Rattle.vet.proofs.TurnLaws.{turn-unsettled, turn-given, turn-none, turn-wrong, turn-own, turn-first, turn-back}

@@ -16,8 +16,8 @@ ghost use Prim.Native.Nat.{ℕ, _≤_};
 ghost use lib.ListN.{length};
 ghost use Rattle.rules.specs.declared.Form.the-variants.{Object, Numeral, Glyph, Plural, Repeat, Fold};
 ghost use Rattle.rules.specs.declared.Item.the-variants.{Written};
+ghost use Rattle.vet.specs.Vet.{Asked};
 ghost use Rattle.vet.specs.Turns.{turnOf};
-ghost use Rattle.vet.proofs.Codes.{Asked};
 ghost use Rattle.turns.specs.Parts.{Writing};
 
 // An argument is wanted, and none is left.

@@ -4,7 +4,6 @@ use mathlib.Core.Path.{_≡_}
 use mathlib.Core.List.{List}
 use native.Mathlib.Omega.{arith}
 use Rattle.rules.specs.Text.{Sequence, end, acts, escapes, iterates, chooses, Clauses, none, clause, deepest, textVerdict, sequenceOf}
-use Rattle.rules.specs.declared.Directive.{Directive}
 use Rattle.rules.specs.declared.Verdict.the-variants.{Accepted}
 use Rattle.rules.proofs.WellFormed.{WellFormed, WellFormedClauses, sequence-formed}
 use Rattle.vet.specs.Demand.{OpensAt}

@@ -17,16 +17,13 @@ use Rattle.rules.proofs.Groups.{grouped-most}
 use Rattle.vet.specs.declared.Turn.{Turn}
 use Rattle.vet.specs.declared.Turn.the-variants.{Goes, Stops}
 use Rattle.vet.specs.Use.{Use, writes, shows, stops, useOf}
-use Rattle.vet.specs.Worst.{larger, roundUp, paddedSize, topOf, greatest, spansOf, greatestOver, leastInteger, worst}
+use Rattle.vet.specs.Worst.{mostPiece, larger, roundUp, paddedSize, topOf, greatest, spansOf, greatestOver, leastInteger, worst}
 use Rattle.vet.specs.Turns.{kindIn, turnBy, turnOf}
 use Rattle.vet.proofs.Lengths.{Proper, left-length}
 use Rattle.vet.proofs.Ordinary.{Ordinary}
 use Rattle.vet.proofs.Padding.{larger-one, up-near}
 use Rattle.vet.proofs.Settling.{Small}
 use Rattle.vet.proofs.Uses.{Shown, Within, use-within}
-
-abbrev pub mostPiece : ℕ
-mostPiece = 16385
 
 pub larger-most : (a b c : ℕ) → a ≤ c → b ≤ c → larger a b ≤ c
 larger-most a b c h k = elim (larger-one a b) [ inl e ↦ omega arith | inr e ↦ omega arith ]

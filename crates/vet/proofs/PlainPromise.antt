@@ -10,10 +10,10 @@ use Rattle.rules.specs.Table.{View, viewOf}
 use Rattle.rules.specs.Text.{Token, tokensAt, levelsAt, textVerdict}
 use Rattle.rules.specs.declared.Verdict.the-variants.{Accepted as accepted-verdict}
 use Rattle.rules.proofs.FlowLaws.{finished, fit-all, fit-not}
+use Rattle.vet.specs.Vet.{Asked}
 use Rattle.vet.specs.declared.Vetted.{Vetted}
 use Rattle.vet.specs.Demand.{Suits, runOf, Enough, Filled, roomNeeded, Refused, IsPlain}
 use Rattle.vet.proofs.Before.{plain-before}
-use Rattle.vet.proofs.Codes.{Asked}
 use Rattle.vet.proofs.Filled.{Meets, Filling, plain-filling}
 use Rattle.vet.proofs.Items.{tokens-read}
 use Rattle.vet.proofs.Ordinary.{AllOrdinary, items-few, items-ordinary}

@@ -21,7 +21,8 @@ use Rattle.vet.specs.declared.Ends.{Ends}
 use Rattle.vet.specs.declared.Ends.the-variants.{Nowhere, Equal, Unequal}
 use Rattle.vet.specs.declared.Turn.{Turn}
 use Rattle.vet.specs.declared.Turn.the-variants.{Goes, Stops}
-use Rattle.vet.proofs.Sizes.{mostPiece, EndsSized, none-sized}
+use Rattle.vet.specs.Worst.{mostPiece}
+use Rattle.vet.proofs.Sizes.{EndsSized, none-sized}
 use Rattle.vet.proofs.Starts.{Started, start-turned}
 use Rattle.vetting.specs.Counting.{VettableAt, closedBy, wayAt, EndsIn, Walked, SequenceIs, clausesWay, Through, ElementIs}
 use Rattle.vetting.specs.declared.counting.Element.{Element}

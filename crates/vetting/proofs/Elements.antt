@@ -19,13 +19,14 @@ use Rattle.rules.proofs.Item as item-declared
 use Rattle.rules.proofs.TextLaws.{Within, next-inside, levels-end, levels-literal, levels-bad, levels-unfinished, levels-written}
 use Rattle.checking.specs.declared.ends.ClauseEnd.the-variants.{Last, Another}
 use Rattle.checking.proofs.EndLaws.{Split, Finished, clause-start, clause-splits, clause-finishes, clause-stops}
+use Rattle.vet.specs.Vet.{Asked}
 use Rattle.vet.specs.Turns.{turnOf}
 use Rattle.vet.specs.Ways.{onTurn, wayOf}
 use Rattle.vet.specs.declared.Turn.{Turn}
 use Rattle.vet.specs.declared.Turn.the-variants.{Goes, Stops}
-use Rattle.vet.proofs.Codes.{Asked}
 use Rattle.vet.proofs.Ordinary.{Ordinary}
-use Rattle.vet.proofs.Sizes.{mostPiece, Turned, item-turned}
+use Rattle.vet.specs.Worst.{mostPiece}
+use Rattle.vet.proofs.Sizes.{Turned, item-turned}
 use Rattle.vet.proofs.TurnLaws.{turn-literal}
 use Rattle.vetting.specs.Counting.{VettableAt, elementBy, wayAt, AtEnd, ElementIs}
 use Rattle.vetting.specs.declared.counting.Element.{Element}

@@ -9,7 +9,7 @@ use Rattle.checking.specs.Ends.{ClauseAt, EndsClause}
 use Rattle.checking.specs.declared.ends.ClauseEnd.{ClauseEnd}
 use Rattle.checking.specs.declared.ends.ClauseEnd.the-variants.{Last, Another}
 use Rattle.vet.specs.Ways.{fails, wayOf}
-use Rattle.vet.proofs.Sizes.{mostPiece}
+use Rattle.vet.specs.Worst.{mostPiece}
 use Rattle.vet.specs.Vet.{declined, counted, answerBy, runAnswer}
 use Rattle.vetting.specs.Counting.{VettableAt, wayAt, Onward, AtEnd, Walked, SequenceIs}
 use Rattle.vetting.specs.declared.counting.Counted.{Counted}

@@ -17,7 +17,7 @@ use Rattle.vet.specs.declared.Ends.{Ends}
 use Rattle.vet.specs.declared.Ends.the-variants.{Nowhere, Equal, Unequal}
 use Rattle.vet.specs.declared.Turn.{Turn}
 use Rattle.vet.specs.declared.Turn.the-variants.{Goes, Stops}
-use Rattle.vet.proofs.Sizes.{mostPiece}
+use Rattle.vet.specs.Worst.{mostPiece}
 use Rattle.vetting.specs.declared.counting.Element.{Element}
 use Rattle.vetting.specs.declared.counting.Element.the-variants.{Leads as elementLeads, Fails as elementFails, Ends as elementEnds}
 use Rattle.vetting.specs.declared.counting.Clauses.{Clauses}

@@ -20,8 +20,7 @@ ghost use Rattle.rules.specs.Text.{textVerdict};
 ghost use Rattle.rules.specs.declared.Item.the-variants.{Written};
 ghost use Rattle.rules.specs.declared.Verdict.the-variants.{Accepted};
 ghost use Rattle.vet.specs.Plain.{Opener, vettableVerdict};
-ghost use Rattle.vet.specs.Vet.{runAnswer};
-ghost use Rattle.vet.proofs.Codes.{Asked};
+ghost use Rattle.vet.specs.Vet.{Asked, runAnswer};
 ghost use Rattle.vetting.specs.Counting.{VettableAt, elementBy, closedBy, ElementIs, SequenceIs, ClausesAre};
 
 // Not for a vet: a conditional whose ways end at more than one argument.
