@@ -1,5 +1,5 @@
-// The greatest count of a format, sequence by sequence: a conditional counts as its longest clause. A conditional's clauses
-// are counted by the function that counts the sequence in which it stands, so calls nest no deeper than its blocks.
+// The greatest count of a format, sequence by sequence: a conditional counts as its longest clause. The clauses are counted
+// by the function that counts the sequence in which they stand, so that calls nest no deeper than blocks.
 use crate::ends::meet;
 use crate::ends::with_none;
 use checking::ends::ClauseEnd;
@@ -152,7 +152,8 @@ fn count_block(
     }
 }
 
-// The item at p, where `next` is the next argument. An accepted text that a vet takes has no others.
+// The item at p, where `next` is the next argument. The last arms are closers and the end of the text: a text that is
+// accepted and vettable has nothing else there.
 fn count_element(format: &[u8], kinds: &[u8], longest: usize, p: usize, next: usize) -> Element
     requires { ⌜ Asked (now kinds) longest ⌝ }
     requires { ⌜ VettableAt (now format) p ⌝ }
