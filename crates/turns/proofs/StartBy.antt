@@ -4,21 +4,23 @@ use mathlib.Core.Path.{_≡_, sym, ap, _∙_}
 use mathlib.Core.Bool.{true, false, cond}
 use mathlib.Core.List.{List, [], _∷_}
 use native.Mathlib.Omega.{arith}
-use lib.Dec.{leb, eqb}
+use lib.Dec.{eqb}
 use lib.ListN.{length}
 use borrow.Author.Tests.{lt-ltb, le-ltb, eq-eqb, ne-eqb}
-use Rattle.rules.specs.Directive.{anyNumber, either, takes, placesOf, inOrder, eachSuits, fitInto, wellWritten}
+use Rattle.rules.specs.Directive.{anyNumber, inOrder, eachSuits}
 use Rattle.rules.specs.Working.{settled, settle}
+use Rattle.rules.specs.declared.Bracket.the-variants.{Conditional}
+use Rattle.rules.specs.declared.Code.the-variants.{Opens}
 use Rattle.rules.specs.declared.Directive.{Directive}
 use Rattle.rules.specs.declared.Setting.{Setting}
 use Rattle.rules.specs.declared.Setting.the-variants.{Absent, Is}
-use Rattle.rules.proofs.Tests.{both-true}
 use Rattle.vet.specs.Turns.{kindIn}
 use Rattle.vet.specs.Use.{inHand, noEntries}
 use Rattle.vet.specs.Ways.{onOwn, numberedStart, settledStart, startOf}
 use Rattle.vet.specs.declared.Turn.{Turn}
 use Rattle.vet.specs.declared.Turn.the-variants.{Goes, Stops}
 use Rattle.vet.specs.Plain.{Opener}
+use Rattle.vet.proofs.Settling.{written-suits}
 use Rattle.turns.specs.Parts.{settingBy}
 use Rattle.turns.proofs.Worked.{number-settled}
 
@@ -54,11 +56,7 @@ module _ (kinds : List ℕ) (d : Directive) (next : ℕ) where
   module _ (w : Opener d) (c : d .colon ≡ false) (a : d .at ≡ false) (left : ℕ) (is : left ≡ length kinds - next)
       (few : length kinds ≤ 1024) {s : Setting} (es : s ≡ settingBy left (d .parameters .first)) where
     suits : eachSuits (anyNumber ∷ []) (inOrder (d .parameters)) ≡ true
-    unfolding wellWritten
-    suits =
-        let v = both-true (takes (d .code) (d .colon) (d .at)) (fitInto (placesOf (d .code) (either (d .colon) (d .at))) (d .parameters)) (w .written) in
-        let f = rw (w .code, c, a) at (v .1) in
-        both-true (leb (d .parameters .count) 1) (eachSuits (anyNumber ∷ []) (inOrder (d .parameters))) f .1
+    suits = rw (c, a) at (written-suits d (Opens Conditional) (w .code) (w .written))
 
     settled-is : settle noEntries (inHand (length kinds) next) (anyNumber ∷ []) (inOrder (d .parameters)) next
         ≡ settled (settingBy left (d .parameters .first) ∷ []) next

@@ -17,8 +17,9 @@ ghost use Rattle.vet.specs.Ways.{onOwn, numberedStart, startOf};
 ghost use Rattle.vet.specs.declared.Turn.the-variants.{Goes, Stops};
 ghost use Rattle.vet.specs.Plain.{Opener};
 
-// Not for a vet: `~@[` for another kind than a boolean.
-const NOT_TAKEN: u32 = 11;
+// No vet takes the format: something in the text, a conditional whose ways end at more than one argument, or ~@[ for
+// another kind than a boolean.
+pub const NOT_VETTABLE: u32 = 11;
 
 const BOOLEAN: u8 = 0;
 
@@ -48,7 +49,7 @@ fn start_one(kinds: &[u8], next: usize) -> Turn
     if kind == BOOLEAN {
         return Turn::Goes { next, size: 0 };
     }
-    Turn::Stops(NOT_TAKEN)
+    Turn::Stops(NOT_VETTABLE)
 }
 
 // ~[ by an integer argument

@@ -7,6 +7,7 @@ use reader::directive::item_at;
 use rules::Code;
 use rules::Directive;
 use rules::Item;
+use turns::starts::NOT_VETTABLE;
 use turns::starts::start_of;
 use turns::turns::turn_form;
 use vet::Ends;
@@ -22,9 +23,6 @@ ghost use Rattle.rules.specs.declared.Verdict.the-variants.{Accepted};
 ghost use Rattle.vet.specs.Plain.{Opener, vettableVerdict};
 ghost use Rattle.vet.specs.Vet.{Asked, runAnswer};
 ghost use Rattle.vetting.specs.Counting.{VettableAt, elementBy, closedBy, ElementIs, SequenceIs, ClausesAre};
-
-// Not for a vet: a conditional whose ways end at more than one argument.
-const UNEQUAL_ENDS: u32 = 11;
 
 // One element of a sequence: it leads to the argument `next` with at most `size` bytes, and the text goes on at `place`;
 // it fails; or the sequence ends here.
@@ -77,7 +75,7 @@ fn close_block(ends: Ends, p: usize, place: usize) -> Element
     match ends {
         Ends::Equal { next, size } => Element::Leads { next, size, place },
         _ => Element::Fails {
-            code: UNEQUAL_ENDS,
+            code: NOT_VETTABLE,
             position: p,
         },
     }

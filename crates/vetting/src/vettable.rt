@@ -7,6 +7,7 @@ use rules::Directive;
 use rules::Item;
 use rules::Parameter;
 use rules::Verdict;
+use turns::starts::NOT_VETTABLE;
 ghost use mathlib.Core.Path.{_≡_};
 ghost use mathlib.Core.Bool.{true, not};
 ghost use Prim.Native.Nat.{_<_};
@@ -14,9 +15,6 @@ ghost use Rattle.rules.specs.Choice.{both};
 ghost use Rattle.rules.specs.Directive.{inOrder};
 ghost use Rattle.rules.proofs.TextLaws.{placeAfter};
 ghost use Rattle.vet.specs.Plain.{plainCode, isNext, noneNext, plainItem, vettableVerdict};
-
-// Not for a vet.
-const NOT_TAKEN: u32 = 11;
 
 fn is_vettable_code(code: Code) -> bool
     ensures { λ r. ⌜ r ≡ plainCode true code ⌝ }
@@ -97,7 +95,7 @@ pub fn check_vettable(format: &[u8]) -> Verdict
         let item = item_at(format, p);
         if !is_vettable(item) {
             return Verdict::Refused {
-                code: NOT_TAKEN,
+                code: NOT_VETTABLE,
                 position: p,
             };
         }
