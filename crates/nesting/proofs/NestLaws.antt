@@ -1,0 +1,71 @@
+-- The open blocks with one more, and their frames. Assumes nothing.
+use Prim.Native.Nat.{ℕ, zero, suc, _+_, _-_, _<_, _≤_}
+use mathlib.Core.Path.{_≡_, refl, sym, ap, _∙_}
+use mathlib.Core.Bool.{true}
+use mathlib.Core.List.{List, _∷_}
+use native.Mathlib.Omega.{arith}
+use lib.Dec.{eqb}
+use lib.ListN.{length, getD, set}
+use lib.Seq.{getD-set-same, getD-set-other}
+use borrow.Author.Tests.{ne-eqb}
+use Rattle.rules.specs.declared.Setting.{Setting}
+use Rattle.rules.specs.declared.Setting.the-variants.{Is}
+use Rattle.nesting.specs.declared.nests.Block.{Block}
+use Rattle.nesting.specs.declared.nests.Nest.{Nest}
+use Rattle.nesting.specs.Nest.{passesOf, blockAt, Pushes}
+
+-- a number of passes that is limited
+pub limits : (n : ℕ) → (n ≡ 65535 → ⊥) → passesOf n ≡ Is n
+limits n h = rw (ne-eqb n 65535 h)
+
+pub limited : (n : ℕ) → n < 65535 → passesOf n ≡ Is n
+limited n h = limits n (λ q. omega (arith, q))
+
+-- a block by its numbers
+pub block-is : (o : Nest) (i : ℕ) {kind place inside first count next : ℕ} {passes : Setting} → kind ≡ getD (o .kinds) i 0 → place ≡ getD (o .places) i 0 → inside ≡ getD (o .insides) i 0
+    → passes ≡ passesOf (getD (o .passes) i 0) → first ≡ getD (o .starts) i 0 → count ≡ getD (o .counts) i 0 → next ≡ getD (o .positions) i 0
+    → _≡_ {A = Block} (record { kind = kind; place = place; inside = inside; passes = passes; hand = record { first = record { 0 = first }; count = count }; next = record { 0 = next } }) (blockAt o i)
+block-is o i k p s n f c j = rw (k, p, s, n, f, c, j) refl
+
+-- the block is written behind the open ones
+module _ (o : Nest) (b : Block) (passes : ℕ) where
+  abbrev more : Nest
+  more =
+      record {
+        depth = o .depth + 1;
+        kinds = set (o .kinds) (o .depth) (b .kind);
+        places = set (o .places) (o .depth) (b .place);
+        insides = set (o .insides) (o .depth) (b .inside);
+        passes = set (o .passes) (o .depth) passes;
+        starts = set (o .starts) (o .depth) (b .hand .first .0);
+        counts = set (o .counts) (o .depth) (b .hand .count);
+        positions = set (o .positions) (o .depth) (b .next .0);
+      }
+
+  pub pushes : passesOf passes ≡ b .passes → o .depth < 8 → length (o .kinds) ≡ 8 → length (o .places) ≡ 8 → length (o .insides) ≡ 8 → length (o .passes) ≡ 8
+      → length (o .starts) ≡ 8 → length (o .counts) ≡ 8 → length (o .positions) ≡ 8 → Pushes o b more
+  pushes q r k p i n s c j =
+      record {
+        depth = refl;
+        block =
+            rw (
+              getD-set-same (o .kinds) (o .depth) (b .kind) 0 (omega (arith, r, k)),
+              getD-set-same (o .places) (o .depth) (b .place) 0 (omega (arith, r, p)),
+              getD-set-same (o .insides) (o .depth) (b .inside) 0 (omega (arith, r, i)),
+              getD-set-same (o .passes) (o .depth) passes 0 (omega (arith, r, n)),
+              getD-set-same (o .starts) (o .depth) (b .hand .first .0) 0 (omega (arith, r, s)),
+              getD-set-same (o .counts) (o .depth) (b .hand .count) 0 (omega (arith, r, c)),
+              getD-set-same (o .positions) (o .depth) (b .next .0) 0 (omega (arith, r, j)),
+              q,
+            ) refl;
+        others = λ x h.
+            rw (
+              getD-set-other (o .kinds) (o .depth) x (b .kind) 0 (λ e. omega (arith, e)),
+              getD-set-other (o .places) (o .depth) x (b .place) 0 (λ e. omega (arith, e)),
+              getD-set-other (o .insides) (o .depth) x (b .inside) 0 (λ e. omega (arith, e)),
+              getD-set-other (o .passes) (o .depth) x passes 0 (λ e. omega (arith, e)),
+              getD-set-other (o .starts) (o .depth) x (b .hand .first .0) 0 (λ e. omega (arith, e)),
+              getD-set-other (o .counts) (o .depth) x (b .hand .count) 0 (λ e. omega (arith, e)),
+              getD-set-other (o .positions) (o .depth) x (b .next .0) 0 (λ e. omega (arith, e)),
+            ) refl;
+      }
