@@ -21,9 +21,9 @@ use Rattle.rules.proofs.RunLaws.{choose-yes, choose-no}
 use Rattle.acting.specs.declared.state.Ran.{Ran}
 use Rattle.acting.specs.declared.state.Spot.{Spot}
 use Rattle.acting.specs.Acting.{Performed}
-use Rattle.acting.specs.Ran.{refusedRan, endedRan, Performs, hand}
+use Rattle.acting.specs.Ran.{refusedRan, endedRan, gives, lacks, Performs, hand}
 use Rattle.acting.proofs.Joining.{stays, here, said, from}
-use Rattle.acting.proofs.Buffer.{Put, put-fits, put-full}
+use Rattle.acting.proofs.Buffer.{Put, put-gives, put-lacks}
 
 -- what is refused, and what goes on under another name
 module _ {f : (ℕ → Flow) → Flow} {count m at : ℕ} {b : List ℕ} where
@@ -42,7 +42,7 @@ module _ (p m next at count place : ℕ) (b w : List ℕ) where
   pub performs-put : {e : List ℕ} → Put b at w e → next ≤ count → Performs (λ on. put p m w (on next)) count m at b e (endedRan next m (at + length w) place)
   performs-put u k =
       record {
-        same = λ on out. record { is = put-fits b w p m at _ u };
+        same = λ on out. gives (put-gives b w p m at _ u);
         size = u .size;
         rest = u .rest;
         least = omega arith;
@@ -52,7 +52,7 @@ module _ (p m next at count place : ℕ) (b w : List ℕ) where
       }
 
   pub performs-full : (i : ℕ) → at ≤ length b → length b < at + length w → i ≤ count → Performs (λ on. put p m w (on next)) count m at b b (refusedRan 10 p i m at place)
-  performs-full i l h k = stays _ (λ on out. record { is = put-full b w p m at _ l h }) refl (omega arith) l k
+  performs-full i l h k = stays _ (λ on out. lacks refl (put-lacks b w p m at _ l h)) refl (omega arith) l k
 
 module _ (v : View) (p m : ℕ) (d : Directive) (c : Context) where
   -- the parameters of a directive that is well written, and of one that is not
