@@ -6,7 +6,7 @@ use native.Mathlib.Nat.{add-sub-of-le}
 use native.Mathlib.Omega.{arith}
 use lib.ListN.{length, take, drop}
 use lib.Seq.{drop-drop}
-use Rattle.rules.specs.Flow.{Flow, Gives, Lacks}
+use Rattle.rules.specs.Flow.{Flow, refused, Gives, Lacks}
 use Rattle.rules.specs.Answer.{fit}
 use Rattle.rules.proofs.FlowLaws.{gives-still, gives-join, gives-lacks, gives-fit, lacks-fit}
 use Rattle.acting.specs.declared.state.Stop.{Stop}
@@ -70,6 +70,10 @@ no-end-left q r = let z : _≡_ {A = ℕ} 0 1 = cc in omega arith
 pub no-left : {o : Stop} {code x : ℕ} → o ≡ Refused code x → o ≡ Left → ⊥
 no-left q r = let z : _≡_ {A = ℕ} 0 1 = cc in omega arith
 
+-- and a refusal has one code and one position
+pub same-refusal : {o : Stop} {code code₂ x y : ℕ} → o ≡ Refused code x → o ≡ Refused code₂ y → (code ≡ code₂) × (x ≡ y)
+same-refusal q w = (cc, cc)
+
 -- what comes after a stop, by the stop
 module _ (on out : ℕ → ℕ → Flow) (left i : ℕ) where
   pub onward-ended : {o : Stop} → o ≡ Ended → onward on out o left i ≡ on left i
@@ -96,6 +100,13 @@ module _ {f : Flow} {on out : ℕ → ℕ → Flow} {at : ℕ} {b e : List ℕ} 
 
   pub gave-on : Same f on out at b e r → r .stop ≡ Ended → Gives (take at b) f (take (r .at) e) (on (r .left) (r .next .0))
   gave-on s q = subst (Gives (take at b) f (take (r .at) e)) (onward-ended on out (r .left) (r .next .0) q) (gave s (λ p w. no-end w q))
+
+  pub gave-left : Same f on out at b e r → r .stop ≡ Left → Gives (take at b) f (take (r .at) e) (out (r .left) (r .next .0))
+  gave-left s q = subst (Gives (take at b) f (take (r .at) e)) (onward-left on out (r .left) (r .next .0) q) (gave s (λ p w. no-left w q))
+
+  pub gave-refused : Same f on out at b e r → (code p : ℕ) → r .stop ≡ Refused code p → (code ≡ 10 → ⊥) → Gives (take at b) f (take (r .at) e) (refused code p (r .left))
+  gave-refused s code p q h =
+      subst (Gives (take at b) f (take (r .at) e)) (ap (λ (o : Stop). onward on out o (r .left) (r .next .0)) q) (gave s (λ x w. h (same-refusal q w .0)))
 
   -- and in the buffer it comes to what comes after it
   pub same-fit : Same f on out at b e r → length (take (r .at) e) ≤ length b
