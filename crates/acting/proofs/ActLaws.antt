@@ -10,6 +10,7 @@ use Rattle.rules.specs.Directive.{wellWritten, placesOf, inOrder, either}
 use Rattle.rules.specs.Table.{View, Value}
 use Rattle.rules.specs.Piece.{orElse, textOf, kindOf, accepts}
 use Rattle.rules.specs.Working.{Context, argumentIn, settle, Source, own, back, given, sourceOf}
+use Rattle.rules.specs.Flow.{done, Finish, finishOf}
 use Rattle.rules.specs.Run.{Flow, refused, put, onSettled, withSettings, withArgument, write, writeFrom, jumpTo, jump, directiveActs, itemActs}
 use Rattle.rules.specs.declared.Code.{Code}
 use Rattle.rules.specs.declared.Code.the-variants.{Writes, Jump}
@@ -17,13 +18,15 @@ use Rattle.rules.specs.declared.Directive.{Directive}
 use Rattle.rules.specs.declared.Form.{Form}
 use Rattle.rules.specs.declared.Item.the-variants.{Written}
 use Rattle.rules.specs.declared.Settings.{Settings}
+use Rattle.rules.proofs.FlowLaws.{gives-finish}
 use Rattle.rules.proofs.RunLaws.{choose-yes, choose-no}
 use Rattle.acting.specs.declared.state.Ran.{Ran}
+use Rattle.acting.specs.declared.state.Stop.the-variants.{Left}
 use Rattle.acting.specs.declared.state.Spot.{Spot}
-use Rattle.acting.specs.Acting.{Performed}
-use Rattle.acting.specs.Ran.{refusedRan, endedRan, Performs, hand}
-use Rattle.acting.proofs.Joining.{stays, here, said, from}
-use Rattle.acting.proofs.Buffer.{Put, put-fits, put-full}
+use Rattle.acting.specs.Acting.{Performed, Untouched}
+use Rattle.acting.specs.Ran.{refusedRan, endedRan, gives, lacks, Performs, hand}
+use Rattle.acting.proofs.Joining.{stays, here, said, from, gave-left, no-end, no-left, same-refusal}
+use Rattle.acting.proofs.Buffer.{Put, put-gives, put-lacks}
 
 -- what is refused, and what goes on under another name
 module _ {f : (ℕ → Flow) → Flow} {count m at : ℕ} {b : List ℕ} where
@@ -42,7 +45,7 @@ module _ (p m next at count place : ℕ) (b w : List ℕ) where
   pub performs-put : {e : List ℕ} → Put b at w e → next ≤ count → Performs (λ on. put p m w (on next)) count m at b e (endedRan next m (at + length w) place)
   performs-put u k =
       record {
-        same = λ on out. record { is = put-fits b w p m at _ u };
+        same = λ on out. gives (put-gives b w p m at _ u);
         size = u .size;
         rest = u .rest;
         least = omega arith;
@@ -52,7 +55,7 @@ module _ (p m next at count place : ℕ) (b w : List ℕ) where
       }
 
   pub performs-full : (i : ℕ) → at ≤ length b → length b < at + length w → i ≤ count → Performs (λ on. put p m w (on next)) count m at b b (refusedRan 10 p i m at place)
-  performs-full i l h k = stays _ (λ on out. record { is = put-full b w p m at _ l h }) refl (omega arith) l k
+  performs-full i l h k = stays _ (λ on out. lacks refl (put-lacks b w p m at _ l h)) refl (omega arith) l k
 
 module _ (v : View) (p m : ℕ) (d : Directive) (c : Context) where
   -- the parameters of a directive that is well written, and of one that is not
@@ -117,6 +120,30 @@ module _ (spot : Spot) (next count : ℕ) (b w : List ℕ) (r : Ran) where
   performed-full i q l h k =
       subst (Performed (λ on. put (spot .position) (spot .left) w (on next)) count spot b b) (sym q)
       (record { does = performs-full (spot .position) (spot .left) next (spot .at) count (spot .place) b w i l h k; place = refl })
+
+-- what goes on is not refused, and what is refused as it is met has written nothing
+module _ {spot : Spot} {i : ℕ} {b : List ℕ} (r : Ran) where
+  pub untouched-on : {next left at place : ℕ} {e : List ℕ} → r ≡ endedRan next left at place → Untouched spot i b e r
+  untouched-on q = record { is = λ code x h. absurd (no-end h (ap (λ (y : Ran). y .stop) q)) }
+
+  pub untouched-refused : (code : ℕ) → r ≡ refusedRan code (spot .position) i (spot .left) (spot .at) (spot .place) → Untouched spot i b b r
+  untouched-refused code q = record {
+    is = λ code₂ x h.
+        let k : code ≡ code₂ = same-refusal (ap (λ (y : Ran). y .stop) q) h .0 in
+        (q ∙ ap (λ (n : ℕ). refusedRan n (spot .position) i (spot .left) (spot .at) (spot .place)) k, refl);
+  }
+
+-- neither leaves a sequence: the flow would have to go on by whatever comes after that
+pub performed-stays : {f : (ℕ → Flow) → Flow} {count : ℕ} {spot : Spot} {b e : List ℕ} {r : Ran} → Performed f count spot b e r → r .stop ≡ Left → ⊥
+performed-stays {f} {spot = spot} d q =
+    let z : _≡_ {A = ℕ} 0 1 = ap (λ (x : Finish). x .code) (sym (ends 0) ∙ ends 1) in
+    omega arith
+  where
+    ends : (n : ℕ) → finishOf (f (λ i. done (spot .left) i)) ≡ finishOf (refused n 0 0)
+    ends n = gives-finish (gave-left (d .does .same (λ l i. done l i) (λ l i. refused n 0 0)) q)
+
+pub refused-stays : {code p i left at place : ℕ} {r : Ran} → r ≡ refusedRan code p i left at place → r .stop ≡ Left → ⊥
+refused-stays h q = no-left (ap (λ (y : Ran). y .stop) h) q
 
 -- jumps
 module _ (v : View) (p m : ℕ) (d : Directive) (c : Context) (s : Settings) (next : ℕ) (on : ℕ → Flow) where

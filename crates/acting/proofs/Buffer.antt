@@ -1,15 +1,14 @@
--- A piece that is put into the buffer, and one that does not fit, to the flow that the buffer cuts. Assumes nothing.
+-- A piece that is put into the buffer, and one that does not fit, to the flow that gives it. Assumes nothing.
 use Prim.Native.Nat.{ℕ, suc, _+_, _-_, _<_, _≤_}
 use mathlib.Core.Path.{_≡_, refl, sym, ap, _∙_}
 use mathlib.Core.List.{List, [], _∷_, _++_, append-nil, append-assoc}
 use native.Mathlib.Numerals.{add-one}
 use native.Mathlib.Omega.{arith}
-use borrow.Author.Tests.{le-leb, lt-leb}
 use lib.ListN.{length, take, drop, set, replicate, length-append, length-drop, length-set, length-replicate}
 use lib.Seq.{drop-drop, length-take-le, take-suc-set, drop-set-lt, take-at, drop-at, take-all}
 use borrow.Rule.Slice.PartMut.{putMid}
-use Rattle.rules.specs.Run.{Flow, put, refused}
-use Rattle.rules.specs.Answer.{fit}
+use Rattle.rules.specs.Flow.{Flow, put, Gives, Lacks}
+use Rattle.rules.proofs.FlowLaws.{gives-still, gives-piece}
 use Rattle.acting.proofs.Joining.{agree}
 
 -- e is the buffer b with w put at the place `at`
@@ -42,13 +41,12 @@ put-part b at w h =
     }
 
 module _ (b w : List ℕ) (x m at : ℕ) (f : Flow) where
-  pub put-fits : {e : List ℕ} → Put b at w e → fit (length b) (take at b) (put x m w f) ≡ fit (length b) (take (at + length w) e) f
-  unfolding fit
-  put-fits u = rw (length-take-le at b (omega (arith, u .room)), le-leb (at + length w) (length b) (u .room), u .front)
+  pub put-gives : {e : List ℕ} → Put b at w e → Gives (take at b) (put x m w f) (take (at + length w) e) f
+  put-gives u = rw (u .front) (gives-piece (take at b) x m w f)
 
-  pub put-full : at ≤ length b → length b < at + length w → fit (length b) (take at b) (put x m w f) ≡ fit (length b) (take at b) (refused 10 x m)
-  unfolding fit
-  put-full h k = rw (length-take-le at b h, lt-leb (at + length w) (length b) k)
+  pub put-lacks : at ≤ length b → length b < at + length w → Lacks (length b) (take at b) (put x m w f) (take at b) x m
+  put-lacks h k =
+      record { piece = w; more = f; gives = gives-still (take at b) (put x m w f); full = rw (length-take-le at b h) k }
 
 -- the part of k places that was lent at a place is as long as it says
 pub lent-length : (b : List ℕ) (at k : ℕ) (w : List ℕ) → k ≡ length w → k ≤ length b - at → at ≤ length b → length (take (at + k - at) (drop at b)) ≡ length w

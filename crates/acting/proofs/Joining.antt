@@ -6,12 +6,13 @@ use native.Mathlib.Nat.{add-sub-of-le}
 use native.Mathlib.Omega.{arith}
 use lib.ListN.{length, take, drop}
 use lib.Seq.{drop-drop}
-use Rattle.rules.specs.Run.{Flow}
+use Rattle.rules.specs.Flow.{Flow, refused, Gives, Lacks}
 use Rattle.rules.specs.Answer.{fit}
+use Rattle.rules.proofs.FlowLaws.{gives-still, gives-join, gives-lacks, gives-fit, lacks-fit}
 use Rattle.acting.specs.declared.state.Stop.{Stop}
 use Rattle.acting.specs.declared.state.Stop.the-variants.{Ended, Left, Refused}
 use Rattle.acting.specs.declared.state.Ran.{Ran}
-use Rattle.acting.specs.Ran.{onward, Same, Does}
+use Rattle.acting.specs.Ran.{onward, Same, gives, lacks, Does}
 
 -- two lists that agree from i on agree from a later place on
 pub agree : (x y : List ℕ) (i j : ℕ) → i ≤ j → drop i x ≡ drop i y → drop j x ≡ drop j y
@@ -28,7 +29,9 @@ stays r s q h l n = record { same = s; size = refl; rest = refl; least = omega a
 pub here : {f : Flow} {on out : ℕ → ℕ → Flow} {at : ℕ} {b : List ℕ} (r : Ran) → r .at ≡ at → f ≡ onward on out (r .stop) (r .left) (r .next .0)
     → Same f on out at b b r
 here {f} {on} {out} {at} {b} r q e =
-    record { is = ap (fit (length b) (take at b)) e ∙ ap (λ (i : ℕ). fit (length b) (take i b) (onward on out (r .stop) (r .left) (r .next .0))) (sym q) }
+    gives
+    (subst (λ (i : ℕ). Gives (take at b) f (take i b) (onward on out (r .stop) (r .left) (r .next .0))) (sym q)
+    (subst (Gives (take at b) f (take at b)) e (gives-still (take at b) f)))
 
 -- one run after another, over other arguments perhaps
 pub joined : {S S′ S″ : Type 0} {count count′ l l′ at : ℕ} {b e e′ : List ℕ} {r r′ : Ran} → Does S count l′ at b e r → l′ ≤ l → Does S′ count′ (r .left) (r .at) e e′ r′ → S″ → Does S″ count′ l at b e′ r′
@@ -57,30 +60,19 @@ said {b = b} {e = e} r′ d q p h n s =
       inside = n;
     }
 
-module _ {f : Flow} {on out : ℕ → ℕ → Flow} {at : ℕ} {b e : List ℕ} {r : Ran} where
-  -- by another name of its flow
-  pub from : {f′ : Flow} → f′ ≡ f → Same f on out at b e r → Same f′ on out at b e r
-  from q s = record { is = ap (fit (length b) (take at b)) q ∙ s .is }
+-- no run stops in two ways
+pub no-end : {o : Stop} {code x : ℕ} → o ≡ Refused code x → o ≡ Ended → ⊥
+no-end q r = let z : _≡_ {A = ℕ} 0 1 = cc in omega arith
 
-module _ {f : Flow} {on out on′ out′ : ℕ → ℕ → Flow} {at : ℕ} {b e : List ℕ} {r : Ran} where
-  -- where it ended, by another run that follows it
-  pub then-on : Same f on out at b e r → {f′ : Flow} {e′ : List ℕ} {r′ : Ran} → r .stop ≡ Ended → length e ≡ length b → on (r .left) (r .next .0) ≡ f′ → Same f′ on′ out′ (r .at) e e′ r′ → Same f on′ out′ at b e′ r′
-  then-on s {f′} {e′} {r′} q z y n =
-      record {
-        is =
-            s .is ∙ ap (λ (o : Stop). fit (length b) (take (r .at) e) (onward on out o (r .left) (r .next .0))) q
-            ∙ ap (fit (length b) (take (r .at) e)) y
-            ∙ subst (λ (m : ℕ). fit m (take (r .at) e) f′ ≡ fit m (take (r′ .at) e′) (onward on′ out′ (r′ .stop) (r′ .left) (r′ .next .0))) z (n .is);
-      }
+pub no-end-left : {o : Stop} → o ≡ Left → o ≡ Ended → ⊥
+no-end-left q r = let z : _≡_ {A = ℕ} 0 1 = cc in omega arith
 
-  -- where it stopped, by what comes after it under another name
-  pub renamed : Same f on out at b e r → (r′ : Ran) → r′ .at ≡ r .at → onward on out (r .stop) (r .left) (r .next .0) ≡ onward on′ out′ (r′ .stop) (r′ .left) (r′ .next .0) → Same f on′ out′ at b e r′
-  renamed s r′ q y =
-      record {
-        is =
-            s .is ∙ ap (fit (length b) (take (r .at) e)) y
-            ∙ ap (λ (i : ℕ). fit (length b) (take i e) (onward on′ out′ (r′ .stop) (r′ .left) (r′ .next .0))) (sym q);
-      }
+pub no-left : {o : Stop} {code x : ℕ} → o ≡ Refused code x → o ≡ Left → ⊥
+no-left q r = let z : _≡_ {A = ℕ} 0 1 = cc in omega arith
+
+-- and a refusal has one code and one position
+pub same-refusal : {o : Stop} {code code₂ x y : ℕ} → o ≡ Refused code x → o ≡ Refused code₂ y → (code ≡ code₂) × (x ≡ y)
+same-refusal q w = (cc, cc)
 
 -- what comes after a stop, by the stop
 module _ (on out : ℕ → ℕ → Flow) (left i : ℕ) where
@@ -94,3 +86,55 @@ module _ (on out on′ out′ : ℕ → ℕ → Flow) (left i : ℕ) where
   pub onward-refused : {o : Stop} (code p : ℕ) → o ≡ Refused code p → onward on out o left i ≡ onward on′ out′ o left i
   onward-refused code p q =
       ap (λ (o : Stop). onward on out o left i) q ∙ sym (ap (λ (o : Stop). onward on′ out′ o left i) q)
+
+module _ {f : Flow} {on out : ℕ → ℕ → Flow} {at : ℕ} {b e : List ℕ} {r : Ran} where
+  -- by another name of its flow
+  pub from : {f′ : Flow} → f′ ≡ f → Same f on out at b e r → Same f′ on out at b e r
+  from q s = subst (λ (k : Flow). Same k on out at b e r) (sym q) s
+
+  -- where it did not stop for want of room, the flow gives what was written, whatever the room
+  pub gave : Same f on out at b e r → ((p : ℕ) → r .stop ≡ Refused 10 p → ⊥)
+      → Gives (take at b) f (take (r .at) e) (onward on out (r .stop) (r .left) (r .next .0))
+  gave (gives u) h = u
+  gave (lacks {p = p} q u) h = absurd (h p q)
+
+  pub gave-on : Same f on out at b e r → r .stop ≡ Ended → Gives (take at b) f (take (r .at) e) (on (r .left) (r .next .0))
+  gave-on s q = subst (Gives (take at b) f (take (r .at) e)) (onward-ended on out (r .left) (r .next .0) q) (gave s (λ p w. no-end w q))
+
+  pub gave-left : Same f on out at b e r → r .stop ≡ Left → Gives (take at b) f (take (r .at) e) (out (r .left) (r .next .0))
+  gave-left s q = subst (Gives (take at b) f (take (r .at) e)) (onward-left on out (r .left) (r .next .0) q) (gave s (λ p w. no-left w q))
+
+  pub gave-refused : Same f on out at b e r → (code p : ℕ) → r .stop ≡ Refused code p → (code ≡ 10 → ⊥) → Gives (take at b) f (take (r .at) e) (refused code p (r .left))
+  gave-refused s code p q h =
+      subst (Gives (take at b) f (take (r .at) e)) (ap (λ (o : Stop). onward on out o (r .left) (r .next .0)) q) (gave s (λ x w. h (same-refusal q w .0)))
+
+  -- and in the buffer it comes to what comes after it
+  pub same-fit : Same f on out at b e r → length (take (r .at) e) ≤ length b
+      → fit (length b) (take at b) f ≡ fit (length b) (take (r .at) e) (onward on out (r .stop) (r .left) (r .next .0))
+  same-fit (gives u) h = gives-fit u (length b) h
+  same-fit (lacks q u) h =
+      lacks-fit u h ∙ sym (ap (λ (o : Stop). fit (length b) (take (r .at) e) (onward on out o (r .left) (r .next .0))) q)
+
+module _ {f f′ : Flow} {on out : ℕ → ℕ → Flow} {at : ℕ} {b e e′ : List ℕ} {r′ : Ran} where
+  -- what the flow gives, and then a run of what it is after that
+  after : {m : ℕ} → Gives (take at b) f (take m e) f′ → length e ≡ length b → Same f′ on out m e e′ r′ → Same f on out at b e′ r′
+  after u z (gives v) = gives (gives-join u v)
+  after {m} u z (lacks {p = p} q v) =
+      lacks q (gives-lacks u (subst (λ (room : ℕ). Lacks room (take m e) f′ (take (r′ .at) e′) p (r′ .left)) z v))
+
+module _ {f : Flow} {on out on′ out′ : ℕ → ℕ → Flow} {at : ℕ} {b e : List ℕ} {r : Ran} where
+  -- where it ended, by another run that follows it
+  pub then-on : Same f on out at b e r → {f′ : Flow} {e′ : List ℕ} {r′ : Ran} → r .stop ≡ Ended → length e ≡ length b → on (r .left) (r .next .0) ≡ f′ → Same f′ on′ out′ (r .at) e e′ r′ → Same f on′ out′ at b e′ r′
+  then-on s q z y n = after (subst (Gives (take at b) f (take (r .at) e)) y (gave-on s q)) z n
+
+  -- where it stopped, by what comes after it under another name
+  pub renamed : Same f on out at b e r → (r′ : Ran) → r′ .at ≡ r .at → r′ .left ≡ r .left → ((p : ℕ) → r .stop ≡ Refused 10 p → r′ .stop ≡ Refused 10 p)
+      → onward on out (r .stop) (r .left) (r .next .0) ≡ onward on′ out′ (r′ .stop) (r′ .left) (r′ .next .0) → Same f on′ out′ at b e r′
+  renamed (gives u) r′ q l h y =
+      gives
+      (subst (λ (i : ℕ). Gives (take at b) f (take i e) (onward on′ out′ (r′ .stop) (r′ .left) (r′ .next .0))) (sym q)
+      (subst (Gives (take at b) f (take (r .at) e)) y u))
+  renamed (lacks {p = p} k u) r′ q l h y =
+      lacks (h p k)
+      (subst (λ (i : ℕ). Lacks (length b) (take at b) f (take i e) p (r′ .left)) (sym q)
+      (subst (Lacks (length b) (take at b) f (take (r .at) e) p) (sym l) u))

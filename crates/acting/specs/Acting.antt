@@ -8,7 +8,8 @@ use Rattle.rules.specs.declared.Setting.the-variants.{Absent, Is}
 use Rattle.rules.specs.declared.Settings.{Settings}
 use Rattle.acting.specs.declared.state.Ran.{Ran}
 use Rattle.acting.specs.declared.state.Spot.{Spot}
-use Rattle.acting.specs.Ran.{Performs}
+use Rattle.acting.specs.declared.state.Stop.the-variants.{Refused}
+use Rattle.acting.specs.Ran.{refusedRan, Performs}
 
 -- the number of a jump
 abbrev pub Numbered : Setting → Type 0
@@ -22,3 +23,9 @@ JumpSet s = Numbered (s .first)
 pub record Performed (f : (ℕ → Flow) → Flow) (count : ℕ) (spot : Spot) (b e : List ℕ) (r : Ran) : Type 0 where
   pub does : Performs f count (spot .left) (spot .at) b e r
   pub place : r .place ≡ spot .place
+
+-- "A piece is .. written whole or not at all": what is refused has written nothing and stands where it was begun, and i
+-- is the next argument still
+pub record Untouched (spot : Spot) (i : ℕ) (b e : List ℕ) (r : Ran) : Type 0 where
+  pub is : (code x : ℕ) → r .stop ≡ Refused code x
+      → (r ≡ refusedRan code (spot .position) i (spot .left) (spot .at) (spot .place)) × (e ≡ b)

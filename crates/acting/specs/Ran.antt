@@ -1,4 +1,4 @@
--- How the code's numbers and buffer stand for a flow that the buffer cuts: what a directive that acts alone promises.
+-- How the code's numbers and buffer stand for a flow: what a directive that acts alone promises.
 -- Assumes nothing: these are definitions.
 use mathlib.Core.Path.{_≡_}
 use mathlib.Core.List.{List}
@@ -6,8 +6,8 @@ use Prim.Native.Nat.{ℕ, _-_, _≤_}
 use lib.ListN.{length, take, drop}
 use Rattle.rules.specs.Table.{View}
 use Rattle.rules.specs.Working.{Context}
+use Rattle.rules.specs.Flow.{Gives, Lacks}
 use Rattle.rules.specs.Run.{Flow, refused, itemActs}
-use Rattle.rules.specs.Answer.{fit}
 use Rattle.rules.specs.declared.Item.{Item}
 use Rattle.acting.specs.declared.state.Stop.{Stop}
 use Rattle.acting.specs.declared.state.Stop.the-variants.{Ended, Left, Refused}
@@ -32,9 +32,12 @@ onward on out Ended left i = on left i
 onward on out Left left i = out left i
 onward on out (Refused code p) left i = refused code p left
 
--- the flow f, from the buffer b at the place `at`, is what comes after r, from the buffer e at r's place
-pub record Same (f : Flow) (on out : ℕ → ℕ → Flow) (at : ℕ) (b e : List ℕ) (r : Ran) : Type 0 where
-  pub is : fit (length b) (take at b) f ≡ fit (length b) (take (r .at) e) (onward on out (r .stop) (r .left) (r .next .0))
+-- The flow f, from the buffer b at the place `at`, gives what is written in the buffer e up to r's place and then is what
+-- comes after r; or, where r is refused for want of room, a piece that does not fit into b. So no room has a say in a run
+-- that stops otherwise
+pub data Same (f : Flow) (on out : ℕ → ℕ → Flow) (at : ℕ) (b e : List ℕ) (r : Ran) : Type 0 where
+  gives : Gives (take at b) f (take (r .at) e) (onward on out (r .stop) (r .left) (r .next .0)) → Same f on out at b e r
+  lacks : {p : ℕ} → r .stop ≡ Refused 10 p → Lacks (length b) (take at b) f (take (r .at) e) p (r .left) → Same f on out at b e r
 
 -- r is a run as S says, over `count` arguments, and has changed nothing past its end
 pub record Does (S : Type 0) (count left at : ℕ) (b e : List ℕ) (r : Ran) : Type 0 where

@@ -33,7 +33,7 @@ ghost use Rattle.pieces.specs.Bytes.{Good, bytesOf};
 ghost use Rattle.pieces.specs.Given.{Worked};
 ghost use Rattle.working.specs.Settling.{InHand, handAt};
 ghost use Rattle.acting.specs.Ran.{hand};
-ghost use Rattle.acting.specs.Acting.{JumpSet, Performed};
+ghost use Rattle.acting.specs.Acting.{JumpSet, Performed, Untouched};
 
 // A piece put whole at the end of what is written, or refused for want of room.
 fn put_piece(
@@ -48,7 +48,8 @@ fn put_piece(
     requires { ⌜ Good (now table) piece ⌝ }
     requires { ⌜ spot .at ≤ length (now out) ⌝ }
     requires { ⌜ (before .0 ≤ count) × (next .0 ≤ count) ⌝ }
-    ensures { λ r. ⌜ Performed (λ on. put (spot .position) (spot .left) (bytesOf (now (table .entry)) piece) (on (next .0))) count spot (now (out .entry)) (now (out .exit)) r ⌝ }
+    ensures puts { λ r. ⌜ Performed (λ on. put (spot .position) (spot .left) (bytesOf (now (table .entry)) piece) (on (next .0))) count spot (now (out .entry)) (now (out .exit)) r ⌝ }
+    ensures untouched { λ r. ⌜ Untouched spot (before .0) (now (out .entry)) (now (out .exit)) r ⌝ }
 {
     let at = spot.at;
     let n = piece_length(piece);
@@ -76,7 +77,8 @@ pub fn write_form(
     requires { ⌜ InHand (now table) hand ⌝ }
     requires { ⌜ spot .at ≤ length (now out) ⌝ }
     requires { ⌜ i .0 ≤ hand .count ⌝ }
-    ensures { λ r. ⌜ ((d : Directive) → d .colon ≡ colon → d .at ≡ at → Performed (λ on. writeFrom (viewOf (now (table .entry))) (spot .position) (spot .left) form d (handAt hand 0) settings (i .0) on (sourceIn form colon settings)) (hand .count) spot (now (out .entry)) (now (out .exit)) r) ⌝ }
+    ensures writes { λ r. ⌜ ((d : Directive) → d .colon ≡ colon → d .at ≡ at → Performed (λ on. writeFrom (viewOf (now (table .entry))) (spot .position) (spot .left) form d (handAt hand 0) settings (i .0) on (sourceIn form colon settings)) (hand .count) spot (now (out .entry)) (now (out .exit)) r) ⌝ }
+    ensures untouched { λ r. ⌜ Untouched spot (i .0) (now (out .entry)) (now (out .exit)) r ⌝ }
 {
     let planned = plan_settled(form, colon, settings, table, hand, i);
     match planned {

@@ -19,12 +19,13 @@ ghost use Rattle.rules.specs.Number.{digitsOf, magnitudeOf, signOf, padLeft};
 ghost use Rattle.rules.specs.Run.{put};
 ghost use Rattle.pieces.specs.Bytes.{part};
 ghost use Rattle.pieces.specs.Given.{StringIn};
-ghost use Rattle.acting.specs.Acting.{Performed};
+ghost use Rattle.acting.specs.Acting.{Performed, Untouched};
 
 // A byte repeated n times, put whole or refused for want of room.
 pub fn put_run(spot: Spot, byte: u8, n: usize, next: ArgumentPosition, out: &mut [u8]) -> Ran
     requires { ⌜ spot .at ≤ length (now out) ⌝ }
-    ensures { λ r. ⌜ ((count : ℕ) → next .0 ≤ count → Performed (λ on. put (spot .position) (spot .left) (replicate n byte) (on (next .0))) count spot (now (out .entry)) (now (out .exit)) r) ⌝ }
+    ensures puts { λ r. ⌜ ((count : ℕ) → next .0 ≤ count → Performed (λ on. put (spot .position) (spot .left) (replicate n byte) (on (next .0))) count spot (now (out .entry)) (now (out .exit)) r) ⌝ }
+    ensures untouched { λ r. ⌜ Untouched spot (next .0) (now (out .entry)) (now (out .exit)) r ⌝ }
 {
     let at = spot.at;
     if n <= out.len() - at {
@@ -54,7 +55,8 @@ pub fn put_text(
 ) -> Ran
     requires { ⌜ StringIn (now table) start end ⌝ }
     requires { ⌜ spot .at ≤ length (now out) ⌝ }
-    ensures { λ r. ⌜ ((count : ℕ) → before .0 ≤ count → next .0 ≤ count → Performed (λ on. put (spot .position) (spot .left) (part start (end - start) (now (table .entry)) ++ replicate (width - (end - start)) 32) (on (next .0))) count spot (now (out .entry)) (now (out .exit)) r) ⌝ }
+    ensures puts { λ r. ⌜ ((count : ℕ) → before .0 ≤ count → next .0 ≤ count → Performed (λ on. put (spot .position) (spot .left) (part start (end - start) (now (table .entry)) ++ replicate (width - (end - start)) 32) (on (next .0))) count spot (now (out .entry)) (now (out .exit)) r) ⌝ }
+    ensures untouched { λ r. ⌜ Untouched spot (before .0) (now (out .entry)) (now (out .exit)) r ⌝ }
 {
     let at = spot.at;
     let size = end - start;
@@ -87,7 +89,8 @@ pub fn put_decimal(
     out: &mut [u8],
 ) -> Ran
     requires { ⌜ spot .at ≤ length (now out) ⌝ }
-    ensures { λ r. ⌜ ((count : ℕ) → before .0 ≤ count → next .0 ≤ count → Performed (λ on. put (spot .position) (spot .left) (padLeft width pad (signOf false x ++ digitsOf 10 (magnitudeOf x))) (on (next .0))) count spot (now (out .entry)) (now (out .exit)) r) ⌝ }
+    ensures puts { λ r. ⌜ ((count : ℕ) → before .0 ≤ count → next .0 ≤ count → Performed (λ on. put (spot .position) (spot .left) (padLeft width pad (signOf false x ++ digitsOf 10 (magnitudeOf x))) (on (next .0))) count spot (now (out .entry)) (now (out .exit)) r) ⌝ }
+    ensures untouched { λ r. ⌜ Untouched spot (before .0) (now (out .entry)) (now (out .exit)) r ⌝ }
 {
     let at = spot.at;
     let m = magnitude(x);

@@ -30,6 +30,7 @@ use Rattle.acting.specs.declared.state.Spot.{Spot}
 use Rattle.acting.specs.declared.state.Stop.{Stop}
 use Rattle.acting.specs.declared.state.Stop.the-variants.{Ended, Left, Refused}
 use Rattle.acting.specs.Ran.{refusedRan, endedRan, begun, hand}
+use Rattle.acting.proofs.Joining.{no-end-left}
 use Rattle.acting.proofs.state.Stop as stop-declared
 use Rattle.running.specs.Runs.{EndsAt, EndsBlock, After, restAt, Runs, Steps, Strides, Blocks, Passes, opening}
 use Rattle.blocks.specs.Clauses.{InsideAt}
@@ -37,7 +38,7 @@ use Rattle.blocks.specs.Parts.{endsSequence, endsAt, opensBlock, iterates, outs
 use Rattle.blocks.specs.declared.passes.Over.the-variants.{Is as OverIs}
 use Rattle.stepping.specs.Stepping.{isEnded, ActsAlone}
 use Rattle.engine.specs.Runners.{LeavesPasses, spotAt}
-use Rattle.running.proofs.Arms.{no-end-left, runs-end, steps-deep, steps-block-none, steps-block}
+use Rattle.running.proofs.Arms.{runs-end, steps-deep, steps-block-none, steps-block}
 use Rattle.running.proofs.BlockArms.{chooses-run, iterates-run, blocks-refused, blocks-same, blocks-list, passes-over, passes-none, passes-on, passes-left, passes-refused}
 use Rattle.running.proofs.Strides.{strides, strides-runs-on, strides-runs-left, strides-runs-refused}
 use Rattle.running.proofs.Places.{end-at, bad-at, unfinished-at, separator-at, closer-at, unknown-at, iteration-at, conditional-at}

@@ -19,6 +19,7 @@ use Rattle.acting.specs.declared.state.Ran.{Ran}
 use Rattle.acting.specs.declared.state.Stop.{Stop}
 use Rattle.acting.specs.declared.state.Stop.the-variants.{Ended, Left, Refused as RefusedAt}
 use Rattle.acting.specs.Ran.{hand, onward}
+use Rattle.acting.proofs.Joining.{same-fit}
 use Rattle.engine.specs.declared.formatting.Outcome.{Outcome}
 use Rattle.running.specs.Runs.{leaving, Runs}
 use Rattle.engine.specs.Whole.{codeOf, positionOf, outcomeOf}
@@ -61,7 +62,7 @@ whole f t b e r o p q u w =
     let n : length (take (r .at) e) ≡ r .at = length-take-le (r .at) e (omega (arith, d .most, d .size)) in
     subst (λ (x : Outcome). Answers f t b e (x .code) (x .position) (x .steps) (x .written)) (sym w)
     (answers-by f t b e (answered (take (r .at) e) (r .stop) (r .left)) (codeOf (r .stop)) (positionOf (r .stop)) (limit - r .left) (r .at)
-    (answer-run f t (length b) p q ∙ d .same [] refl .is ∙ outcome-is (viewOf t) 0 (argumentCount t) (length b) (take (r .at) e) (r .stop) (r .left) (r .next .0))
+    (answer-run f t (length b) p q ∙ same-fit (d .same [] refl) (omega (arith, n, d .most)) ∙ outcome-is (viewOf t) 0 (argumentCount t) (length b) (take (r .at) e) (r .stop) (r .left) (r .next .0))
     refl refl refl (sym n) (sym (take-append-drop (r .at) e) ∙ ap (λ (x : List ℕ). take (r .at) e ++ x) (d .rest)))
 
 -- a table or a text that is refused

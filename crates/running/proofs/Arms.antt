@@ -12,19 +12,12 @@ use Rattle.rules.specs.Run.{Flow, refused, begin, choose, Frame, itemActs, nest
 use Rattle.rules.specs.declared.Item.{Item}
 use Rattle.rules.specs.declared.Item.the-variants.{Literal}
 use Rattle.rules.proofs.RunLaws.{begin-yes, begin-no, choose-yes, choose-no, run-acts, run-escapes, nested-yes, nested-no}
-use Rattle.acting.specs.declared.state.Stop.{Stop}
-use Rattle.acting.specs.declared.state.Stop.the-variants.{Ended, Left, Refused}
+use Rattle.acting.specs.declared.state.Stop.the-variants.{Ended, Left}
 use Rattle.acting.specs.declared.state.Ran.{Ran}
-use Rattle.acting.specs.Ran.{refusedRan, hand, Acts}
-use Rattle.acting.proofs.Joining.{stays, here, said, from}
-use Rattle.acting.proofs.Buffer.{put-byte, put-fits, put-full}
+use Rattle.acting.specs.Ran.{refusedRan, gives, lacks, hand, Acts}
+use Rattle.acting.proofs.Joining.{stays, here, said, from, no-end, no-end-left}
+use Rattle.acting.proofs.Buffer.{put-byte, put-gives, put-lacks}
 use Rattle.running.specs.Runs.{ActsAt, EscapesAt, restAt, leaving, Runs, Steps, Blocks}
-
-pub no-end : {o : Stop} {code x : ℕ} → o ≡ Refused code x → o ≡ Ended → ⊥
-no-end q r = let z : _≡_ {A = ℕ} 0 1 = cc in omega arith
-
-pub no-end-left : {o : Stop} → o ≡ Left → o ≡ Ended → ⊥
-no-end-left q r = let z : _≡_ {A = ℕ} 0 1 = cc in omega arith
 
 -- a literal byte, and one for which there is no room
 module _ (v : View) (first count x byte i m at place : ℕ) (b : List ℕ) (k : i ≤ count) where
@@ -34,7 +27,7 @@ module _ (v : View) (first count x byte i m at place : ℕ) (b : List ℕ) (k : 
   literal-acts h =
       let w = put-byte b at byte h in
       record {
-        same = λ on out. record { is = put-fits b (byte ∷ []) x m at _ w };
+        same = λ on out. gives (put-gives b (byte ∷ []) x m at _ w);
         size = w .size;
         rest = w .rest;
         least = omega arith;
@@ -45,7 +38,7 @@ module _ (v : View) (first count x byte i m at place : ℕ) (b : List ℕ) (k : 
 
   pub literal-full : at ≤ length b → length b ≤ at → Acts v (hand first count i) x (Literal byte) m at b b (refusedRan 10 x i m at place)
   unfolding itemActs
-  literal-full l h = stays _ (λ on out. record { is = put-full b (byte ∷ []) x m at _ l (omega arith) }) refl (omega arith) l k
+  literal-full l h = stays _ (λ on out. lacks refl (put-lacks b (byte ∷ []) x m at _ l (omega arith))) refl (omega arith) l k
 
 module _ (s : ℕ → List Level) (n : ℕ) (v : View) (first count level p i left at : ℕ) (b : List ℕ) where
   -- a run by another name of the sequences at its place

@@ -17,9 +17,8 @@ use Rattle.acting.specs.declared.state.Stop.{Stop}
 use Rattle.acting.specs.declared.state.Stop.the-variants.{Ended, Left, Refused}
 use Rattle.acting.specs.declared.state.Ran.{Ran}
 use Rattle.acting.specs.Ran.{refusedRan, onward, Same, hand}
-use Rattle.acting.proofs.Joining.{stays, here, joined, said, from, then-on, renamed, onward-ended, onward-left, onward-refused}
+use Rattle.acting.proofs.Joining.{stays, here, joined, said, from, then-on, renamed, no-end, no-end-left, no-left, onward-ended, onward-left, onward-refused}
 use Rattle.running.specs.Runs.{ChoosesAt, IteratesAt, After, restAt, leaving, Runs, Blocks, Passes, opening}
-use Rattle.running.proofs.Arms.{no-end, no-end-left}
 
 -- what follows a block, by the place after it
 pub rest-is : {s : ℕ → List Level} {n q place : ℕ} → After s n q place → innermost (outer (s q)) .rest ≡ restAt s place
@@ -83,7 +82,7 @@ module _ (s : ℕ → List Level) (n : ℕ) (v : View) (first count level p q i 
           record {
             does =
                 said _ (u .does) refl refl (omega arith) (u .does .inside)
-                (λ ks out away m. renamed (pass-is ks out m) _ refl
+                (λ ks out away m. renamed (pass-is ks out m) _ refl refl (λ p w. absurd (no-left w y))
                 (onward-left _ _ (r .left) (r .next .0) y
                 ∙ ap (λ (x : Sequence). run v (r .left) x ks (afterwards out (hand first count (r .next .0)))) (rest-is a)));
             after = λ _. a;
@@ -94,7 +93,7 @@ module _ (s : ℕ → List Level) (n : ℕ) (v : View) (first count level p q i 
           record {
             does =
                 said r (u .does) refl refl (omega arith) (u .does .inside)
-                (λ ks out away m. renamed (pass-is ks out m) r refl (onward-refused _ _ _ _ (r .left) (r .next .0) code x y));
+                (λ ks out away m. renamed (pass-is ks out m) r refl refl (λ p w. w) (onward-refused _ _ _ _ (r .left) (r .next .0) code x y));
             after = λ e. absurd (no-end y e);
           }
 
@@ -133,7 +132,7 @@ module _ (s : ℕ → List Level) (n : ℕ) (v : View) (first count level q : �
         record {
           does =
               said _ (u .does) refl refl (omega arith) (u .does .inside)
-              (λ ks m. renamed (clause-is ks m) _ refl
+              (λ ks m. renamed (clause-is ks m) _ refl refl (λ p w. absurd (no-end w y))
               (onward-ended _ _ (r .left) (r .next .0) y ∙ run-clause-end v (hand first count (r .next .0)) _ ks (r .left)
               ∙ ap (λ (x : Sequence). run v (r .left) x ks (hand first count (r .next .0))) (rest-is a)));
           after = λ _. a;
@@ -144,7 +143,7 @@ module _ (s : ℕ → List Level) (n : ℕ) (v : View) (first count level q : �
         record {
           does =
               said r (u .does) refl refl (omega arith) (u .does .inside)
-              (λ ks m. renamed (clause-is ks m) r refl (onward-left _ _ (r .left) (r .next .0) y ∙ sym (onward-left _ _ (r .left) (r .next .0) y)));
+              (λ ks m. renamed (clause-is ks m) r refl refl (λ p w. w) (onward-left _ _ (r .left) (r .next .0) y ∙ sym (onward-left _ _ (r .left) (r .next .0) y)));
           after = λ e. absurd (no-end-left y e);
         }
 
@@ -153,7 +152,7 @@ module _ (s : ℕ → List Level) (n : ℕ) (v : View) (first count level q : �
         record {
           does =
               said r (u .does) refl refl (omega arith) (u .does .inside)
-              (λ ks m. renamed (clause-is ks m) r refl (onward-refused _ _ _ _ (r .left) (r .next .0) code x y));
+              (λ ks m. renamed (clause-is ks m) r refl refl (λ p w. w) (onward-refused _ _ _ _ (r .left) (r .next .0) code x y));
           after = λ e. absurd (no-end y e);
         }
 
@@ -181,7 +180,7 @@ module _ (s : ℕ → List Level) (n : ℕ) (v : View) (first count level q : �
       record {
         does =
             said _ (u .does) refl refl (omega arith) k
-            (λ ks m. renamed (from (h ks) (u .does .same ks (other (hand first count j)) (λ l _. leaving v ks (hand first count) l j) m)) _ refl
+            (λ ks m. renamed (from (h ks) (u .does .same ks (other (hand first count j)) (λ l _. leaving v ks (hand first count) l j) m)) _ refl refl (λ p w. w)
             (fixed (λ l j₂. run v l (restAt s (r .place)) ks (hand first count j₂)) (leaving v ks (hand first count)) j (r .stop) (r .left) (r .next .0)));
         after = u .after;
       }

@@ -9,9 +9,8 @@ use Rattle.rules.specs.Text.{Level}
 use Rattle.acting.specs.declared.state.Stop.the-variants.{Ended, Left, Refused}
 use Rattle.acting.specs.declared.state.Ran.{Ran}
 use Rattle.acting.specs.Ran.{endedRan, hand}
-use Rattle.acting.proofs.Joining.{stays, here, joined, said, then-on, renamed, onward-left, onward-refused}
+use Rattle.acting.proofs.Joining.{stays, here, joined, said, then-on, renamed, no-end, no-end-left, onward-left, onward-refused}
 use Rattle.running.specs.Runs.{Runs, Steps, Strides}
-use Rattle.running.proofs.Arms.{no-end, no-end-left}
 
 module _ (s : ℕ → List Level) (n : ℕ) (v : View) (first count level p i left at : ℕ) (b : List ℕ) where
   -- one item
@@ -53,14 +52,14 @@ module _ (s : ℕ → List Level) (n : ℕ) (v : View) (first count level p i le
     pub strides-runs-left : r .stop ≡ Left → Runs s n v (hand first count) level p i left at b e r
     strides-runs-left q =
         record {
-          does = said r (u .does) refl refl (omega arith) (u .does .inside) (λ ks m. renamed (u .does .same ks m) r refl (onward-left _ _ (r .left) (r .next .0) q ∙ sym (onward-left _ _ (r .left) (r .next .0) q)));
+          does = said r (u .does) refl refl (omega arith) (u .does .inside) (λ ks m. renamed (u .does .same ks m) r refl refl (λ p y. y) (onward-left _ _ (r .left) (r .next .0) q ∙ sym (onward-left _ _ (r .left) (r .next .0) q)));
           ends = λ y. absurd (no-end-left q y);
         }
 
     pub strides-runs-refused : (code x : ℕ) → r .stop ≡ Refused code x → Runs s n v (hand first count) level p i left at b e r
     strides-runs-refused code x q =
         record {
-          does = said r (u .does) refl refl (omega arith) (u .does .inside) (λ ks m. renamed (u .does .same ks m) r refl (onward-refused _ _ _ _ (r .left) (r .next .0) code x q));
+          does = said r (u .does) refl refl (omega arith) (u .does .inside) (λ ks m. renamed (u .does .same ks m) r refl refl (λ p y. y) (onward-refused _ _ _ _ (r .left) (r .next .0) code x q));
           ends = λ y. absurd (no-end q y);
         }
 

@@ -99,7 +99,7 @@ begun-inside spot met b o l = subst (λ (y : Spot). y .at ≤ length b) (sym o) 
 pub one-nearer : (most k : ℕ) → k < most → most - (k + 1) < most - k
 one-nearer most k h = omega arith
 
-ended-is : {i l l₂ a a₂ q q₂ : ℕ} → l ≡ l₂ → a ≡ a₂ → q ≡ q₂ → endedRan i l a q ≡ endedRan i l₂ a₂ q₂
+pub ended-is : {i l l₂ a a₂ q q₂ : ℕ} → l ≡ l₂ → a ≡ a₂ → q ≡ q₂ → endedRan i l a q ≡ endedRan i l₂ a₂ q₂
 ended-is x y z = rw (x, y, z)
 
 module _ (t : List ℕ) (p left at : ℕ) (b : List ℕ) where

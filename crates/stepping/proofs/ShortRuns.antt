@@ -1,12 +1,13 @@
 -- A short directive does what the definition has it do, with the settings that are read. Assumes nothing.
-use Prim.Native.Nat.{ℕ, _-_, _<_, _≤_}
-use mathlib.Core.Path.{_≡_, refl, ap, subst, _∙_}
+use Prim.Native.Nat.{ℕ, _+_, _-_, _<_, _≤_}
+use mathlib.Core.Path.{_≡_, refl, sym, ap, subst, _∙_}
 use mathlib.Core.Bool.{true, false}
 use mathlib.Core.List.{List}
 use native.Mathlib.Decide.{ℕ-discrete as decEq}
 use native.Mathlib.Omega.{arith}
 use borrow.Author.Tests.{le-ltb, eq-eqb, ne-eqb, eqb-true}
 use lib.Dec.{eqb}
+use lib.ListN.{length}
 use Rattle.rules.specs.Choice.{both}
 use Rattle.rules.specs.Directive.{number, character, formPlaces, inOrder}
 use Rattle.rules.specs.Table.{View}
@@ -29,13 +30,15 @@ use Rattle.pieces.specs.Given.{Worked}
 use Rattle.acting.specs.declared.state.Ran.{Ran}
 use Rattle.acting.specs.declared.state.Spot.{Spot}
 use Rattle.rules.specs.Directive.{FormRight}
-use Rattle.acting.specs.Acting.{Performed}
-use Rattle.acting.specs.Ran.{hand}
+use Rattle.acting.specs.Acting.{Performed, Untouched}
+use Rattle.acting.specs.Ran.{refusedRan, endedRan, hand}
+use Rattle.acting.proofs.Joining.{same-refusal}
 use Rattle.acting.proofs.ActLaws.{performed-as, acts-writes, settings-well, write-anywhere}
 use Rattle.acting.proofs.Sources.{worked-in}
-use Rattle.running.specs.Runs.{ActsAt, Ahead, Steps}
-use Rattle.stepping.specs.Stepping.{shortSettings}
-use Rattle.stepping.proofs.ItemLaws.{acts-begun}
+use Rattle.running.specs.Runs.{ActsAt, Ahead, Steps, Strides}
+use Rattle.running.proofs.Strides.{strides-none}
+use Rattle.stepping.specs.Stepping.{shortSettings, Unbegun, HeldUp}
+use Rattle.stepping.proofs.ItemLaws.{acts-begun, ended-is}
 
 in-number : (x : Setting) → NumberIn x → InPlace (number 0 4096) x
 in-number Absent h = tt
@@ -91,6 +94,31 @@ short-begun s n v first count level here i left at b f x y {p} {place} u a h z s
     ∙ settled v (hand first count i) f x y (spot .position) (spot .left) _ u
     ∙ write-anywhere v (spot .position) (spot .left) f d first count i (shortSettings x y) i on (sourceOf f false (shortSettings x y)))
     (w d refl refl))
+
+-- one that is refused has done nothing, and one for which no step is left is not refused for want of room
+module _ {p i left at : ℕ} {b e : List ℕ} {r : Ran} where
+  pub unbegun : {place : ℕ} (spot : Spot) → spot ≡ record { position = p; place = place; left = left - 1; at = at } → (left ≡ 0 → ⊥)
+      → Untouched spot i b e r → Unbegun p i left at b e r
+  unbegun spot o z u x q =
+      let w = subst (λ (y : Spot). Untouched y i b e r) o u .is 10 x q in
+      let l : r .left ≡ left - 1 = ap (λ (y : Ran). y .left) (w .0) in (
+        ap (λ (y : Ran). endedRan (y .next .0) (r .left + 1) (r .at) x) (w .0)
+            ∙ ended-is (omega arith) (ap (λ (y : Ran). y .at) (w .0)) (same-refusal q (ap (λ (y : Ran). y .stop) (w .0)) .1),
+        w .1,
+      )
+
+  pub unbegun-none : {x place : ℕ} → r ≡ refusedRan 9 x i left at place → Unbegun p i left at b e r
+  unbegun-none h x q =
+      let k : _≡_ {A = ℕ} 9 10 = same-refusal (ap (λ (y : Ran). y .stop) h) q .0 in
+      absurd (omega arith)
+
+-- so the run stands before it
+pub held-up : (s : ℕ → List Level) (n : ℕ) (v : View) (first count p i left at : ℕ) (b : List ℕ) {e : List ℕ} (r : Ran) → p ≤ n → at ≤ length b → i ≤ count
+    → Unbegun p i left at b e r → HeldUp s n v (hand first count) p i left at b e r
+held-up s n v first count p i left at b r h l k u x q level =
+    let w = u x q in
+    subst (λ (y : List ℕ). Strides s n v (hand first count) level p i left at b y (endedRan (r .next .0) (r .left + 1) (r .at) x)) (sym (w .1))
+    (strides-none s n v first count level p i left at b _ (w .0) h l k)
 
 -- the form g and the settings a and c are those that are read
 module _ (v : View) (k : Context) (i count : ℕ) (spot : Spot) (d : Directive) (b e : List ℕ) (r : Ran) where

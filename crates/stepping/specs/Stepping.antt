@@ -8,14 +8,14 @@ use lib.ListN.{length, getD}
 use Rattle.rules.specs.Directive.{FormRight}
 use Rattle.rules.specs.Run.{writeFrom}
 use Rattle.rules.specs.Table.{View, viewOf}
-use Rattle.rules.specs.Text.{levelsAt}
+use Rattle.rules.specs.Text.{Level, levelsAt}
 use Rattle.rules.specs.declared.Code.{Code}
 use Rattle.rules.specs.declared.Code.the-variants.{Writes, Jump, Escape, Opens, Separator, Closes, Unknown}
 use Rattle.acting.specs.declared.state.Ran.{Ran}
 use Rattle.acting.specs.declared.state.Spot.{Spot}
 use Rattle.acting.specs.declared.state.Stop.{Stop}
 use Rattle.acting.specs.declared.state.Stop.the-variants.{Ended, Left, Refused}
-use Rattle.rules.specs.Working.{sourceOf}
+use Rattle.rules.specs.Working.{Context, sourceOf}
 use Rattle.rules.specs.declared.Directive.{Directive}
 use Rattle.rules.specs.declared.Setting.{Setting}
 use Rattle.rules.specs.declared.Setting.the-variants.{Absent}
@@ -75,3 +75,15 @@ WritesShort t hand i kind detail number byte spot b e r =
 -- a directive stands at p that is not short
 abbrev pub NotShort : List ℕ → ℕ → Type 0
 NotShort t p = (getD t p 0 ≡ 126) × (shortAt t p ≡ Other)
+
+-- a directive at p that finds no room has done nothing: with its step back, all is as it was met
+abbrev pub Unbegun : ℕ → ℕ → ℕ → ℕ → List ℕ → List ℕ → Ran → Type 0
+Unbegun p i left at b e r =
+    (x : ℕ) → r .stop ≡ Refused 10 x → (endedRan (r .next .0) (r .left + 1) (r .at) x ≡ endedRan i left at p) × (e ≡ b)
+
+-- items from p on, where the directive at x finds no room: all before it is done, and the run stands before it. So it
+-- can go on from there in another buffer
+abbrev pub HeldUp : (ℕ → List Level) → ℕ → View → (ℕ → Context) → ℕ → ℕ → ℕ → ℕ → List ℕ → List ℕ → Ran → Type 0
+HeldUp s n v c p i left at b e r =
+    (x : ℕ) → r .stop ≡ Refused 10 x → (level : ℕ)
+    → Strides s n v c level p i left at b e (endedRan (r .next .0) (r .left + 1) (r .at) x)

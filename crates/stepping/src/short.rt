@@ -35,11 +35,12 @@ ghost use Rattle.rules.specs.Text.{Level, levelsAt};
 ghost use Rattle.rules.specs.declared.Item.the-variants.{Written};
 ghost use Rattle.reader.specs.Shorts.{settingOf, shortForm, shortAt, shortDirective, ShortIn};
 ghost use Rattle.reader.specs.declared.short.Short.the-variants.{Other};
-ghost use Rattle.acting.specs.declared.state.Stop.the-variants.{Ended};
+ghost use Rattle.acting.specs.Acting.{Untouched};
+ghost use Rattle.acting.specs.declared.state.Stop.the-variants.{Ended, Left};
 ghost use Rattle.working.specs.Settling.{InHand, handAt};
 ghost use Rattle.rules.specs.Directive.{FormRight};
 ghost use Rattle.running.specs.Runs.{ActsAt, Ahead, Steps, Strides};
-ghost use Rattle.stepping.specs.Stepping.{WritesShort, NotShort};
+ghost use Rattle.stepping.specs.Stepping.{WritesShort, NotShort, Unbegun, HeldUp};
 
 // A parameter as its setting, where none stands for one that is not written.
 fn setting_of(n: usize, none: usize) -> Setting
@@ -96,7 +97,8 @@ fn write_piece(
     requires { ⌜ InHand (now table) hand ⌝ }
     requires { ⌜ i .0 ≤ hand .count ⌝ }
     requires { ⌜ spot .at ≤ length (now out) ⌝ }
-    ensures { λ r. ⌜ WritesShort (now (table .entry)) hand (i .0) kind detail number byte spot (now (out .entry)) (now (out .exit)) r ⌝ }
+    ensures writes { λ r. ⌜ WritesShort (now (table .entry)) hand (i .0) kind detail number byte spot (now (out .entry)) (now (out .exit)) r ⌝ }
+    ensures untouched { λ r. ⌜ Untouched spot (i .0) (now (out .entry)) (now (out .exit)) r ⌝ }
 {
     let first = setting_of(number, NO_NUMBER);
     let second = setting_of(byte, NO_BYTE);
@@ -129,7 +131,8 @@ fn write_argument(
     requires { ⌜ InHand (now table) hand ⌝ }
     requires { ⌜ i .0 ≤ hand .count ⌝ }
     requires { ⌜ spot .at ≤ length (now out) ⌝ }
-    ensures { λ r. ⌜ WritesShort (now (table .entry)) hand (i .0) kind detail number byte spot (now (out .entry)) (now (out .exit)) r ⌝ }
+    ensures writes { λ r. ⌜ WritesShort (now (table .entry)) hand (i .0) kind detail number byte spot (now (out .entry)) (now (out .exit)) r ⌝ }
+    ensures untouched { λ r. ⌜ Untouched spot (i .0) (now (out .entry)) (now (out .exit)) r ⌝ }
 {
     let k = i.0;
     if hand.count <= k {
@@ -175,7 +178,9 @@ fn act_short(
     requires { ⌜ InHand (now table) hand ⌝ }
     requires { ⌜ next .0 ≤ hand .count ⌝ }
     requires { ⌜ at ≤ length (now out) ⌝ }
-    ensures { λ r. ⌜ ((s : ℕ → List Level) (n level here : ℕ) → ActsAt s here p (Written (shortDirective (shortForm kind detail) (settingOf 4097 number) (settingOf 256 byte) place)) place → Ahead n here place → Steps s n (viewOf (now (table .entry))) (handAt hand) level here (next .0) left at (now (out .entry)) (now (out .exit)) r) ⌝ }
+    ensures steps { λ r. ⌜ ((s : ℕ → List Level) (n level here : ℕ) → ActsAt s here p (Written (shortDirective (shortForm kind detail) (settingOf 4097 number) (settingOf 256 byte) place)) place → Ahead n here place → Steps s n (viewOf (now (table .entry))) (handAt hand) level here (next .0) left at (now (out .entry)) (now (out .exit)) r) ⌝ }
+    ensures held { λ r. ⌜ Unbegun p (next .0) left at (now (out .entry)) (now (out .exit)) r ⌝ }
+    ensures stays { λ r. ⌜ (r .stop ≡ Left → ⊥) ⌝ }
 {
     let met = Spot {
         position: p,
@@ -210,6 +215,8 @@ fn run_one(
     requires { ⌜ at ≤ length (now out) ⌝ }
     ensures strides { λ r. ⌜ ((level : ℕ) → Strides (levelsAt (now (text .entry))) (length (now (text .entry))) (viewOf (now (table .entry))) (handAt hand) level p (next .0) left at (now (out .entry)) (now (out .exit)) r) ⌝ }
     ensures other { λ r. ⌜ (r .stop ≡ Ended → r .place ≡ p → (shortAt (now (text .entry)) p ≡ Other) × ((r .left ≡ left) × (r .at ≡ at))) ⌝ }
+    ensures held { λ r. ⌜ HeldUp (levelsAt (now (text .entry))) (length (now (text .entry))) (viewOf (now (table .entry))) (handAt hand) p (next .0) left at (now (out .entry)) (now (out .exit)) r ⌝ }
+    ensures stays { λ r. ⌜ (r .stop ≡ Left → ⊥) ⌝ }
 {
     let short = read_short(text, p);
     match short {
@@ -260,6 +267,8 @@ pub fn run_short(
     requires { ⌜ from ≤ length (now out) ⌝ }
     ensures strides { λ r. ⌜ ((level : ℕ) → Strides (levelsAt (now (text .entry))) (length (now (text .entry))) (viewOf (now (table .entry))) (handAt hand) level start (first .0) most from (now (out .entry)) (now (out .exit)) r) ⌝ }
     ensures all { λ r. ⌜ (r .stop ≡ Ended → 0 < r .left → r .place < length (now (text .entry)) → r .at < length (now (out .entry)) → NotShort (now (text .entry)) (r .place)) ⌝ }
+    ensures held { λ r. ⌜ HeldUp (levelsAt (now (text .entry))) (length (now (text .entry))) (viewOf (now (table .entry))) (handAt hand) start (first .0) most from (now (out .entry)) (now (out .exit)) r ⌝ }
+    ensures stays { λ r. ⌜ (r .stop ≡ Left → ⊥) ⌝ }
 {
     let mut p = start;
     let mut next = first;

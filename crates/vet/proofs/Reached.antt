@@ -3,11 +3,11 @@ use Prim.Native.Nat.{ℕ, _+_, _-_, _≤_}
 use mathlib.Core.List.{List, [], _∷_, _++_}
 use native.Mathlib.Omega.{arith}
 use lib.ListN.{length, length-append}
-use Rattle.rules.specs.Flow.{Flow, put}
+use Rattle.rules.specs.Flow.{Flow, put, Stretch, still, onward}
 use Rattle.rules.specs.Run.{Frame, conditional, run}
 use Rattle.rules.specs.Table.{View}
 use Rattle.rules.specs.Text.{Sequence, end, deepest}
-use Rattle.rules.proofs.FlowLaws.{Stretch, still, onward, stretch-join}
+use Rattle.rules.proofs.FlowLaws.{stretch-join}
 use Rattle.rules.proofs.RunLaws.{run-clause-end}
 use Rattle.vet.specs.Use.{inHand}
 use Rattle.vet.specs.Ways.{wayOf}

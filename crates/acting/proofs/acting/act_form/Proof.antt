@@ -46,7 +46,7 @@ returns c =
     (λ on. acts-writes v (a .spot .position) (a .spot .left) (a .d) (handAt (a .hand) (a .next .0)) on (a .form) (c .before .before .before .before .before .before .before .before .before .before .before .before .pre .0)
     ∙ run-settled (c .before .before .before .before .before .before .before .settle-directive .ensures) well (a .spot .position) (a .spot .left) _ (c .before .before .before .before .before .settled .given .1)
     ∙ write-anywhere v (a .spot .position) (a .spot .left) (a .form) (a .d) (a .hand .first .0) (a .hand .count) (a .next .0) ((c .before .before .before .before .before .settled .given .0 .0)) ((c .before .before .before .before .before .settled .given .0 .1 .0 .0)) on (sourceOf (a .form) (a .d .colon) ((c .before .before .before .before .before .settled .given .0 .0))))
-    ((c .before .before .write-form .ensures) (a .d) refl refl)
+    ((c .before .before .write-form .ensures .0) (a .d) refl refl)
 
 returns-2 : tie.Need-returns-2
 returns-2 c =

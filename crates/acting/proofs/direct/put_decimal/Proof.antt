@@ -15,6 +15,7 @@ use mir.ValLaws.{toZ-ofZ}
 use Rattle.rules.specs.Number.{digitsOf, magnitudeOf, signOf, padLeft}
 use Rattle.acting.proofs.Buffer.{Put}
 use Rattle.acting.proofs.DirectLaws.{direct-put, direct-full, sign-put, sign-none, Counted, counted, decimal-length, pad-put, signed-put, decimal-put}
+use Rattle.acting.proofs.ActLaws.{untouched-on, untouched-refused}
 use Rattle.acting.proofs.direct.put_decimal.Statement.{statement}
 use Rattle.acting.proofs.direct.put_decimal.Tie as tie
 
@@ -121,19 +122,23 @@ same-length c = all (c .before .before .before .before .before) _ (c .before .be
 
 returns : tie.Need-returns
 returns c =
-    let a = c .before .before .before .before .before .before .before .before .before .before .before .before .before .before .before .before .args in
-    λ count k l. direct-put (a .spot) (a .next .0) count (c .before .before .before .before .before .before .before .before .before .before .before .larger .result) (a .out .now) _
-    (decimal-length (a .width) (a .pad) (counted-at (c .before .before .before .before .before .before .before .before .before .before .before))) _ (c .go-on .ensures)
-    (all (c .before .before .before .before .before) _ (c .before .before .before .fill-decimal .ensures)) l
+    let a = c .before .before .before .before .before .before .before .before .before .before .before .before .before .before .before .before .args in (
+      λ count k l. direct-put (a .spot) (a .next .0) count (c .before .before .before .before .before .before .before .before .before .before .before .larger .result) (a .out .now) _
+          (decimal-length (a .width) (a .pad) (counted-at (c .before .before .before .before .before .before .before .before .before .before .before))) _ (c .go-on .ensures)
+          (all (c .before .before .before .before .before) _ (c .before .before .before .fill-decimal .ensures)) l,
+      untouched-on _ (c .go-on .ensures),
+    )
 
 refuse-requires : tie.Need-refuse-requires
 refuse-requires c κs = search needs
 
 returns-2 : tie.Need-returns-2
 returns-2 c =
-    let a = c .before .before .before .before .before .before .before .args in
-    λ count k l. direct-full (a .spot) (a .next .0) count (c .before .before .larger .result) (a .out .now) _
-    (decimal-length (a .width) (a .pad) (counted-at (c .before .before))) _ (a .before .0) (c .refuse .ensures) (c .before .before .before .before .before .before .before .pre) (c .before .if1 .left) k
+    let a = c .before .before .before .before .before .before .before .args in (
+      λ count k l. direct-full (a .spot) (a .next .0) count (c .before .before .larger .result) (a .out .now) _
+          (decimal-length (a .width) (a .pad) (counted-at (c .before .before))) _ (a .before .0) (c .refuse .ensures) (c .before .before .before .before .before .before .before .pre) (c .before .if1 .left) k,
+      untouched-refused _ 10 (c .refuse .ensures),
+    )
 
 pub put-decimal-spec : {M : Type 1} → statement M
 put-decimal-spec =

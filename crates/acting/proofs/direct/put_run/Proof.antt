@@ -3,6 +3,7 @@ use mathlib.Core.Path.{sym}
 use borrow.Author.Needs.{needs}
 use lib.ListN.{replicate, length-replicate}
 use Rattle.acting.proofs.DirectLaws.{direct-put, direct-full, run-put}
+use Rattle.acting.proofs.ActLaws.{untouched-on, untouched-refused}
 use Rattle.acting.proofs.direct.put_run.Statement.{statement}
 use Rattle.acting.proofs.direct.put_run.Tie as tie
 
@@ -33,9 +34,11 @@ same-length c = search needs
 returns : tie.Need-returns
 returns c =
     let start = c .before .before .before .before .before .before .before in
-    let a = start .args in
-    λ count k. direct-put (a .spot) (a .next .0) count (a .n) (a .out .now) (replicate (a .n) (a .byte)) (sym (length-replicate (a .n) (a .byte))) _ (c .go-on .ensures)
-    (run-put (a .out .now) (a .spot .at) (a .n) (a .byte) _ (start .pre) (c .before .before .before .before .before .if1 .taken) (c .before .before .before .fill .ensures)) k
+    let a = start .args in (
+      λ count k. direct-put (a .spot) (a .next .0) count (a .n) (a .out .now) (replicate (a .n) (a .byte)) (sym (length-replicate (a .n) (a .byte))) _ (c .go-on .ensures)
+          (run-put (a .out .now) (a .spot .at) (a .n) (a .byte) _ (start .pre) (c .before .before .before .before .before .if1 .taken) (c .before .before .before .fill .ensures)) k,
+      untouched-on _ (c .go-on .ensures),
+    )
 
 refuse-requires : tie.Need-refuse-requires
 refuse-requires c κs = search needs
@@ -43,8 +46,10 @@ refuse-requires c κs = search needs
 returns-2 : tie.Need-returns-2
 returns-2 c =
     let start = c .before .before .before in
-    let a = start .args in
-    λ count k. direct-full (a .spot) (a .next .0) count (a .n) (a .out .now) (replicate (a .n) (a .byte)) (sym (length-replicate (a .n) (a .byte))) _ (a .next .0) (c .refuse .ensures) (start .pre) (c .before .if1 .left) k
+    let a = start .args in (
+      λ count k. direct-full (a .spot) (a .next .0) count (a .n) (a .out .now) (replicate (a .n) (a .byte)) (sym (length-replicate (a .n) (a .byte))) _ (a .next .0) (c .refuse .ensures) (start .pre) (c .before .if1 .left) k,
+      untouched-refused _ 10 (c .refuse .ensures),
+    )
 
 pub put-run-spec : {M : Type 1} → statement M
 put-run-spec =

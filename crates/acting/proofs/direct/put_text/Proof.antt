@@ -2,6 +2,7 @@
 -- Assumes nothing.
 use borrow.Author.Needs.{needs}
 use Rattle.acting.proofs.DirectLaws.{direct-put, direct-full, text-length, text-put}
+use Rattle.acting.proofs.ActLaws.{untouched-on, untouched-refused}
 use Rattle.acting.proofs.direct.put_text.Statement.{statement}
 use Rattle.acting.proofs.direct.put_text.Tie as tie
 
@@ -64,9 +65,11 @@ returns c =
     let start = c .before .before .before .before .before .before .before .before .before .before .before .before .before .before in
     let a = start .args in
     let n = c .before .before .before .before .before .before .before .before .before .before .before .larger .result in
-    let q = c .before .before .before .before .before .before .before .before .before .before .before .larger .ensures in
-    λ count k l. direct-put (a .spot) (a .next .0) count n (a .out .now) _ (text-length (start .pre .0) (a .width) n q) _ (c .go-on .ensures)
-    (text-put (start .pre .0) (a .width) n q (a .out .now) (a .spot .at) _ _ (start .pre .1) (c .before .before .before .before .before .before .before .before .before .before .if1 .taken) (c .before .before .before .before .before .before .before .copy-part .ensures) (c .before .before .before .fill .ensures)) l
+    let q = c .before .before .before .before .before .before .before .before .before .before .before .larger .ensures in (
+      λ count k l. direct-put (a .spot) (a .next .0) count n (a .out .now) _ (text-length (start .pre .0) (a .width) n q) _ (c .go-on .ensures)
+          (text-put (start .pre .0) (a .width) n q (a .out .now) (a .spot .at) _ _ (start .pre .1) (c .before .before .before .before .before .before .before .before .before .before .if1 .taken) (c .before .before .before .before .before .before .before .copy-part .ensures) (c .before .before .before .fill .ensures)) l,
+      untouched-on _ (c .go-on .ensures),
+    )
 
 refuse-requires : tie.Need-refuse-requires
 refuse-requires c κs = search needs
@@ -76,8 +79,10 @@ returns-2 c =
     let start = c .before .before .before .before .before in
     let a = start .args in
     let n = c .before .before .larger .result in
-    let q = c .before .before .larger .ensures in
-    λ count k l. direct-full (a .spot) (a .next .0) count n (a .out .now) _ (text-length (start .pre .0) (a .width) n q) _ (a .before .0) (c .refuse .ensures) (start .pre .1) (c .before .if1 .left) k
+    let q = c .before .before .larger .ensures in (
+      λ count k l. direct-full (a .spot) (a .next .0) count n (a .out .now) _ (text-length (start .pre .0) (a .width) n q) _ (a .before .0) (c .refuse .ensures) (start .pre .1) (c .before .if1 .left) k,
+      untouched-refused _ 10 (c .refuse .ensures),
+    )
 
 pub put-text-spec : {M : Type 1} → statement M
 put-text-spec =

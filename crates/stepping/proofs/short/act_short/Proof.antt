@@ -1,13 +1,14 @@
 -- A short directive acts as 01 has it. Assumes nothing.
-use Rattle.reader.specs.Shorts.{settingOf, shortForm}
+use Rattle.reader.specs.Shorts.{settingOf, shortForm, shortDirective}
 use borrow.Author.Needs.{needs}
 use mathlib.Core.Path.{refl, sym}
 use Rattle.working.specs.Settling.{handAt}
 use Rattle.stepping.specs.Stepping.{shortSettings}
 use Rattle.rules.specs.Table.{viewOf}
+use Rattle.acting.proofs.ActLaws.{refused-stays, performed-stays}
 use Rattle.acting.proofs.DirectLaws.{run-written}
 use Rattle.stepping.proofs.ItemLaws.{acts-none, begun-inside}
-use Rattle.stepping.proofs.ShortRuns.{writes-as, short-begun, repeat-form}
+use Rattle.stepping.proofs.ShortRuns.{writes-as, short-begun, repeat-form, unbegun, unbegun-none}
 use native.Mathlib.Omega.{arith}
 use Rattle.stepping.proofs.short.act_short.Statement.{statement}
 use Rattle.stepping.proofs.short.act_short.Tie as tie
@@ -16,7 +17,10 @@ refuse-requires : tie.Need-refuse-requires
 refuse-requires c κs = search needs
 
 returns : tie.Need-returns
-returns c = let a = c .before .before .before .before .args in λ s n level here e _. acts-none s n (viewOf (a .table .now)) (a .hand .first .0) (a .hand .count) level here (a .next .0) (a .left) (a .at) (a .out .now) e _ (c .before .if1 .taken) (c .refuse .ensures) (c .before .before .before .before .pre .1 .1 .1 .1) (c .before .before .before .before .pre .1 .1 .1 .0)
+returns c = let a = c .before .before .before .before .args in (
+  λ s n level here e _. acts-none s n (viewOf (a .table .now)) (a .hand .first .0) (a .hand .count) level here (a .next .0) (a .left) (a .at) (a .out .now) e _ (c .before .if1 .taken) (c .refuse .ensures) (c .before .before .before .before .pre .1 .1 .1 .1) (c .before .before .before .before .pre .1 .1 .1 .0),
+  (unbegun-none (c .refuse .ensures), refused-stays (c .refuse .ensures)),
+)
 
 begin-requires : tie.Need-begin-requires
 begin-requires c κs = search needs
@@ -31,7 +35,13 @@ same-length : tie.Need-same-length
 same-length c = search needs
 
 returns-2 : tie.Need-returns-2
-returns-2 c = let a = c .before .before .before .before .before .before .before .before .before .before .args in let st = shortSettings (settingOf 4097 (a .number)) (settingOf 256 (a .byte)) in λ s n level here e h. short-begun s n (viewOf (a .table .now)) (a .hand .first .0) (a .hand .count) level here (a .next .0) (a .left) (a .at) (a .out .now) (shortForm (a .kind) (a .detail)) (settingOf 4097 (a .number)) (settingOf 256 (a .byte)) (c .before .before .before .before .before .before .before .before .before .before .pre .1 .0) e h (c .before .before .before .before .before .before .before .if1 .left) _ (c .before .before .before .before .before .before .begin .ensures) (λ d q w. writes-as (viewOf (a .table .now)) (handAt (a .hand) 0) (a .next .0) (a .hand .count) _ d _ _ _ {x = settingOf 4097 (a .number)} {y = settingOf 256 (a .byte)} (sym (repeat-form (a .kind) (a .detail) (omega (arith, c .before .before .before .before .before .if2 .taken)))) refl refl (run-written (a .table .now) (a .hand) st _ (a .next .0) d (a .detail) _ (c .before .before .before .before .number-or .ensures) ((c .before .before .put-run .ensures) (a .hand .count) (c .before .before .before .before .before .before .before .before .before .before .pre .1 .1 .1 .0))))
+returns-2 c = let a = c .before .before .before .before .before .before .before .before .before .before .args in let st = shortSettings (settingOf 4097 (a .number)) (settingOf 256 (a .byte)) in (
+  λ s n level here e h. short-begun s n (viewOf (a .table .now)) (a .hand .first .0) (a .hand .count) level here (a .next .0) (a .left) (a .at) (a .out .now) (shortForm (a .kind) (a .detail)) (settingOf 4097 (a .number)) (settingOf 256 (a .byte)) (c .before .before .before .before .before .before .before .before .before .before .pre .1 .0) e h (c .before .before .before .before .before .before .before .if1 .left) _ (c .before .before .before .before .before .before .begin .ensures) (λ d q w. writes-as (viewOf (a .table .now)) (handAt (a .hand) 0) (a .next .0) (a .hand .count) _ d _ _ _ {x = settingOf 4097 (a .number)} {y = settingOf 256 (a .byte)} (sym (repeat-form (a .kind) (a .detail) (omega (arith, c .before .before .before .before .before .if2 .taken)))) refl refl (run-written (a .table .now) (a .hand) st _ (a .next .0) d (a .detail) _ (c .before .before .before .before .number-or .ensures) ((c .before .before .put-run .ensures .0) (a .hand .count) (c .before .before .before .before .before .before .before .before .before .before .pre .1 .1 .1 .0)))),
+  (
+    unbegun _ (c .before .before .before .before .before .before .begin .ensures) (c .before .before .before .before .before .before .before .if1 .left) (c .before .before .put-run .ensures .1),
+    performed-stays ((c .before .before .put-run .ensures .0) (a .hand .count) (c .before .before .before .before .before .before .before .before .before .before .pre .1 .1 .1 .0)),
+  ),
+)
 
 write-argument-requires : tie.Need-write-argument-requires
 write-argument-requires c κs = let pre = c .before .before .before .before .before .before .pre in (pre .0, (pre .1 .0, (omega (arith, c .before .if2 .left), (pre .1 .1 .0, (pre .1 .1 .1 .0, begun-inside _ _ (c .before .before .before .before .before .before .args .out .now) (c .before .before .begin .ensures) (pre .1 .1 .1 .1))))))
@@ -40,7 +50,13 @@ same-length-2 : tie.Need-same-length-2
 same-length-2 c = search needs
 
 returns-3 : tie.Need-returns-3
-returns-3 c = let a = c .before .before .before .before .before .before .before .before .before .args in λ s n level here e h. short-begun s n (viewOf (a .table .now)) (a .hand .first .0) (a .hand .count) level here (a .next .0) (a .left) (a .at) (a .out .now) (shortForm (a .kind) (a .detail)) (settingOf 4097 (a .number)) (settingOf 256 (a .byte)) (c .before .before .before .before .before .before .before .before .before .pre .1 .0) e h (c .before .before .before .before .before .before .if1 .left) _ (c .before .before .before .before .before .begin .ensures) (c .before .before .write-argument .ensures)
+returns-3 c = let a = c .before .before .before .before .before .before .before .before .before .args in (
+  λ s n level here e h. short-begun s n (viewOf (a .table .now)) (a .hand .first .0) (a .hand .count) level here (a .next .0) (a .left) (a .at) (a .out .now) (shortForm (a .kind) (a .detail)) (settingOf 4097 (a .number)) (settingOf 256 (a .byte)) (c .before .before .before .before .before .before .before .before .before .pre .1 .0) e h (c .before .before .before .before .before .before .if1 .left) _ (c .before .before .before .before .before .begin .ensures) (c .before .before .write-argument .ensures .0),
+  (
+    unbegun _ (c .before .before .before .before .before .begin .ensures) (c .before .before .before .before .before .before .if1 .left) (c .before .before .write-argument .ensures .1),
+    performed-stays ((c .before .before .write-argument .ensures .0) (shortDirective (shortForm (a .kind) (a .detail)) (settingOf 4097 (a .number)) (settingOf 256 (a .byte)) (a .place)) refl refl),
+  ),
+)
 
 pub act-short-spec : {M : Type 1} → statement M
 act-short-spec =

@@ -8,7 +8,9 @@ use Rattle.rules.specs.Text.{levelsAt}
 use Rattle.reader.specs.Shorts.{ShortAt}
 use Rattle.rules.proofs.Bases.{code-right}
 use Rattle.running.proofs.Places.{writes-at, directive-ahead}
+use Rattle.acting.proofs.Joining.{no-end, no-end-left}
 use Rattle.running.proofs.Strides.{strides, strides-none}
+use Rattle.stepping.proofs.ShortRuns.{held-up}
 use Rattle.stepping.proofs.short.run_one.Statement.{statement}
 use Rattle.stepping.proofs.short.run_one.Tie as tie
 
@@ -31,27 +33,34 @@ returns : tie.Need-returns
 returns c =
     let a = (c .before .before .before .before .before .before .args) in (
       λ level. strides-none (levelsAt (a .text .now)) (length (a .text .now)) (viewOf (a .table .now)) (a .hand .first .0) (a .hand .count) level (a .p) (a .next .0) (a .left) (a .at) (a .out .now) _ refl (c .before .before .before .before .before .before .pre .1 .1 .0) (c .before .before .before .before .before .before .pre .1 .1 .1) (c .before .before .before .before .before .before .pre .1 .0),
-      λ _ _. (sym (c .before .before .read-short .ensures .is) ∙ c .enum-told .given .1, (refl, refl)),
+      (λ _ _. (sym (c .before .before .read-short .ensures .is) ∙ c .enum-told .given .1, (refl, refl)), (λ x q. absurd (no-end q refl), λ q. no-end-left q refl)),
     )
 
 same-length : tie.Need-same-length
 same-length c =
     let a = (c .before .before .before .before .before .before .before .before .before .before .before .args) in
     let u = subst (ShortAt (a .text .now) (a .p)) (c .before .before .before .before .before .short .given .1) (c .before .before .before .before .before .before .before .read-short .ensures .means) in
-    let one = (c .before .before .act-short .ensures) (levelsAt (a .text .now)) (length (a .text .now)) in
+    let one = (c .before .before .act-short .ensures .0) (levelsAt (a .text .now)) (length (a .text .now)) in
     let here = writes-at (a .text .now) (a .p) _ (u .item) _ refl in
     let on = directive-ahead (a .text .now) (a .p) _ (u .item) in
     (one 0 (a .p) here on) .does .size
 
 returns-2 : tie.Need-returns-2
 returns-2 c =
-    let a = (c .before .before .before .before .before .before .before .before .before .before .before .args) in
+    let start = c .before .before .before .before .before .before .before .before .before .before .before in
+    let a = start .args in
     let u = subst (ShortAt (a .text .now) (a .p)) (c .before .before .before .before .before .short .given .1) (c .before .before .before .before .before .before .before .read-short .ensures .means) in
-    let one = (c .before .before .act-short .ensures) (levelsAt (a .text .now)) (length (a .text .now)) in
+    let one = (c .before .before .act-short .ensures .0) (levelsAt (a .text .now)) (length (a .text .now)) in
     let here = writes-at (a .text .now) (a .p) _ (u .item) _ refl in
     let on = directive-ahead (a .text .now) (a .p) _ (u .item) in (
       λ level. strides (levelsAt (a .text .now)) (length (a .text .now)) (viewOf (a .table .now)) (a .hand .first .0) (a .hand .count) level (a .p) (a .next .0) (a .left) (a .at) (a .out .now) (one level (a .p) here on),
-      λ h q. absurd (omega (arith, q, (one 0 (a .p) here on) .least h)),
+      (
+        λ h q. absurd (omega (arith, q, (one 0 (a .p) here on) .least h)),
+        (
+          held-up (levelsAt (a .text .now)) (length (a .text .now)) (viewOf (a .table .now)) (a .hand .first .0) (a .hand .count) (a .p) (a .next .0) (a .left) (a .at) (a .out .now) (c .before .before .act-short .result) (start .pre .1 .1 .0) (start .pre .1 .1 .1) (start .pre .1 .0) (c .before .before .act-short .ensures .1 .0),
+          c .before .before .act-short .ensures .1 .1,
+        ),
+      ),
     )
 
 pub run-one-spec : {M : Type 1} → statement M

@@ -77,7 +77,10 @@ returns c =
     let puts = (c .before .before .before .before .before .before .before .before .put-literals .ensures .0 .runs) v (a .hand .first .0) (a .hand .count) in
     let one = (c .before .before .before .before .run-one .ensures .0) in (
       (l .inv .0 .ends) _ _ (λ level. strides-on s n v (a .hand .first .0) (a .hand .count) level (l .p) (l .next .0) (l .left) (l .at) (l .out) (puts level (l .next .0) (l .inv .0 .inside)) refl (one level)),
-      λ h. absurd (not-both-ways (ap isEnded h) (sym (c .before .is-ended .ensures) ∙ not-true _ (c .if1 .taken))),
+      (
+        λ h. absurd (not-both-ways (ap isEnded h) (sym (c .before .is-ended .ensures) ∙ not-true _ (c .if1 .taken))),
+        (λ x q. (l .inv .0 .ends) _ _ (λ level. strides-on s n v (a .hand .first .0) (a .hand .count) level (l .p) (l .next .0) (l .left) (l .at) (l .out) (puts level (l .next .0) (l .inv .0 .inside)) refl ((c .before .before .before .before .run-one .ensures .1 .1 .0) x q level)), c .before .before .before .before .run-one .ensures .1 .1 .1),
+      ),
     )
 
 same-length-2 : tie.Need-same-length-2 Inv-loop μ-loop
@@ -101,10 +104,13 @@ returns-2 c =
     let puts = (c .before .before .before .before .before .before .before .before .before .before .put-literals .ensures .0 .runs) v (a .hand .first .0) (a .hand .count) in
     let one = (c .before .before .before .before .before .before .run-one .ensures .0) in (
       (l .inv .0 .ends) _ _ (λ level. strides-on s n v (a .hand .first .0) (a .hand .count) level (l .p) (l .next .0) (l .left) (l .at) (l .out) (puts level (l .next .0) (l .inv .0 .inside)) refl (one level)),
-      λ h m q o.
-          let other = (c .before .before .before .before .before .before .run-one .ensures .1) h (c .if2 .taken) in
-          let there = (c .before .before .before .before .before .before .before .before .before .before .put-literals .ensures .1) (omega (arith, m, other .1 .0)) (omega (arith, q, c .if2 .taken)) (omega (arith, o, other .1 .1, l .inv .0 .size)) in
-          (subst (λ (p : ℕ). getD (a .text .now) p 0 ≡ 126) (sym (c .if2 .taken)) there, subst (λ (p : ℕ). shortAt (a .text .now) p ≡ Other) (sym (c .if2 .taken)) (other .0)),
+      (
+        λ h m q o.
+            let other = (c .before .before .before .before .before .before .run-one .ensures .1 .0) h (c .if2 .taken) in
+            let there = (c .before .before .before .before .before .before .before .before .before .before .put-literals .ensures .1) (omega (arith, m, other .1 .0)) (omega (arith, q, c .if2 .taken)) (omega (arith, o, other .1 .1, l .inv .0 .size)) in
+            (subst (λ (p : ℕ). getD (a .text .now) p 0 ≡ 126) (sym (c .if2 .taken)) there, subst (λ (p : ℕ). shortAt (a .text .now) p ≡ Other) (sym (c .if2 .taken)) (other .0)),
+        (λ x q. (l .inv .0 .ends) _ _ (λ level. strides-on s n v (a .hand .first .0) (a .hand .count) level (l .p) (l .next .0) (l .left) (l .at) (l .out) (puts level (l .next .0) (l .inv .0 .inside)) refl ((c .before .before .before .before .before .before .run-one .ensures .1 .1 .0) x q level)), c .before .before .before .before .before .before .run-one .ensures .1 .1 .1),
+      ),
     )
 
 loop-less : tie.Need-loop-less Inv-loop μ-loop

@@ -4,7 +4,7 @@ use mir.Syntax.{w64}
 use borrow.Author.Needs.{needs}
 use Rattle.reader.specs.Shorts.{settingOf}
 use Rattle.working.specs.Settling.{handAt}
-use Rattle.acting.proofs.ActLaws.{performed-refused}
+use Rattle.acting.proofs.ActLaws.{performed-refused, untouched-refused}
 use Rattle.rules.specs.Table.{viewOf}
 use Rattle.stepping.specs.Stepping.{shortSettings}
 use native.Mathlib.Omega.{arith}
@@ -18,7 +18,10 @@ refuse-requires : tie.Need-refuse-requires
 refuse-requires c κs = search needs
 
 returns : tie.Need-returns
-returns c = let a = c .before .before .before .before .before .args in let s = shortSettings (settingOf 4097 (a .number)) (settingOf 256 (a .byte)) in λ d q w. performed-refused _ 6 (a .i .0) (c .refuse .ensures) (λ on. own-none (viewOf (a .table .now)) (handAt (a .hand) 0) (a .i .0) (a .spot .position) (a .spot .left) (a .kind) (a .detail) s d on (c .before .before .before .before .before .pre .1 .1 .0) (c .before .if1 .taken)) (c .before .before .before .before .before .pre .1 .1 .1 .1 .1) (c .before .before .before .before .before .pre .1 .1 .1 .1 .0)
+returns c = let a = c .before .before .before .before .before .args in let s = shortSettings (settingOf 4097 (a .number)) (settingOf 256 (a .byte)) in (
+  λ d q w. performed-refused _ 6 (a .i .0) (c .refuse .ensures) (λ on. own-none (viewOf (a .table .now)) (handAt (a .hand) 0) (a .i .0) (a .spot .position) (a .spot .left) (a .kind) (a .detail) s d on (c .before .before .before .before .before .pre .1 .1 .0) (c .before .if1 .taken)) (c .before .before .before .before .before .pre .1 .1 .1 .1 .1) (c .before .before .before .before .before .pre .1 .1 .1 .1 .0),
+  untouched-refused _ 6 (c .refuse .ensures),
+)
 
 argument-at-requires : tie.Need-argument-at-requires
 argument-at-requires c κs = search needs
@@ -42,7 +45,10 @@ same-length : tie.Need-same-length
 same-length c = search needs
 
 returns-2 : tie.Need-returns-2
-returns-2 c = let a = c .before .before .before .before .before .before .before .before .before .before .before .before .before .before .before .args in let s = shortSettings (settingOf 4097 (a .number)) (settingOf 256 (a .byte)) in let x = c .before .before .before .before .before .before .before .argument .given .1 in let l = c .before .before .before .before .before .before .before .before .before .before .before .if1 .left in let e = object-form (a .kind) (a .detail) (sym (c .before .before .before .before .before .is-both .ensures) ∙ c .before .before .before .before .if2 .taken) in λ d q w. writes-as (viewOf (a .table .now)) (handAt (a .hand) 0) (a .i .0) (a .hand .count) (a .spot) d _ _ _ {x = settingOf 4097 (a .number)} {y = settingOf 256 (a .byte)} (sym e) refl refl (text-written (a .table .now) (a .hand) s (a .spot) (a .i .0) d (c .before .before .before .before .before .before .before .before .before .before .argument-at .result) l (c .before .before .before .before .before .before .before .before .before .before .argument-at .ensures .1) _ _ (c .before .before .before .before .before .before .before .before .before .number-or .result) x (string-held x (c .before .before .before .before .before .before .before .before .before .before .argument-at .ensures .0)) w (object-alone (a .kind) (a .detail) (settingOf 4097 (a .number)) (settingOf 256 (a .byte)) e (c .before .before .before .before .before .before .before .before .before .before .before .before .before .before .before .pre .1 .0)) refl refl (c .before .before .before .before .before .before .before .before .before .number-or .ensures) ((c .before .before .put-text .ensures) (a .hand .count) (omega (arith, l)) (omega (arith, l))))
+returns-2 c = let a = c .before .before .before .before .before .before .before .before .before .before .before .before .before .before .before .args in let s = shortSettings (settingOf 4097 (a .number)) (settingOf 256 (a .byte)) in let x = c .before .before .before .before .before .before .before .argument .given .1 in let l = c .before .before .before .before .before .before .before .before .before .before .before .if1 .left in let e = object-form (a .kind) (a .detail) (sym (c .before .before .before .before .before .is-both .ensures) ∙ c .before .before .before .before .if2 .taken) in (
+  λ d q w. writes-as (viewOf (a .table .now)) (handAt (a .hand) 0) (a .i .0) (a .hand .count) (a .spot) d _ _ _ {x = settingOf 4097 (a .number)} {y = settingOf 256 (a .byte)} (sym e) refl refl (text-written (a .table .now) (a .hand) s (a .spot) (a .i .0) d (c .before .before .before .before .before .before .before .before .before .before .argument-at .result) l (c .before .before .before .before .before .before .before .before .before .before .argument-at .ensures .1) _ _ (c .before .before .before .before .before .before .before .before .before .number-or .result) x (string-held x (c .before .before .before .before .before .before .before .before .before .before .argument-at .ensures .0)) w (object-alone (a .kind) (a .detail) (settingOf 4097 (a .number)) (settingOf 256 (a .byte)) e (c .before .before .before .before .before .before .before .before .before .before .before .before .before .before .before .pre .1 .0)) refl refl (c .before .before .before .before .before .before .before .before .before .number-or .ensures) ((c .before .before .put-text .ensures .0) (a .hand .count) (omega (arith, l)) (omega (arith, l)))),
+  c .before .before .put-text .ensures .1,
+)
 
 write-piece-requires : tie.Need-write-piece-requires
 write-piece-requires c κs = (c .before .before .before .before .before .before .before .before .before .before .before .before .pre .0, (c .before .before .before .before .before .before .before .before .before .before .before .before .pre .1 .0, (c .before .before .before .before .before .before .before .before .before .before .before .before .pre .1 .1 .1 .0, (c .before .before .before .before .before .before .before .before .before .before .before .before .pre .1 .1 .1 .1 .0, c .before .before .before .before .before .before .before .before .before .before .before .before .pre .1 .1 .1 .1 .1))))
@@ -63,7 +69,10 @@ same-length-2 : tie.Need-same-length-2
 same-length-2 c = search needs
 
 returns-3 : tie.Need-returns-3
-returns-3 c = let a = c .before .before .before .before .before .before .before .before .before .before .before .before .before .before .before .before .args in let s = shortSettings (settingOf 4097 (a .number)) (settingOf 256 (a .byte)) in let l = c .before .before .before .before .before .before .before .before .before .before .before .before .if1 .left in let e = decimal-form (a .kind) (a .detail) (sym (c .before .before .before .before .before .before .is-both2 .ensures) ∙ c .before .before .before .before .before .if3 .taken) in let back = toZ-ofZ w64 (c .before .before .before .before .before .before .before .before .argument2 .given .0 .0) (record { sfits = c .before .before .before .before .before .before .before .known-told2 .given .0 .1 }) in λ d q w. writes-as (viewOf (a .table .now)) (handAt (a .hand) 0) (a .i .0) (a .hand .count) (a .spot) d _ _ _ {x = settingOf 4097 (a .number)} {y = settingOf 256 (a .byte)} (sym e) refl refl (decimal-written (a .table .now) (a .hand) s (a .spot) (a .i .0) d (c .before .before .before .before .before .before .before .before .before .before .before .argument-at .result) l (c .before .before .before .before .before .before .before .before .before .before .before .argument-at .ensures .1) _ _ (c .before .before .before .before .before .before .before .before .before .before .number-or .result) (c .before .before .before .before .pad-or .result) (c .before .before .before .before .before .before .before .before .argument2 .given .1) back q w (c .before .before .before .before .before .before .before .before .before .before .number-or .ensures) (c .before .before .before .before .pad-or .ensures) ((c .before .before .put-decimal .ensures) (a .hand .count) (omega (arith, l)) (omega (arith, l))))
+returns-3 c = let a = c .before .before .before .before .before .before .before .before .before .before .before .before .before .before .before .before .args in let s = shortSettings (settingOf 4097 (a .number)) (settingOf 256 (a .byte)) in let l = c .before .before .before .before .before .before .before .before .before .before .before .before .if1 .left in let e = decimal-form (a .kind) (a .detail) (sym (c .before .before .before .before .before .before .is-both2 .ensures) ∙ c .before .before .before .before .before .if3 .taken) in let back = toZ-ofZ w64 (c .before .before .before .before .before .before .before .before .argument2 .given .0 .0) (record { sfits = c .before .before .before .before .before .before .before .known-told2 .given .0 .1 }) in (
+  λ d q w. writes-as (viewOf (a .table .now)) (handAt (a .hand) 0) (a .i .0) (a .hand .count) (a .spot) d _ _ _ {x = settingOf 4097 (a .number)} {y = settingOf 256 (a .byte)} (sym e) refl refl (decimal-written (a .table .now) (a .hand) s (a .spot) (a .i .0) d (c .before .before .before .before .before .before .before .before .before .before .before .argument-at .result) l (c .before .before .before .before .before .before .before .before .before .before .before .argument-at .ensures .1) _ _ (c .before .before .before .before .before .before .before .before .before .before .number-or .result) (c .before .before .before .before .pad-or .result) (c .before .before .before .before .before .before .before .before .argument2 .given .1) back q w (c .before .before .before .before .before .before .before .before .before .before .number-or .ensures) (c .before .before .before .before .pad-or .ensures) ((c .before .before .put-decimal .ensures .0) (a .hand .count) (omega (arith, l)) (omega (arith, l)))),
+  c .before .before .put-decimal .ensures .1,
+)
 
 write-piece-requires-2 : tie.Need-write-piece-requires-2
 write-piece-requires-2 c κs = (c .before .before .before .before .before .before .before .before .before .before .before .before .pre .0, (c .before .before .before .before .before .before .before .before .before .before .before .before .pre .1 .0, (c .before .before .before .before .before .before .before .before .before .before .before .before .pre .1 .1 .1 .0, (c .before .before .before .before .before .before .before .before .before .before .before .before .pre .1 .1 .1 .1 .0, c .before .before .before .before .before .before .before .before .before .before .before .before .pre .1 .1 .1 .1 .1))))

@@ -23,7 +23,10 @@ same-length : tie.Need-same-length
 same-length c = search needs
 
 returns : tie.Need-returns
-returns c = let a = c .before .before .before .before .before .before .before .before .before .args in λ d q w. writes-as (viewOf (a .table .now)) (handAt (a .hand) 0) (a .i .0) (a .hand .count) (a .spot) d _ _ _ (c .before .before .before .before .short-form .ensures) (c .before .before .before .before .before .before .setting-of .ensures) (c .before .before .before .before .before .setting-of2 .ensures) ((c .before .before .write-form .ensures) d q w)
+returns c = let a = c .before .before .before .before .before .before .before .before .before .args in (
+  λ d q w. writes-as (viewOf (a .table .now)) (handAt (a .hand) 0) (a .i .0) (a .hand .count) (a .spot) d _ _ _ (c .before .before .before .before .short-form .ensures) (c .before .before .before .before .before .before .setting-of .ensures) (c .before .before .before .before .before .setting-of2 .ensures) ((c .before .before .write-form .ensures .0) d q w),
+  c .before .before .write-form .ensures .1,
+)
 
 pub write-piece-spec : {M : Type 1} → statement M
 write-piece-spec =
