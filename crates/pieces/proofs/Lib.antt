@@ -3,3 +3,4 @@ pub mod Segments
 pub mod Escapes
 pub mod Numerals
 pub mod Bodies
+pub mod Rests

@@ -1,10 +1,11 @@
 // What a directive writes, as a value of a few words, which is measured, and written whole or in part. What it stands
-// for is in specs/Bytes, and what it may be made from in specs/Given.
+// for is in specs/Bytes, what it may be made from in specs/Given, and what is left of one that is cut in specs/Rest.
 pub mod copying; // fills and copies
 pub mod window; // where a window falls in a text of three segments
 pub mod quoting; // a string in quotes
 pub mod figuring; // a number with its sign
 pub mod writing; // a piece: its length and its writers
+pub mod resuming; // a string in quotes that a window cuts
 
 // A number: a sign, 0 for none, and the digits of a magnitude, in groups of a width that is not 0.
 pub struct Figure {

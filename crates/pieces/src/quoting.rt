@@ -6,6 +6,7 @@ ghost use Prim.Native.Nat.{_-_, _≤_};
 ghost use lib.ListN.{length, drop};
 ghost use Rattle.rules.specs.Piece.{escaped};
 ghost use Rattle.pieces.specs.Bytes.{part, isMarked, owed, quotedOf};
+ghost use Rattle.pieces.specs.Rest.{Escapes};
 
 // Whether a backslash stands before the byte.
 fn is_marked(byte: u8) -> bool
@@ -86,6 +87,54 @@ fn find_spot(src: &[u8], from: usize) -> Spot
         }
     }
     Spot { at: i, gone: false }
+}
+
+// The string's next byte, whose backslash is gone already or not, and the place after what is written.
+pub struct Stand {
+    pub next: usize,
+    pub gone: bool,
+    pub at: usize,
+}
+
+// Escapes the bytes of src, the backslash of whose first may be gone, as far as there is room.
+pub fn escape_some(src: &[u8], first_gone: bool, out: &mut [u8], from: usize) -> Stand
+    requires { ⌜ from ≤ length (now out) ⌝ }
+    ensures { λ r. ⌜ Escapes (now (src .entry)) «first_gone» from (now (out .entry)) (now (out .exit)) (r .next) (r .gone) (r .at) ⌝ }
+{
+    let mut i = 0;
+    let mut gone = first_gone;
+    let mut to = from;
+    while to < out.len() {
+        if src.len() <= i {
+            return Stand {
+                next: i,
+                gone,
+                at: to,
+            };
+        }
+        let byte = src[i];
+        if gone {
+            out[to] = byte;
+            gone = false;
+            i += 1;
+            to += 1;
+        } else {
+            if is_marked(byte) {
+                out[to] = 92;
+                gone = true;
+                to += 1;
+            } else {
+                out[to] = byte;
+                i += 1;
+                to += 1;
+            }
+        }
+    }
+    Stand {
+        next: i,
+        gone,
+        at: to,
+    }
 }
 
 // A part of the escaped text.

@@ -4,7 +4,7 @@ ghost use Prim.Native.Nat.{_+_, _-_, _<_, min};
 ghost use Rattle.pieces.specs.Bytes.{Window};
 
 // How many of the n places from `from` on lie in the first len.
-fn reach(len: usize, from: usize, n: usize) -> usize
+pub fn reach(len: usize, from: usize, n: usize) -> usize
     ensures { λ r. ⌜ r ≡ min n (len - from) ⌝ }
 {
     if len <= from {

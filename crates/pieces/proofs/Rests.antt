@@ -1,0 +1,310 @@
+-- What is left of a string in quotes: its text at each stage, and the turns of its writer. Assumes nothing.
+use mathlib.Core.Path.{_≡_, refl, sym, ap, _∙_}
+use mathlib.Core.Logic.{_≢_}
+use mathlib.Core.Bool.{Bool, true, false, cond}
+use mathlib.Core.List.{List, [], _∷_, _++_, append-assoc}
+use Prim.Native.Nat.{ℕ, zero, suc, _+_, _-_, _≤_, _<_, min}
+use native.Mathlib.Nat.{not-suc-le-zero, zero-sub, suc-sub-suc, sub-zero}
+use native.Mathlib.Numerals.{add-one}
+use native.Mathlib.Decide.{ℕ-discrete as decEq}
+use native.Mathlib.Omega.{arith}
+use borrow.Author.Tests.{eq-eqb, ne-eqb}
+use borrow.Rule.Slice.PartMut.{putMid}
+use lib.Dec.{eqb}
+use lib.ListN.{length, take, drop, set, replicate, length-append, length-set, length-replicate, length-drop}
+use lib.ListN.{take-append-drop, replicate-append-replicate, drop-of-length-le}
+use lib.Seq.{drop-drop, take-nil, take-at, drop-at, take-suc-set, drop-set-lt, append-snoc, length-take-le}
+use Rattle.rules.specs.Piece.{escaped}
+use Rattle.pieces.specs.Bytes.{part, owed, quotedOf, beside, sourceOf, bytesOf}
+use Rattle.pieces.specs.Rest.{stringOf, closingOf, restOf, RestIn, Appends, Pads, Escapes, WritesRest}
+use Rattle.pieces.specs.declared.Piece.{Piece}
+use Rattle.pieces.specs.declared.Source.the-variants.{Quoted}
+use Rattle.pieces.specs.declared.resuming.QuoteRest.{QuoteRest}
+use Rattle.pieces.specs.declared.resuming.RestWritten.{RestWritten}
+use Rattle.pieces.proofs.Segments.{Begun, begun-more, lent}
+use Rattle.pieces.proofs.Escapes.{escaped-none, length-quoted}
+use Rattle.pieces.proofs.Parts.{length-part}
+
+-- the text at each stage
+module _ (t : List ℕ) (q : QuoteRest) where
+  pub rest-done : q .stage ≡ 0 → restOf t q ≡ []
+  unfolding restOf
+  rest-done e = rw (eq-eqb (q .stage) 0 e)
+
+  pub rest-whole : q .stage ≡ 1 → restOf t q ≡ beside (q .left) (q .right) (q .pad) (quotedOf (stringOf t q))
+  unfolding restOf
+  rest-whole e = rw (ne-eqb (q .stage) 0 (omega arith), eq-eqb (q .stage) 1 e)
+
+  pub rest-inside : 2 ≤ q .stage → q .stage ≤ 3 → restOf t q ≡ owed (eqb (q .stage) 3) (stringOf t q) ++ closingOf q
+  unfolding restOf owed
+  rest-inside h k =
+      rw (ne-eqb (q .stage) 0 (omega arith), ne-eqb (q .stage) 1 (omega arith))
+      (elim (decEq (q .stage) 2) [
+        | yes e ↦ rw (eq-eqb (q .stage) 2 e, ne-eqb (q .stage) 3 (omega arith))
+        | no e ↦ rw (ne-eqb (q .stage) 2 e, eq-eqb (q .stage) 3 (omega (arith, e)))
+      ])
+
+  pub rest-padding : 3 < q .stage → restOf t q ≡ replicate (q .right) (q .pad)
+  unfolding restOf
+  rest-padding h =
+      rw (
+        ne-eqb (q .stage) 0 (omega arith),
+        ne-eqb (q .stage) 1 (omega arith),
+        ne-eqb (q .stage) 2 (omega arith),
+        ne-eqb (q .stage) 3 (omega arith),
+      )
+
+abbrev pub quoteRest : (stage left start end right pad : ℕ) → QuoteRest
+quoteRest stage left start end right pad = record {
+  stage = stage;
+  left = left;
+  start = start;
+  end = end;
+  right = right;
+  pad = pad;
+}
+
+-- the same string
+pub still-in : {t : List ℕ} {q : QuoteRest} {stage left right pad : ℕ} → RestIn t q
+    → RestIn t (quoteRest stage left (q .start) (q .end) right pad)
+still-in k = record { order = k .order; inside = k .inside }
+
+-- all of a piece is left before any of it is written
+pub rest-piece : (t : List ℕ) (p : Piece) (start end : ℕ) → p .body .source ≡ Quoted start end
+    → bytesOf t p ≡ restOf t (quoteRest 1 (p .left) start end (p .right) (p .pad))
+unfolding bytesOf sourceOf
+rest-piece t p start end e = rw e (sym (rest-whole t (quoteRest 1 (p .left) start end (p .right) (p .pad)) refl))
+
+drop-later : (m n : ℕ) (xs ys : List ℕ) → m ≤ n → drop m xs ≡ drop m ys → drop n xs ≡ drop n ys
+drop-later m n xs ys h e =
+    let k : m + (n - m) ≡ n = omega arith in
+    rw (← k) (sym (drop-drop (n - m) m xs) ∙ ap (drop (n - m)) e ∙ drop-drop (n - m) m ys)
+
+pub append-none : (text : List ℕ) (from : ℕ) (b : List ℕ) → from ≤ length b → Appends text from b b from text
+append-none text from b h = record { joined = refl; size = refl; behind = refl; least = omega arith; most = h }
+
+module _ {text : List ℕ} {from : ℕ} {b c : List ℕ} {m : ℕ} {rest : List ℕ} (w : Appends text from b c m rest) where
+  -- and then a front of the rest
+  pub append-more : {e : List ℕ} {at : ℕ} {last : List ℕ} → Appends rest m c e at last → Appends text from b e at last
+  append-more {e} {at} v = record {
+    joined = w .joined ∙ v .joined;
+    size = v .size ∙ w .size;
+    behind = v .behind ∙ drop-later m at c b (v .least) (w .behind);
+    least = omega (arith, w .least, v .least);
+    most = omega (arith, w .size, v .most);
+  }
+
+  pub append-one : (x : ℕ) {last : List ℕ} → m < length c → rest ≡ x ∷ last
+      → Appends text from b (set c m x) (m + 1) last
+  append-one x {last} h e =
+      append-more (record {
+        joined = rw (e, add-one, take-suc-set c m x h) (sym (append-snoc (take m c) x last));
+        size = length-set c m x;
+        behind = drop-set-lt (m + 1) c m x (omega arith);
+        least = omega arith;
+        most = omega arith;
+      })
+
+  -- with a text after it
+  pub append-before : (after : List ℕ) → Appends (text ++ after) from b c m (rest ++ after)
+  append-before after = record {
+    joined = sym (append-assoc (take from b) text after) ∙ ap (λ (l : List ℕ). l ++ after) (w .joined)
+        ∙ append-assoc (take m c) rest after;
+    size = w .size;
+    behind = w .behind;
+    least = w .least;
+    most = w .most;
+  }
+
+-- a part of the buffer that is lent comes back as x
+append-part : {b out : List ℕ} (x : List ℕ) {from end : ℕ} (rest : List ℕ) → Begun b (take from b ++ x) out end
+    → from ≤ end → end ≤ length b → Appends (x ++ rest) from b out end rest
+append-part {b} {out} x {from} {end} rest s h k =
+    let front = take from b ++ x in
+    record {
+      joined = rw (s .is, take-at front (drop end b) end (s .size)) (sym (append-assoc (take from b) x rest));
+      size = ap length (s .is) ∙ length-append front (drop end b)
+          ∙ omega (arith, s .size, length-drop end b);
+      behind = ap (drop end) (s .is) ∙ drop-at front (drop end b) end (s .size);
+      least = h;
+      most = k;
+    }
+
+begun-from : (b : List ℕ) (from : ℕ) → from ≤ length b → Begun b (take from b) b from
+begun-from b from h = record { is = sym (take-append-drop from b); size = length-take-le from b h }
+
+pub pads : (count pad from n : ℕ) (b x : List ℕ) → from ≤ length b → n ≡ min count (length b - from)
+    → x ≡ replicate (length (take (from + n - from) (drop from b))) pad
+    → Pads count pad from b (putMid from (from + n - from) b x) (count - n) (from + n)
+pads count pad from n b x h e ex =
+    let s₀ = begun-from b from h in
+    let k : from + n ≤ length b = omega arith in
+    let z : from + n - from ≡ n = omega arith in
+    let ex₁ : x ≡ replicate n pad =
+    ex ∙ ap (λ (k : ℕ). replicate k pad) (lent (from + n) s₀ (omega arith) k ∙ z) in
+    let s₁ = begun-more (from + n) x s₀ (omega arith) (ap length ex₁ ∙ length-replicate n pad ∙ sym z) in
+    let all : n + (count - n) ≡ count = omega arith in
+    let text : x ++ replicate (count - n) pad ≡ replicate count pad =
+    rw ex₁ (replicate-append-replicate n (count - n) pad ∙ rw all) in
+    record {
+      written = rw (← text) (append-part x (replicate (count - n) pad) s₁ (omega arith) k);
+      place = rw e;
+      over = omega arith;
+    }
+
+-- the end of a part of a text
+drop-take : (i n : ℕ) (xs : List ℕ) → drop i (take n xs) ≡ take (n - i) (drop i xs)
+drop-take zero n xs = rw sub-zero
+drop-take (suc i) zero xs = rw zero-sub
+drop-take (suc i) (suc n) [] = sym (take-nil (suc n - suc i))
+drop-take (suc i) (suc n) (x ∷ xs) = rw suc-sub-suc (drop-take i n xs)
+
+later-part : (start end i : ℕ) (xs : List ℕ)
+    → part (start + i) (end - (start + i)) xs ≡ drop i (part start (end - start) xs)
+later-part start end i xs =
+    let e : end - (start + i) ≡ end - start - i = omega arith in
+    rw (e, ← drop-drop i start xs) (sym (drop-take i (end - start) (drop start xs)))
+
+-- the first quote
+quote-first : (s padding : List ℕ) → quotedOf s ++ padding ≡ 34 ∷ (owed false s ++ (34 ∷ padding))
+unfolding quotedOf owed
+quote-first s padding = ap (λ (l : List ℕ). 34 ∷ l) (append-snoc (escaped s) 34 padding)
+
+-- a string that has ended owes nothing
+owes-none : (gone : Bool) (i : ℕ) (src : List ℕ) → length src ≤ i → owed gone (drop i src) ≡ []
+unfolding owed
+owes-none false i src h = rw (drop-of-length-le src {i = i} h) escaped-none
+owes-none true i src h = rw (drop-of-length-le src {i = i} h)
+
+gone-stage : (gone : Bool) → eqb (cond gone 3 2) 3 ≡ gone
+gone-stage true = refl
+gone-stage false = refl
+
+stage-least : (gone : Bool) → 2 ≤ cond gone 3 2
+stage-least true = omega arith
+stage-least false = omega arith
+
+stage-most : (gone : Bool) → cond gone 3 2 ≤ 3
+stage-most true = omega arith
+stage-most false = omega arith
+
+-- what a writer of the rest answers, also where another has written before it
+module _ (t : List ℕ) (q : QuoteRest) {from : ℕ} {b e : List ℕ} (r : RestWritten) where
+  rest-written : Appends (restOf t q) from b e (r .at) (restOf t (r .rest)) → RestIn t (r .rest)
+      → ((r .rest .stage ≡ 0 → ⊥) → (r .at ≡ length b) × (0 < length (restOf t (r .rest)))) → WritesRest t q from b e r
+  rest-written w i s = record {
+    joined = w .joined;
+    size = w .size;
+    behind = w .behind;
+    least = w .least;
+    most = w .most;
+    inside = i;
+    stops = s;
+  }
+
+  rest-goes-on : (q′ : QuoteRest) {c : List ℕ} {m : ℕ} → Appends (restOf t q) from b c m (restOf t q′)
+      → WritesRest t q′ m c e r → WritesRest t q from b e r
+  rest-goes-on q′ w v =
+      rest-written
+      (append-more w
+      (record { joined = v .joined; size = v .size; behind = v .behind; least = v .least; most = v .most })) (v .inside)
+      (λ n. (v .stops n .0 ∙ w .size, v .stops n .1))
+
+-- nothing is left at stage 0 alone
+pub rest-empty : {t : List ℕ} {q : QuoteRest} {from : ℕ} {b e : List ℕ} {r : RestWritten} → WritesRest t q from b e r
+    → restOf t (r .rest) ≡ [] → r .rest .stage ≡ 0
+rest-empty {r = r} w e =
+    elim (decEq (r .rest .stage) 0) [
+      | yes z ↦ z
+      | no n ↦ absurd (not-suc-le-zero (rw e at (w .stops n .1)))
+    ]
+
+-- the padding on the right
+module _ (t : List ℕ) (q : QuoteRest) {from : ℕ} {b e : List ℕ} {left at : ℕ} (h : 3 < q .stage) (k : RestIn t q)
+    (p : Pads (q .right) (q .pad) from b e left at) where
+  in-padding : Appends (restOf t q) from b e at (replicate left (q .pad))
+  in-padding = rw (rest-padding t q h) (p .written)
+
+  pub padding-done : left ≡ 0
+      → WritesRest t q from b e
+      (record { rest = quoteRest 0 (q .left) (q .start) (q .end) left (q .pad); at = at })
+  padding-done z =
+      let rest = quoteRest 0 (q .left) (q .start) (q .end) left (q .pad) in
+      rest-written t q _ (rw (rest-done t rest refl) (rw z at in-padding))
+      (still-in k) (λ n. absurd (n refl))
+
+  pub padding-more : left ≢ 0
+      → WritesRest t q from b e
+      (record { rest = quoteRest (q .stage) (q .left) (q .start) (q .end) left (q .pad); at = at })
+  padding-more z =
+      let rest = quoteRest (q .stage) (q .left) (q .start) (q .end) left (q .pad) in
+      let is : restOf t rest ≡ replicate left (q .pad) = rest-padding t rest h in
+      rest-written t q _ (rw is in-padding) (still-in k)
+      (λ _. (
+        omega (arith, z, p .place, p .over, p .written .most, p .written .least),
+        rw (is, length-replicate left (q .pad)) (omega (arith, z)),
+      ))
+
+-- inside the quotes
+module _ (t : List ℕ) (q : QuoteRest) {src : List ℕ} {from : ℕ} {b c : List ℕ} {i : ℕ} {gone : Bool} {at : ℕ}
+    (l : (2 ≤ q .stage) × (q .stage ≤ 3)) (k : RestIn t q) (s : src ≡ stringOf t q)
+    (w : Escapes src (eqb (q .stage) 3) from b c i gone at) where
+  in-string : Appends (restOf t q) from b c at (owed gone (drop i src) ++ closingOf q)
+  in-string = rw (rest-inside t q (l .0) (l .1), ← s) (append-before (w .written) (closingOf q))
+
+  pub string-closed : {e : List ℕ} {r : RestWritten} → at < length c
+      → WritesRest t (quoteRest 4 (q .left) (q .start) (q .end) (q .right) (q .pad)) (at + 1) (set c at 34) e r
+      → WritesRest t q from b e r
+  string-closed {e} {r} h v =
+      let rest = quoteRest 4 (q .left) (q .start) (q .end) (q .right) (q .pad) in
+      let ended : length src ≤ i = w .ends (omega (arith, w .written .size)) in
+      rest-goes-on t q r rest
+      (rw (rest-padding t rest (omega arith)) (append-one in-string 34 h (rw (owes-none gone i src ended)))) v
+
+  pub string-more : length c ≤ at → {stage : ℕ} → stage ≡ cond gone 3 2
+      → WritesRest t q from b c
+      (record { rest = quoteRest stage (q .left) (q .start + i) (q .end) (q .right) (q .pad); at = at })
+  string-more h {stage} e =
+      let rest = quoteRest stage (q .left) (q .start + i) (q .end) (q .right) (q .pad) in
+      let size : length src ≡ q .end - q .start =
+      ap length s ∙ length-part (q .start) (q .end - q .start) t (omega (arith, k .inside)) in
+      let is : restOf t rest ≡ owed gone (drop i src) ++ closingOf q =
+      rest-inside t rest (rw e (stage-least gone)) (rw e (stage-most gone))
+      ∙ rw (e, gone-stage gone, later-part (q .start) (q .end) i t, s) in
+      rest-written t q _ (rw is in-string)
+      (record { order = omega (arith, w .inside, size, k .order); inside = k .inside })
+      (λ _. (
+        omega (arith, w .written .most, w .written .size),
+        rw (is, length-append (owed gone (drop i src)) (closingOf q)) (omega arith),
+      ))
+
+-- the padding on the left
+module _ (t : List ℕ) (q : QuoteRest) {from : ℕ} {b c : List ℕ} {left at : ℕ} (one : q .stage ≡ 1) (k : RestIn t q)
+    (p : Pads (q .left) (q .pad) from b c left at) where
+  in-front : Appends (restOf t q) from b c at (beside left (q .right) (q .pad) (quotedOf (stringOf t q)))
+  in-front = rw (rest-whole t q one) (append-before (p .written) _)
+
+  pub string-opened : {e : List ℕ} {r : RestWritten} → at < length c
+      → WritesRest t (quoteRest 2 (q .left) (q .start) (q .end) (q .right) (q .pad)) (at + 1) (set c at 34) e r
+      → WritesRest t q from b e r
+  string-opened {e} {r} h v =
+      let rest = quoteRest 2 (q .left) (q .start) (q .end) (q .right) (q .pad) in
+      let none : left ≡ 0 = omega (arith, p .place, p .over, p .written .size) in
+      rest-goes-on t q r rest
+      (rw (rest-inside t rest (omega arith) (omega arith))
+      (append-one in-front 34 h (rw none (quote-first (stringOf t q) (replicate (q .right) (q .pad)))))) v
+
+  pub front-more : length c ≤ at
+      → WritesRest t q from b c
+      (record { rest = quoteRest (q .stage) left (q .start) (q .end) (q .right) (q .pad); at = at })
+  front-more h =
+      let rest = quoteRest (q .stage) left (q .start) (q .end) (q .right) (q .pad) in
+      let text = quotedOf (stringOf t q) in
+      let padding = replicate (q .right) (q .pad) in
+      let is : restOf t rest ≡ beside left (q .right) (q .pad) text = rest-whole t rest one in
+      rest-written t q _ (rw is in-front) (still-in k)
+      (λ _. (
+        omega (arith, p .written .most, p .written .size),
+        rw (is, length-append (replicate left (q .pad)) (text ++ padding), length-append text padding)
+            (omega (arith, length-quoted (stringOf t q))),
+      ))
