@@ -4,7 +4,7 @@ use mathlib.Core.Path.{_≡_, refl, sym, ap, subst, _∙_}
 use mathlib.Core.Bool.{Bool, true, false, cond}
 use mathlib.Core.List.{List, [], _∷_}
 use native.Mathlib.Omega.{arith}
-use lib.Dec.{eqb}
+use lib.Dec.{leb, eqb}
 use lib.ListN.{length}
 use borrow.Author.Tests.{le-leb, leb-true, eq-eqb, ne-eqb}
 use Rattle.rules.specs.Flow.{Flow, done, refused, limit, givenText, finishOf}
@@ -36,12 +36,12 @@ over-on : {code p : ℕ} → _≡_ {A = How} (Over code p) On → ⊥
 over-on e = let z : _≡_ {A = ℕ} 0 1 = cc in omega arith
 
 -- arguments that lie in an accepted table
-module _ {table : List ℕ} {h : Hand} {next : ℕ} where
+module _ (table : List ℕ) (h : Hand) (next : ℕ) where
   pub hand-in : tableVerdict table ≡ Accepted → handLies table h next ≡ true → InHand table h
-  hand-in a l = record { accepted = a; within = leb-true _ _ (both-true _ _ l .0) }
+  hand-in a l = record { accepted = a; within = leb-true _ _ (both-true _ (leb next (h .count)) l .0) }
 
   pub next-in : handLies table h next ≡ true → next ≤ h .count
-  next-in l = leb-true _ _ (both-true _ _ l .1)
+  next-in l = leb-true _ _ (both-true (leb (h .first .0 + h .count) (entryCount table)) (leb next (h .count)) l .1)
 
   pub lies : InHand table h → next ≤ h .count → handLies table h next ≡ true
   lies i l = true-both (le-leb _ _ (i .within)) (le-leb _ _ l)
@@ -88,7 +88,7 @@ loop-frame s b h = by (b .kind) refl
     by : (k : ℕ) → b .kind ≡ k → frameOf s b ≡ iteration (b .place) (b .passes) (restAt s (b .inside)) (innermost (outer (s (b .inside))) .rest) (outsideBy (b .kind) b)
     by zero q = absurd (omega arith)
     by (suc zero) q = rw q refl
-    by (suc (suc k)) q = rw q refl
+    by (suc (suc k)) q = rw (q, ne-eqb (suc (suc k)) 1 (λ e. omega (arith, e))) refl
 
 -- a block is opened
 module _ (t table : List ℕ) {f : Flow} {left heavy : ℕ} {h : Here} {o o′ : Nest} {b : Block} {r : Moved} where
@@ -122,13 +122,13 @@ module _ (t table : List ℕ) {f : Flow} {left heavy inside : ℕ} {h : Here} {h
       w
 
 -- the numbers of a block that is written down
-module _ {t table : List ℕ} {b : Block} where
+module _ (t table : List ℕ) (b : Block) where
   pub fits : tableVerdict table ≡ Accepted → length t ≤ 4096 → blockLies (length t) table b ≡ true → b .kind ≤ 65535 → b .place ≤ 65535 → FitsPasses (b .passes) → Fits b
   fits a n l k p q =
-      let y = both-true _ _ l in
-      let i = leb-true _ _ (y .0) in
-      let c = next-in {table} {b .hand} (y .1) in
-      let z = hand-small (hand-in {table} {b .hand} a (y .1)) in
+      let y = both-true (leb (b .inside) (length t)) (handLies table (b .hand) (b .next .0)) l in
+      let i = leb-true (b .inside) (length t) (y .0) in
+      let c = next-in table (b .hand) (b .next .0) (y .1) in
+      let z = hand-small (hand-in table (b .hand) (b .next .0) a (y .1)) in
       record {
         kind = k;
         place = p;

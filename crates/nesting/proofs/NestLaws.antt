@@ -1,7 +1,7 @@
 -- The open blocks with one more, and their frames. Assumes nothing.
 use Prim.Native.Nat.{ℕ, zero, suc, _+_, _-_, _<_, _≤_}
 use mathlib.Core.Path.{_≡_, refl, sym, ap, _∙_}
-use mathlib.Core.Bool.{true}
+use mathlib.Core.Bool.{Bool, true}
 use mathlib.Core.List.{List, _∷_}
 use native.Mathlib.Numerals.{add-one}
 use native.Mathlib.Omega.{arith}
@@ -9,6 +9,7 @@ use lib.Dec.{eqb}
 use lib.ListN.{length, getD, set}
 use lib.Seq.{getD-set-same, getD-set-other}
 use borrow.Author.Tests.{ne-eqb}
+use Rattle.rules.specs.Choice.{both}
 use Rattle.rules.specs.Text.{Level}
 use Rattle.rules.specs.Run.{Frame}
 use Rattle.rules.specs.declared.Setting.{Setting}
@@ -75,16 +76,20 @@ module _ (o : Nest) (b : Block) (passes : ℕ) where
       }
 
 -- frames and bounds by the blocks that are open
-module _ {o r : Nest} where
+module _ (o r : Nest) where
   pub frames-same : (s : ℕ → List Level) (d : ℕ) → ((i : ℕ) → i < d → blockAt r i ≡ blockAt o i) → framesOf s r d ≡ framesOf s o d
   unfolding framesOf
   frames-same s zero h = refl
-  frames-same s (suc d) h = rw (h d (omega arith), frames-same s d (λ i l. h i (omega (arith, l)))) refl
+  frames-same s (suc d) h =
+      ap (λ (b : Block). frameOf s b ∷ framesOf s r d) (h d (omega arith))
+      ∙ ap (λ (x : List Frame). frameOf s (blockAt o d) ∷ x) (frames-same s d (λ i l. h i (omega (arith, l))))
 
   pub lie-same : (n : ℕ) (table : List ℕ) (d : ℕ) → ((i : ℕ) → i < d → blockAt r i ≡ blockAt o i) → allLie n table r d ≡ allLie n table o d
   unfolding allLie
   lie-same n table zero h = refl
-  lie-same n table (suc d) h = rw (h d (omega arith), lie-same n table d (λ i l. h i (omega (arith, l)))) refl
+  lie-same n table (suc d) h =
+      ap (λ (b : Block). both (blockLies n table b) (allLie n table r d)) (h d (omega arith))
+      ∙ ap (λ (x : Bool). both (blockLies n table (blockAt o d)) x) (lie-same n table d (λ i l. h i (omega (arith, l))))
 
 pub frames-length : (s : ℕ → List Level) (o : Nest) (d : ℕ) → length (framesOf s o d) ≡ d
 unfolding framesOf
@@ -94,11 +99,15 @@ frames-length s o (suc d) = ap suc (frames-length s o d)
 module _ {o r : Nest} {b : Block} (p : Pushes o b r) where
   pub frames-pushed : (s : ℕ → List Level) → framesOf s r (r .depth) ≡ frameOf s b ∷ framesOf s o (o .depth)
   unfolding framesOf
-  frames-pushed s = rw (p .depth, add-one (o .depth), p .block, frames-same {o} {r} s (o .depth) (p .others)) refl
+  frames-pushed s =
+      ap (framesOf s r) (p .depth ∙ add-one (o .depth)) ∙ ap (λ (x : Block). frameOf s x ∷ framesOf s r (o .depth)) (p .block)
+      ∙ ap (λ (x : List Frame). frameOf s b ∷ x) (frames-same o r s (o .depth) (p .others))
 
   pub lie-pushed : (n : ℕ) (table : List ℕ) → blockLies n table b ≡ true → allLie n table o (o .depth) ≡ true → allLie n table r (r .depth) ≡ true
   unfolding allLie
-  lie-pushed n table h l = rw (p .depth, add-one (o .depth), p .block, lie-same {o} {r} n table (o .depth) (p .others)) (true-both h l)
+  lie-pushed n table h l =
+      ap (allLie n table r) (p .depth ∙ add-one (o .depth))
+      ∙ true-both (ap (blockLies n table) (p .block) ∙ h) (lie-same o r n table (o .depth) (p .others) ∙ l)
 
 -- the open blocks without the innermost
 abbrev pub fewer : Nest → Nest
@@ -110,10 +119,10 @@ module _ (o : Nest) (h : (o .depth ≡ 0 → ⊥)) where
 
   pub frames-top : (s : ℕ → List Level) → framesOf s o (o .depth) ≡ frameOf s (blockAt o (o .depth - 1)) ∷ framesOf s (fewer o) (o .depth - 1)
   unfolding framesOf
-  frames-top s = ap (framesOf s o) depth-is ∙ ap (λ (x : List Frame). frameOf s (blockAt o (o .depth - 1)) ∷ x) (frames-same {fewer o} {o} s (o .depth - 1) (λ i l. refl))
+  frames-top s = ap (framesOf s o) depth-is ∙ ap (λ (x : List Frame). frameOf s (blockAt o (o .depth - 1)) ∷ x) (frames-same (fewer o) o s (o .depth - 1) (λ i l. refl))
 
   pub lie-top : (n : ℕ) (table : List ℕ) → allLie n table o (o .depth) ≡ true → (blockLies n table (blockAt o (o .depth - 1)) ≡ true) × (allLie n table (fewer o) (o .depth - 1) ≡ true)
   unfolding allLie
   lie-top n table l =
       let z = both-true _ _ (sym (ap (allLie n table o) depth-is) ∙ l) in
-      (z .0, sym (lie-same {fewer o} {o} n table (o .depth - 1) (λ i k. refl)) ∙ z .1)
+      (z .0, sym (lie-same (fewer o) o n table (o .depth - 1) (λ i k. refl)) ∙ z .1)

@@ -13,6 +13,7 @@ ghost use Rattle.pieces.specs.Rest.{RestIn, Pads, WritesRest};
 
 // What is left of a piece, as restOf in specs/Rest has it. But for the place of the string its numbers may be any: no
 // sum is made of them.
+#[repr(C)]
 pub struct QuoteRest {
     pub stage: usize,
     pub left: usize,
