@@ -1,6 +1,6 @@
 -- A string in quotes: how its text goes on byte by byte, where a place of it falls, and the turns of its writers.
 -- Assumes nothing.
-use mathlib.Core.Path.{_≡_, refl, sym, ap, _∙_}
+use mathlib.Core.Path.{_≡_, refl, ap, _∙_}
 use mathlib.Core.Bool.{Bool, true, false}
 use mathlib.Core.List.{List, [], _∷_, _++_}
 use Prim.Native.Nat.{ℕ, zero, suc, _+_, _-_, _*_, _≤_, _<_}
@@ -10,12 +10,11 @@ use native.Mathlib.Decide.{ℕ-discrete as decEq}
 use native.Mathlib.Omega.{arith}
 use borrow.Author.Tests.{eq-eqb, ne-eqb, eqb-true}
 use lib.Dec.{eqb}
-use lib.ListN.{length, take, drop, getD, set, length-set, length-append, drop-of-length-le}
-use lib.Seq.{drop-cons, drop-nil, take-nil}
+use lib.ListN.{length, drop, getD, set, length-set, length-append, drop-of-length-le}
+use lib.Seq.{drop-cons}
 use Rattle.rules.specs.Piece.{escaped}
 use Rattle.rules.proofs.Writing.{Writing, write-none, write-room, write-one, write-all}
-use Rattle.pieces.specs.Bytes.{part, isMarked, owed, quotedOf}
-use Rattle.pieces.proofs.Parts.{length-part}
+use Rattle.pieces.specs.Bytes.{isMarked, owed, quotedOf}
 
 no-both : {b : Bool} → b ≡ true → b ≡ false → ⊥
 no-both p q = let z : _≡_ {A = ℕ} 0 1 = cc in omega arith
@@ -41,7 +40,7 @@ escaped-plain b s e =
           rw (ne-eqb b 34 q, k)
     ]
 
-pub escaped-none : escaped [] ≡ []
+escaped-none : escaped [] ≡ []
 unfolding escaped
 escaped-none = refl
 
@@ -51,24 +50,11 @@ drop-pred (suc k) x l h =
     let e : suc k - 1 ≡ k = omega arith in
     rw e
 
-take-pred : (k x : ℕ) (l : List ℕ) → 0 < k → take k (x ∷ l) ≡ x ∷ take (k - 1) l
-take-pred zero x l h = absurd (not-suc-le-zero h)
-take-pred (suc k) x l h =
-    let e : suc k - 1 ≡ k = omega arith in
-    rw e
-
--- where something is owed, a byte is left
-owes-some : (m : ℕ) (gone : Bool) (src : List ℕ) (i : ℕ) → 0 < length (take m (owed gone (drop i src))) → i < length src
-unfolding owed escaped
-owes-some m false [] i h = absurd (not-suc-le-zero (rw (drop-nil i, take-nil m) at h))
-owes-some m true [] i h = absurd (not-suc-le-zero (rw (drop-nil i, take-nil m) at h))
-owes-some m gone (x ∷ src) zero h = omega arith
-owes-some m gone (x ∷ src) (suc i) h = omega (arith, owes-some m gone src i h)
-
 module _ (src : List ℕ) (i : ℕ) where
-  pub ends : length src ≤ i → owed false (drop i src) ≡ []
+  pub ends : (gone : Bool) → length src ≤ i → owed gone (drop i src) ≡ []
   unfolding owed
-  ends h = rw (drop-of-length-le src {i = i} h) escaped-none
+  ends false h = rw (drop-of-length-le src {i = i} h) escaped-none
+  ends true h = rw (drop-of-length-le src {i = i} h)
 
   module _ (h : i < length src) where
     pub owes : owed true (drop i src) ≡ getD src i 0 ∷ owed false (drop (i + 1) src)
@@ -129,7 +115,7 @@ module _ {src : List ℕ} {i size : ℕ} (w : Measuring src i size) where
     }
 
   pub measure-all : length src ≤ i → size ≡ length (quotedOf src)
-  measure-all h = omega (arith, w .whole, ap length (ends src i h))
+  measure-all h = omega (arith, w .whole, ap length (ends src i false h))
 
 -- the writer of the whole: i bytes of the string are written, to the place `to`
 pub record Quoting (src : List ℕ) (size : ℕ) (out : List ℕ) (i to : ℕ) : Type 0 where
@@ -183,47 +169,10 @@ module _ {src : List ℕ} {size : ℕ} {out : List ℕ} {i to : ℕ} (w : Quotin
 
   module _ (h : length src ≤ i) where
     last : Writing (quotedOf src) out to (34 ∷ [])
-    last = rw (ends src i h) at (w .ahead)
+    last = rw (ends src i false h) at (w .ahead)
 
     pub last-room : to < length out
     last-room = write-room _ _ last
 
     pub quote-all : set out to 34 ≡ quotedOf src
     quote-all = write-all (write-one _ _ last)
-
--- the writer of a part of the escaped text: `to` bytes of it are written, and the string's byte i is next
-pub record Escaping (src : List ℕ) (from size : ℕ) (out : List ℕ) (i : ℕ) (gone : Bool) (to : ℕ) : Type 0 where
-  pub ahead : Writing (part from size (owed false src)) out to (take (size - to) (owed gone (drop i src)))
-  pub same : length out ≡ size
-
-pub escaping-none : (src : List ℕ) (from : ℕ) (out : List ℕ) (i : ℕ) (gone : Bool)
-    → length out ≤ length (owed false src) - from → drop from (owed false src) ≡ owed gone (drop i src)
-    → Escaping src from (length out) out i gone 0
-escaping-none src from out i gone h e =
-    let z : length out - 0 ≡ length out = omega arith in
-    record {
-      ahead = rw (z, sym e) (write-none _ out (sym (length-part from (length out) (owed false src) h)));
-      same = refl;
-    }
-
-module _ {src : List ℕ} {from size : ℕ} {out : List ℕ} {i : ℕ} {gone : Bool} {to : ℕ}
-    (w : Escaping src from size out i gone to) where
-  pub escaping-all : length out ≤ to → out ≡ part from size (owed false src)
-  escaping-all h =
-      let z : size - to ≡ 0 = omega (arith, w .same) in
-      write-all (rw z at (w .ahead))
-
-  module _ (h : to < length out) where
-    pub is-left : i < length src
-    is-left = owes-some (size - to) gone src i (omega (arith, w .ahead .room))
-
-    pub turn : (x : ℕ) (gone′ : Bool) (i′ : ℕ) → owed gone (drop i src) ≡ x ∷ owed gone′ (drop i′ src)
-        → Escaping src from size (set out to x) i′ gone′ (to + 1)
-    turn x gone′ i′ e =
-        let z : size - to - 1 ≡ size - (to + 1) = omega arith in
-        record {
-          ahead =
-              write-one x _
-              (rw (e, take-pred (size - to) x (owed gone′ (drop i′ src)) (omega (arith, w .same)), z) at (w .ahead));
-          same = simp length-set (w .same);
-        }

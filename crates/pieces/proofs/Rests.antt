@@ -11,9 +11,9 @@ use native.Mathlib.Omega.{arith}
 use borrow.Author.Tests.{eq-eqb, ne-eqb}
 use borrow.Rule.Slice.PartMut.{putMid}
 use lib.Dec.{eqb}
-use lib.ListN.{length, take, drop, set, replicate, length-append, length-set, length-replicate, length-drop}
-use lib.ListN.{take-append-drop, replicate-append-replicate, drop-of-length-le}
-use lib.Seq.{drop-drop, take-nil, take-at, drop-at, take-suc-set, drop-set-lt, append-snoc, length-take-le}
+use lib.ListN.{length, take, drop, set, replicate, length-append, length-set, length-replicate, length-take}
+use lib.ListN.{length-drop, take-append-drop, replicate-append-replicate}
+use lib.Seq.{drop-drop, take-nil, take-all, take-at, drop-at, take-suc-set, drop-set-lt, append-snoc, length-take-le}
 use Rattle.rules.specs.Piece.{escaped}
 use Rattle.pieces.specs.Bytes.{part, owed, quotedOf, beside, sourceOf, bytesOf}
 use Rattle.pieces.specs.Rest.{stringOf, closingOf, restOf, RestIn, Appends, Pads, Escapes, WritesRest}
@@ -22,7 +22,7 @@ use Rattle.pieces.specs.declared.Source.the-variants.{Quoted}
 use Rattle.pieces.specs.declared.resuming.QuoteRest.{QuoteRest}
 use Rattle.pieces.specs.declared.resuming.RestWritten.{RestWritten}
 use Rattle.pieces.proofs.Segments.{Begun, begun-more, lent}
-use Rattle.pieces.proofs.Escapes.{escaped-none, length-quoted}
+use Rattle.pieces.proofs.Escapes.{ends, length-quoted}
 use Rattle.pieces.proofs.Parts.{length-part}
 
 -- the text at each stage
@@ -170,11 +170,35 @@ quote-first : (s padding : List ℕ) → quotedOf s ++ padding ≡ 34 ∷ (owed 
 unfolding quotedOf owed
 quote-first s padding = ap (λ (l : List ℕ). 34 ∷ l) (append-snoc (escaped s) 34 padding)
 
--- a string that has ended owes nothing
-owes-none : (gone : Bool) (i : ℕ) (src : List ℕ) → length src ≤ i → owed gone (drop i src) ≡ []
-unfolding owed
-owes-none false i src h = rw (drop-of-length-le src {i = i} h) escaped-none
-owes-none true i src h = rw (drop-of-length-le src {i = i} h)
+-- a part of an escaped text, in a buffer that has room for no more than is left of it; the string is lent from k on
+pub escapes-part : (src : List ℕ) (from k : ℕ) {gone₀ : Bool} {b e : List ℕ} {i : ℕ} {gone : Bool} {at : ℕ}
+    → drop from (owed false src) ≡ owed gone₀ (drop k src) → length b ≤ length (owed false src) - from
+    → Escapes (take (length src - k) (drop k src)) gone₀ 0 b e i gone at → e ≡ part from (length b) (owed false src)
+escapes-part src from k {gone₀} {b} {e} {i} {gone} {at} q h w₀ =
+    let s = drop k src in
+    let lent : take (length src - k) s ≡ s = take-all (length src - k) s (omega (arith, length-drop k src)) in
+    let w : Escapes s gone₀ 0 b e i gone at = rw lent at w₀ in
+    let rest = owed gone (drop i s) in
+    let whole : owed gone₀ s ≡ take at e ++ rest = w .written .joined in
+    let full : at ≡ length b =
+    elim (decEq at (length b)) [
+      | yes z ↦ z
+      | no n ↦
+          let none : rest ≡ [] = ends s i gone (w .ends (omega (arith, n, w .written .most))) in
+          omega (
+            arith,
+            n,
+            w .written .most,
+            ap length none,
+            ap length q,
+            length-drop from (owed false src),
+            ap length whole,
+            length-append (take at e) rest,
+            length-take at e,
+          )
+    ] in
+    let all : take at e ≡ e = take-all at e (omega (arith, w .written .size)) in
+    rw (q, whole, all) (sym (take-at e rest (length b) (w .written .size)))
 
 gone-stage : (gone : Bool) → eqb (cond gone 3 2) 3 ≡ gone
 gone-stage true = refl
@@ -259,7 +283,7 @@ module _ (t : List ℕ) (q : QuoteRest) {src : List ℕ} {from : ℕ} {b c : Lis
       let rest = quoteRest 4 (q .left) (q .start) (q .end) (q .right) (q .pad) in
       let ended : length src ≤ i = w .ends (omega (arith, w .written .size)) in
       rest-goes-on t q r rest
-      (rw (rest-padding t rest (omega arith)) (append-one in-string 34 h (rw (owes-none gone i src ended)))) v
+      (rw (rest-padding t rest (omega arith)) (append-one in-string 34 h (rw (ends src i gone ended)))) v
 
   pub string-more : length c ≤ at → {stage : ℕ} → stage ≡ cond gone 3 2
       → WritesRest t q from b c

@@ -66,7 +66,8 @@ struct Spot {
 }
 
 fn find_spot(src: &[u8], from: usize) -> Spot
-    ensures { λ r. ⌜ drop from (escaped (now (src .entry))) ≡ owed (r .gone) (drop (r .at) (now (src .entry))) ⌝ }
+    ensures spot { λ r. ⌜ drop from (escaped (now (src .entry))) ≡ owed (r .gone) (drop (r .at) (now (src .entry))) ⌝ }
+    ensures inside { λ r. ⌜ r .at ≤ length (now (src .entry)) ⌝ }
 {
     let mut i = 0;
     let mut skip = from;
@@ -143,28 +144,9 @@ fn escape_part(src: &[u8], from: usize, out: &mut [u8])
     ensures { λ _. ⌜ now (out .exit) ≡ part from (length (now (out .entry))) (escaped (now (src .entry))) ⌝ }
 {
     let spot = find_spot(src, from);
-    let mut i = spot.at;
-    let mut gone = spot.gone;
-    let mut to = 0;
-    while to < out.len() {
-        let byte = src[i];
-        if gone {
-            out[to] = byte;
-            gone = false;
-            i += 1;
-            to += 1;
-        } else {
-            if is_marked(byte) {
-                out[to] = 92;
-                gone = true;
-                to += 1;
-            } else {
-                out[to] = byte;
-                i += 1;
-                to += 1;
-            }
-        }
-    }
+    let start = spot.at;
+    let end = src.len();
+    escape_some(&src[start..end], spot.gone, out, 0);
 }
 
 // A part of the string in quotes, whose length is size.
