@@ -207,3 +207,7 @@ module _ {table : List ℕ} {hand : Hand} {i : ℕ} {a : Argument} (h : IsOwn ta
       there p m j (λ x. pickBy (viewOf table) p m cs (handAt hand j) i on x)
       ∙ ap (λ (y : Argument). pickBy (viewOf table) p m cs (handAt hand j) i on (meant table y)) e
       ∙ k p m j cs on
+
+-- the inside of a block is a place in it
+pub inside-start : (t : List ℕ) (q : ℕ) → q ≤ length t → InsideAt t q q
+inside-start t q h = record { outside = refl; least = omega arith; most = h }

@@ -1,3 +1,4 @@
 pub mod ClauseLaws
+pub mod EndLaws
 pub mod LandmarkLaws
 pub mod PassLaws

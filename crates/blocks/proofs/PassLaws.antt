@@ -1,6 +1,7 @@
 -- What an iteration goes over. Assumes nothing.
 use Prim.Native.Nat.{ℕ, _+_, _≤_, _<_}
-use mathlib.Core.Path.{_≡_, refl, sym, ap, _∙_}
+use mathlib.Core.Path.{_≡_, refl, sym, ap, subst, _∙_}
+use native.Mathlib.Omega.{arith}
 use mathlib.Core.Bool.{Bool, true, false}
 use mathlib.Core.List.{List}
 use borrow.Author.Tests.{lt-ltb, le-ltb}
@@ -16,7 +17,7 @@ use Rattle.rules.proofs.Tests.{not-both-ways}
 use Rattle.working.specs.Settling.{InHand, handAt}
 use Rattle.working.specs.declared.arguments.Hand.{Hand}
 use Rattle.blocks.specs.declared.passes.Over.the-variants.{Is as OverIs, Wrong as OverWrong}
-use Rattle.blocks.specs.Parts.{isListValue, GoesOver}
+use Rattle.blocks.specs.Parts.{isListValue, OverIn, GoesOver}
 
 -- a value that is no list
 over-other : (v : View) (p m : ℕ) (on : Context → Flow) (x : Value) → isListValue x ≡ false → overList v p m on x ≡ refused 7 p m
@@ -60,3 +61,9 @@ module _ (t : List ℕ) (hand : Hand) (i : ArgumentPosition) {at : Bool} where
             ∙ ap (λ (k : ℕ). on (iteration p (st .first) body rest (other (handAt hand (i .0 + 1)))) (handAt inner k)) (sym z);
         inside = (w, (z, h));
       })
+
+-- what is asked of the entries that are gone over
+pub over-hand : (t : List ℕ) (hand inner : Hand) (with-at : Bool) (i : ℕ) (first : ArgumentPosition) → OverIn t hand with-at i (OverIs inner first) → InHand t hand → i ≤ hand .count
+    → InHand t inner × (first .0 ≤ inner .count)
+over-hand t hand inner true i first w h l = (subst (InHand t) (sym (w .0)) h, subst (λ (x : Hand). first .0 ≤ x .count) (sym (w .0)) (omega (arith, w .1, l)))
+over-hand t hand inner false i first w h l = (w .0, omega (arith, w .1 .0))

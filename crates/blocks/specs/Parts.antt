@@ -4,7 +4,8 @@ use mathlib.Core.Path.{_≡_}
 use mathlib.Core.Bool.{Bool, true, false}
 use mathlib.Core.List.{List}
 use Rattle.rules.specs.Table.{Value, boolean, integer, character, string, list, meant, entryCount, Holds, viewOf}
-use Rattle.rules.specs.Text.{Sequence}
+use Rattle.rules.specs.Directive.{itemAt}
+use Rattle.rules.specs.Text.{Sequence, end, innermost, levelsAt}
 use Rattle.rules.specs.Working.{Context}
 use Rattle.rules.specs.Run.{Flow, refused, Frame, iteration, Outside, sameArguments, other, enter}
 use Rattle.rules.specs.declared.Argument.{Argument}
@@ -39,6 +40,11 @@ endsAt (Literal b) = false
 endsAt (Written d) = endsSequence (d .code)
 endsAt BadNumber = true
 endsAt Unfinished = true
+
+-- x stands at p, and is said to be the end of the text wherever a sequence ends
+pub record ElementAt (t : List ℕ) (p : ℕ) (x : Item) : Type 0 where
+  pub ends : endsAt x ≡ true → innermost (levelsAt t p) .rest ≡ end
+  pub is : endsAt x ≡ false → itemAt t p ≡ x
 
 -- which codes open a block, and which of them an iteration
 abbrev pub opensBlock : Code → Bool

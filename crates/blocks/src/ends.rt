@@ -1,9 +1,11 @@
 // Which items end a sequence, and which codes open a block.
+use reader::directive::item_at;
+use reader::marks::closes_at;
 use rules::Bracket;
 use rules::Code;
 use rules::Item;
 ghost use mathlib.Core.Path.{_≡_};
-ghost use Rattle.blocks.specs.Parts.{endsSequence, endsAt, opensBlock, iterates};
+ghost use Rattle.blocks.specs.Parts.{endsSequence, endsAt, ElementAt, opensBlock, iterates};
 
 // Whether a code ends the sequence in which it stands.
 fn is_end(code: Code) -> bool
@@ -33,6 +35,17 @@ pub fn ends_here(item: Item) -> bool
         Item::BadNumber => true,
         Item::Unfinished => true,
     }
+}
+
+// The item at p. Where a clause or a block closes without parameters it is said to be the end of the text: most sequences
+// end so, which is seen without reading an item.
+pub fn element_at(text: &[u8], p: usize) -> Item
+    ensures { λ r. ⌜ ElementAt (now (text .entry)) p r ⌝ }
+{
+    if closes_at(text, p) {
+        return Item::End;
+    }
+    item_at(text, p)
 }
 
 // Whether a directive opens a block.

@@ -46,24 +46,8 @@ use Rattle.running.proofs.Places.{end-at, bad-at, unfinished-at, separator-at, 
 pub not-both : {b : Bool} → b ≡ true → b ≡ false → ⊥
 not-both p q = let z : _≡_ {A = ℕ} 0 1 = cc in omega arith
 
--- an item that ends its sequence
+-- a literal byte stands inside the text
 module _ (t : List ℕ) (p : ℕ) where
-  ends-code : (d : Directive) → itemAt t p ≡ Written d → (c : Code) → d .code ≡ c → endsSequence c ≡ true → restAt (levelsAt t) p ≡ end
-  ends-code d e (Writes f) w h = absurd (not-both h refl)
-  ends-code d e Jump w h = absurd (not-both h refl)
-  ends-code d e Escape w h = absurd (not-both h refl)
-  ends-code d e (Opens b) w h = absurd (not-both h refl)
-  ends-code d e Separator w h = separator-at t p d e w
-  ends-code d e (Closes b) w h = closer-at t p d e b w
-  ends-code d e Unknown w h = unknown-at t p d e w
-
-  pub ends-item : (x : Item) → itemAt t p ≡ x → endsAt x ≡ true → restAt (levelsAt t) p ≡ end
-  ends-item End e h = end-at t p e
-  ends-item (Literal b) e h = absurd (not-both h refl)
-  ends-item (Written d) e h = ends-code d e (d .code) refl h
-  ends-item BadNumber e h = bad-at t p e
-  ends-item Unfinished e h = unfinished-at t p e
-
   pub literal-inside : {x : Item} {b : ℕ} → itemAt t p ≡ x → x ≡ Literal b → p < length t
   literal-inside {x} {b} e q = stands t p (Literal b) (e ∙ q)
 
@@ -181,10 +165,7 @@ blocks-told s n v first count level q f left at b r code x i place e h l k =
 pub closes-after : {t : List ℕ} {q place : ℕ} → AfterBlock t q place → After (levelsAt t) (length t) q place
 closes-after a = record { is = a .is; least = a .least; most = a .most }
 
--- places in the block whose inside is at q: that one, and where a sequence of the block ends
-pub inside-start : (t : List ℕ) (q : ℕ) → q ≤ length t → InsideAt t q q
-inside-start t q h = record { outside = refl; least = omega arith; most = h }
-
+-- where a sequence of the block whose inside is at q ends
 pub ends-inside : {t : List ℕ} {q z p : ℕ} → InsideAt t q z → EndsAt (levelsAt t) (length t) z p → InsideAt t q p
 ends-inside h e = record { outside = e .around ∙ h .outside; least = omega (arith, h .least, e .least); most = e .most }
 
@@ -206,12 +187,6 @@ over-blocks s n v t level p q f left at b hand inner false i first passes {e} {r
     λ ks. h ks ∙ ap (λ (x : ℕ). run v left end (iteration p passes (restAt s q) (innermost (outer (s q)) .rest) (other (handAt hand (i + 1))) ∷ ks) (handAt inner x)) (w .1 .0) in
     subst (λ (x : ℕ). Blocks s n v (handAt hand) level q f left at b e (record { stop = r .stop; next = record { 0 = x }; left = r .left; at = r .at; place = r .place })) (sym k)
     (blocks-list s n v (hand .first .0) (hand .count) level q f left at b p (i + 1) (inner .first .0) (inner .count) passes h₂ u₂ (omega (arith, w .1 .1)))
-
--- what is asked of the entries that are gone over
-pub over-hand : (t : List ℕ) (hand inner : Hand) (with-at : Bool) (i : ℕ) (first : ArgumentPosition) → OverIn t hand with-at i (OverIs inner first) → InHand t hand → i ≤ hand .count
-    → InHand t inner × (first .0 ≤ inner .count)
-over-hand t hand inner true i first w h l = (subst (InHand t) (sym (w .0)) h, subst (λ (x : Hand). first .0 ≤ x .count) (sym (w .0)) (omega (arith, w .1, l)))
-over-hand t hand inner false i first w h l = (w .0, omega (arith, w .1 .0))
 
 -- passes by another name of the spot where they begin
 pub passes-from : {s : ℕ → List Level} {n : ℕ} {v : View} {c : ℕ → Context} {level q i : ℕ} {passes : Setting} {b e : List ℕ} {r : Ran} {x y : Spot} → x ≡ y

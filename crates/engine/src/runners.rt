@@ -9,6 +9,7 @@ use acting::state::refuse;
 use blocks::clauses::Chosen;
 use blocks::clauses::block_end;
 use blocks::clauses::choose_clause;
+use blocks::ends::element_at;
 use blocks::ends::ends_here;
 use blocks::ends::is_iteration;
 use blocks::ends::opens_block;
@@ -18,8 +19,6 @@ use blocks::passes::is_over;
 use blocks::passes::next_after;
 use blocks::passes::one_less;
 use fitting::places::is_well_written;
-use reader::directive::item_at;
-use reader::marks::closes_at;
 use rules::ArgumentPosition;
 use rules::Directive;
 use rules::Item;
@@ -96,18 +95,14 @@ fn has_ended(r: Ran) -> bool
     is_ended(stop)
 }
 
-// The item at which s ended. It is said to be the end of the text where s did not end, and where a clause or a block
-// closes without parameters: most sequences end so, which is seen without reading an item.
+// The item at which s ended. It is said to be the end of the text where s did not end.
 fn item_after(text: &[u8], s: Ran) -> Item
     ensures { λ r. ⌜ ItemAfter (now (text .entry)) s r ⌝ }
 {
     if !has_ended(s) {
         return Item::End;
     }
-    if closes_at(text, s.place) {
-        return Item::End;
-    }
-    item_at(text, s.place)
+    element_at(text, s.place)
 }
 
 // A directive of the position, met or begun with so many steps left and so much written, and a place that goes with it.

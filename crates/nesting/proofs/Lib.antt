@@ -1,2 +1,3 @@
 pub mod NestLaws
 pub mod MoveLaws
+pub mod OpenLaws

@@ -4,18 +4,22 @@ use mathlib.Core.Path.{_≡_, refl, sym, ap, subst, _∙_}
 use mathlib.Core.Bool.{Bool, true, false, cond}
 use mathlib.Core.List.{List, [], _∷_}
 use native.Mathlib.Omega.{arith}
-use lib.Dec.{leb, eqb}
+use lib.Dec.{leb}
 use lib.ListN.{length}
 use borrow.Author.Tests.{le-leb, leb-true, eq-eqb, ne-eqb}
 use Rattle.rules.specs.Flow.{Flow, done, refused, limit, givenText, finishOf}
 use Rattle.rules.specs.Table.{View, viewOf, tableVerdict, entryCount}
 use Rattle.rules.specs.Text.{Level, Sequence, end, innermost, outer, levelsAt}
-use Rattle.rules.specs.Working.{Context}
-use Rattle.rules.specs.Run.{Frame, iteration, conditional, Outside, sameArguments, other, afterwards, run, doneWith, leave}
+use Rattle.rules.specs.Working.{Context, noneRemain}
+use Rattle.rules.specs.Directive.{either}
+use Rattle.rules.specs.Run.{Frame, iteration, conditional, Outside, sameArguments, other, afterwards, usedUp, oneLess, begin, run, doneWith, leave}
 use Rattle.rules.specs.declared.ArgumentPosition.{ArgumentPosition}
 use Rattle.rules.specs.declared.Setting.{Setting}
+use Rattle.rules.specs.declared.Setting.the-variants.{Absent, Is}
 use Rattle.rules.specs.declared.Verdict.the-variants.{Accepted}
 use Rattle.rules.proofs.Reading.{item-end}
+use Rattle.rules.proofs.RunLaws.{begin-yes, begin-no, run-done, run-clause-end, run-passes-over, run-pass}
+use Rattle.checking.specs.Ends.{AfterBlock}
 use Rattle.rules.proofs.Tests.{both-true, true-both}
 use Rattle.working.specs.Settling.{InHand, handAt}
 use Rattle.working.specs.declared.arguments.Hand.{Hand}
@@ -28,9 +32,9 @@ use Rattle.nesting.specs.declared.moves.How.the-variants.{On, Over}
 use Rattle.nesting.specs.declared.moves.Moved.{Moved}
 use Rattle.nesting.specs.declared.nests.Block.{Block}
 use Rattle.nesting.specs.declared.nests.Nest.{Nest}
-use Rattle.nesting.specs.Nest.{frameOf, framesOf, handLies, blockLies, allLie, Pushes, Fits, FitsPasses}
+use Rattle.nesting.specs.Nest.{blockAt, frameOf, framesOf, handLies, blockLies, allLie, Pushes, Fits, FitsPasses}
 use Rattle.nesting.specs.Moves.{hereAt, overAt, told, toldOver, toldBy, comes, reached, Sound, weight, Moves, Closes, Passing, outsideBy, endsBlock, afterBlock}
-use Rattle.nesting.proofs.NestLaws.{frames-pushed, lie-pushed}
+use Rattle.nesting.proofs.NestLaws.{fewer, frames-pushed, lie-pushed, frames-top, lie-top}
 
 over-on : {code p : ℕ} → _≡_ {A = How} (Over code p) On → ⊥
 over-on e = let z : _≡_ {A = ℕ} 0 1 = cc in omega arith
@@ -138,3 +142,143 @@ module _ (t table : List ℕ) (b : Block) where
         count = omega (arith, z);
         next = omega (arith, z, c);
       }
+
+-- after a block
+pub closes-is : {t : List ℕ} {inside left place : ℕ} {hand : Hand} {next : ArgumentPosition} {o : Nest} (h : Here) → h ≡ hereAt place left hand next → AfterBlock t inside place
+    → Closes t inside left hand next o (record { how = On; here = h; nest = o })
+closes-is {t} {inside} {left} {place} {hand} {next} {o} h q a =
+    let p : h .place ≡ place = ap (λ (x : Here). x .place) q in
+    record {
+      is = ap (λ (x : Here). _is x) (q ∙ ap (λ (x : ℕ). hereAt x left hand next) (sym p));
+      after = rw p (a .is);
+      most = rw p (a .most);
+    }
+  where
+    _is : Here → Moved
+    _is x = record { how = On; here = x; nest = o }
+
+-- an iteration that is over: the arguments in hand after it
+after-list : (b : Block) (c : Context) → b .kind ≡ 1 → afterwards (outsideBy (b .kind) b) c ≡ handAt (b .hand) (b .next .0)
+after-list b c q = rw (eq-eqb (b .kind) 1 q) refl
+
+after-same : (b : Block) (c : Context) → (b .kind ≡ 1 → ⊥) → afterwards (outsideBy (b .kind) b) c ≡ c
+after-same b c q = rw (ne-eqb (b .kind) 1 q) refl
+
+module _ (t table : List ℕ) (h : Here) (b : Block) (o : Nest) (p : Passing t table h b o) where
+  block-hand : handLies table (b .hand) (b .next .0) ≡ true
+  block-hand = both-true (leb (b .inside) (length t)) (handLies table (b .hand) (b .next .0)) (p .lies) .1
+
+  pub block-inside : b .inside ≤ length t
+  block-inside = leb-true (b .inside) (length t) (both-true (leb (b .inside) (length t)) (handLies table (b .hand) (b .next .0)) (p .lies) .0)
+
+  pub closes-list : {r : Moved} → b .kind ≡ 1 → Closes t (b .inside) (h .left) (b .hand) (b .next) o r → Moves t table (afterBlock t table h b o) (h .left) (weight h o + 1) r
+  closes-list q c =
+      moves-out t table {h = h} c
+      (ap (λ (x : Context). run (viewOf table) (h .left) (innermost (outer (levelsAt t (b .inside))) .rest) (framesOf (levelsAt t) o (o .depth)) x) (after-list b _ q))
+      (omega arith) (p .sound) block-hand (omega arith)
+
+  pub closes-same : {r : Moved} → (b .kind ≡ 1 → ⊥) → Closes t (b .inside) (h .left) (h .hand) (h .next) o r → Moves t table (afterBlock t table h b o) (h .left) (weight h o + 1) r
+  closes-same q c =
+      moves-out t table {h = h} c
+      (ap (λ (x : Context). run (viewOf table) (h .left) (innermost (outer (levelsAt t (b .inside))) .rest) (framesOf (levelsAt t) o (o .depth)) x) (after-same b _ q))
+      (omega arith) (p .sound) (p .sound .hand) (omega arith)
+
+-- the end of a pass
+module _ (t table : List ℕ) (h : Here) (b : Block) (o : Nest) (p : Passing t table h b o) where
+  abbrev ends : Flow
+  ends = endsBlock t table h b o
+
+  abbrev over? : Bool
+  over? = either (noneRemain (handAt (h .hand) (h .next .0))) (usedUp (b .passes))
+
+  looped : ends ≡ run (viewOf table) (h .left) end (iteration (b .place) (b .passes) (restAt (levelsAt t) (b .inside)) (innermost (outer (levelsAt t (b .inside))) .rest) (outsideBy (b .kind) b) ∷ framesOf (levelsAt t) o (o .depth)) (handAt (h .hand) (h .next .0))
+  looped = ap (λ (k : Frame). run (viewOf table) (h .left) end (k ∷ framesOf (levelsAt t) o (o .depth)) (handAt (h .hand) (h .next .0))) (loop-frame (levelsAt t) b (p .loops))
+
+  pub pass-over : {r : Moved} → over? ≡ true → Moves t table (afterBlock t table h b o) (h .left) (weight h o + 1) r → Moves t table ends (h .left) (weight h o + 1) r
+  pass-over q m =
+      moves-as t table (looped ∙ run-passes-over (viewOf table) (handAt (h .hand) (h .next .0)) (b .place) (b .passes) _ _ (outsideBy (b .kind) b) _ (h .left) q) (omega arith) (omega arith) m
+
+  module _ (q : over? ≡ false) where
+    begins : ends ≡ begin (b .place) (h .left) (λ m. run (viewOf table) m (restAt (levelsAt t) (b .inside)) (iteration (b .place) (oneLess (b .passes)) (restAt (levelsAt t) (b .inside)) (innermost (outer (levelsAt t (b .inside))) .rest) (outsideBy (b .kind) b) ∷ framesOf (levelsAt t) o (o .depth)) (handAt (h .hand) (h .next .0)))
+    begins = looped ∙ run-pass (viewOf table) (handAt (h .hand) (h .next .0)) (b .place) (b .passes) _ _ (outsideBy (b .kind) b) _ (h .left) q
+
+    pub pass-none : {r : Moved} → h .left ≡ 0 → r ≡ overAt 9 (b .place) h o → Moves t table ends (h .left) (weight h o + 1) r
+    pass-none z e = moves-refused t table e (begins ∙ begin-no (b .place) (h .left) _ z) (omega arith)
+
+    abbrev again : Setting → Block
+    again passes = record { kind = b .kind; place = b .place; inside = b .inside; passes = passes; hand = b .hand; next = b .next }
+
+    pub again-fits : (passes : Setting) → passes ≡ oneLess (b .passes) → Fits (again passes)
+    again-fits passes y =
+        let f = p .fits in
+        record { kind = f .kind; place = f .place; inside = f .inside; passes = rw y (fewer-passes (b .passes) (f .passes)); first = f .first; count = f .count; next = f .next }
+      where
+        fewer-passes : (x : Setting) → FitsPasses x → FitsPasses (oneLess x)
+        fewer-passes Absent z = tt
+        fewer-passes (Is n) z = omega (arith, z)
+
+    pub pass-again : (h .left ≡ 0 → ⊥) → {r : Moved} {passes : Setting} {x : Here} {o′ : Nest} → passes ≡ oneLess (b .passes) → x ≡ hereAt (b .inside) (h .left - 1) (h .hand) (h .next) → Pushes o (again passes) o′
+        → r ≡ record { how = On; here = x; nest = o′ } → Moves t table ends (h .left) (weight h o + 1) r
+    pass-again z {r} {passes} {x} {o′} y w u e =
+        moves-in t table {h = hereAt (b .inside) (h .left - 1) (h .hand) (h .next)}
+        (e ∙ ap (λ (k : Here). record { how = On; here = k; nest = o′ }) w) u
+        (begins ∙ begin-yes (b .place) (h .left) _ z
+        ∙ ap (λ (k : Setting). run (viewOf table) (h .left - 1) (restAt (levelsAt t) (b .inside)) (iteration (b .place) k (restAt (levelsAt t) (b .inside)) (innermost (outer (levelsAt t (b .inside))) .rest) (outsideBy (b .kind) b) ∷ framesOf (levelsAt t) o (o .depth)) (handAt (h .hand) (h .next .0))) (sym y)
+        ∙ ap (λ (k : Frame). run (viewOf table) (h .left - 1) (restAt (levelsAt t) (b .inside)) (k ∷ framesOf (levelsAt t) o (o .depth)) (handAt (h .hand) (h .next .0))) (sym (loop-frame (levelsAt t) (again passes) (p .loops))))
+        (omega arith)
+        (let s = p .sound in record { short = s .short; depth = s .depth; left = omega (arith, s .left); place = block-inside t table h b o p; hand = s .hand; blocks = s .blocks })
+        (p .level) (p .lies) (omega arith)
+
+-- the end of a sequence
+module _ (t table : List ℕ) (h : Here) (o : Nest) where
+  abbrev here : ℕ → Sequence → List Frame → Flow
+  here left x ks = run (viewOf table) left x ks (handAt (h .hand) (h .next .0))
+
+  pub ends-run : {r : Moved} → restAt (levelsAt t) (h .place) ≡ end → o .depth ≡ 0 → r ≡ overAt 0 0 h o → Moves t table (comes t table h o) (h .left) (weight h o) r
+  unfolding framesOf
+  ends-run e z q =
+      moves-over t table q
+      (ap told (ap (λ (x : Sequence). here (h .left) x (framesOf (levelsAt t) o (o .depth))) e ∙ ap (λ (d : ℕ). here (h .left) end (framesOf (levelsAt t) o d)) z ∙ run-done (viewOf table) (handAt (h .hand) (h .next .0)) (h .left))
+      ∙ told-done (h .left) (h .hand .count - h .next .0))
+      (omega arith)
+
+  module _ (s : Sound (length t) table h o) (z : o .depth ≡ 0 → ⊥) where
+    pub top-lies : {b : Block} → b ≡ blockAt o (o .depth - 1) → b .inside ≤ length t
+    top-lies {b} q =
+        leb-true (b .inside) (length t)
+        (both-true (leb (b .inside) (length t)) (handLies table (b .hand) (b .next .0)) (ap (blockLies (length t) table) q ∙ lie-top o z (length t) table (s .blocks) .0) .0)
+
+    pub passing : {b : Block} {k : Nest} → tableVerdict table ≡ Accepted → b ≡ blockAt o (o .depth - 1) → Fits b → k ≡ fewer o → 0 < b .kind → Passing t table h b k
+    passing {b} {k} a q f u l =
+        subst (Passing t table h b) (sym u)
+        (record {
+          accepted = a;
+          sound = record { short = s .short; depth = omega (arith, s .depth); left = s .left; place = s .place; hand = s .hand; blocks = lie-top o z (length t) table (s .blocks) .1 };
+          level = omega (arith, s .depth);
+          loops = l;
+          lies = ap (blockLies (length t) table) q ∙ lie-top o z (length t) table (s .blocks) .0;
+          fits = f;
+        })
+
+    module _ (e : restAt (levelsAt t) (h .place) ≡ end) {b : Block} {k : Nest} (q : b ≡ blockAt o (o .depth - 1)) (u : k ≡ fewer o) where
+      inside-top : comes t table h o ≡ endsBlock t table h b k
+      inside-top =
+          ap (λ (x : Sequence). here (h .left) x (framesOf (levelsAt t) o (o .depth))) e
+          ∙ ap (here (h .left) end) (frames-top o z (levelsAt t))
+          ∙ ap (λ (x : Block). here (h .left) end (frameOf (levelsAt t) x ∷ framesOf (levelsAt t) (fewer o) (o .depth - 1))) (sym q)
+          ∙ ap (λ (x : Nest). here (h .left) end (frameOf (levelsAt t) b ∷ framesOf (levelsAt t) x (x .depth))) (sym u)
+
+      lighter : k .depth + 1 ≡ o .depth
+      lighter = let d : k .depth ≡ o .depth - 1 = ap (λ (x : Nest). x .depth) u in omega (arith, d)
+
+      pub ends-pass : {r : Moved} → Moves t table (endsBlock t table h b k) (h .left) (weight h k + 1) r → Moves t table (comes t table h o) (h .left) (weight h o) r
+      ends-pass m = moves-as t table inside-top (omega arith) (omega (arith, lighter)) m
+
+      pub ends-clause : {r : Moved} → b .kind ≡ 0 → Closes t (b .inside) (h .left) (h .hand) (h .next) k r → Moves t table (comes t table h o) (h .left) (weight h o) r
+      ends-clause y c =
+          moves-out t table {h = h} c
+          (inside-top ∙ ap (λ (x : Frame). here (h .left) end (x ∷ framesOf (levelsAt t) k (k .depth))) (clause-frame (levelsAt t) b y)
+          ∙ run-clause-end (viewOf table) (handAt (h .hand) (h .next .0)) _ _ (h .left))
+          (omega arith)
+          (subst (Sound (length t) table h) (sym u) (record { short = s .short; depth = omega (arith, s .depth); left = s .left; place = s .place; hand = s .hand; blocks = lie-top o z (length t) table (s .blocks) .1 }))
+          (s .hand) (omega (arith, lighter))

@@ -22,7 +22,7 @@ use Rattle.nesting.specs.declared.moves.How.the-variants.{On, Over}
 use Rattle.nesting.specs.declared.moves.Moved.{Moved}
 use Rattle.nesting.specs.declared.nests.Block.{Block}
 use Rattle.nesting.specs.declared.nests.Nest.{Nest}
-use Rattle.nesting.specs.Nest.{frameOf, framesOf, FitsPasses, handLies, blockLies, allLie}
+use Rattle.nesting.specs.Nest.{frameOf, framesOf, Fits, handLies, blockLies, allLie}
 
 abbrev pub hereAt : ℕ → ℕ → Hand → ArgumentPosition → Here
 hereAt place left hand next = record { place = place; left = left; hand = hand; next = next }
@@ -99,7 +99,7 @@ pub record Passing (t table : List ℕ) (h : Here) (b : Block) (o : Nest) : Type
   pub level : o .depth < 8
   pub loops : 0 < b .kind
   pub lies : blockLies (length t) table b ≡ true
-  pub numbers : (b .kind ≤ 65535) × ((b .place ≤ 65535) × FitsPasses (b .passes))
+  pub fits : Fits b
 
 -- what comes where a pass of it ends
 abbrev pub endsBlock : List ℕ → List ℕ → Here → Block → Nest → Flow

@@ -47,7 +47,8 @@ pub struct Nest {
 }
 
 fn passes_of(n: u16) -> Setting
-    ensures { λ r. ⌜ r ≡ passesOf n ⌝ }
+    ensures is { λ r. ⌜ r ≡ passesOf n ⌝ }
+    ensures fits { λ r. ⌜ FitsPasses r ⌝ }
 {
     if n == UNLIMITED {
         return Setting::Absent;
@@ -68,7 +69,8 @@ fn number_of(passes: Setting) -> u16
 // Block i of the open ones.
 pub fn block_at(nest: Nest, i: usize) -> Block
     requires { ⌜ i < 8 ⌝ }
-    ensures { λ r. ⌜ r ≡ blockAt nest i ⌝ }
+    ensures is { λ r. ⌜ r ≡ blockAt nest i ⌝ }
+    ensures fits { λ r. ⌜ Fits r ⌝ }
 {
     Block {
         kind: widened(nest.kinds[i]),

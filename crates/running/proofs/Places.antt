@@ -6,14 +6,13 @@ use native.Mathlib.Omega.{arith}
 use lib.ListN.{length}
 use Rattle.rules.specs.Directive.{itemAt}
 use Rattle.rules.specs.Text.{end, levelsAt, innermost, Level}
-use Rattle.rules.specs.declared.Bracket.{Bracket}
 use Rattle.rules.specs.declared.Bracket.the-variants.{Conditional, Iteration}
 use Rattle.rules.specs.declared.Code.{Code}
 use Rattle.rules.specs.declared.Code.the-variants.{Writes, Jump, Escape, Opens, Separator, Closes, Unknown}
 use Rattle.rules.specs.declared.Directive.{Directive}
 use Rattle.rules.specs.declared.Form.{Form}
-use Rattle.rules.specs.declared.Item.the-variants.{End, Literal, Written, BadNumber, Unfinished}
-use Rattle.rules.proofs.TextLaws.{levels-end, levels-literal, levels-bad, levels-unfinished, levels-writes, levels-jump, levels-escape, levels-iteration, levels-conditional, levels-separator, levels-closer, levels-unknown, next-inside, stands}
+use Rattle.rules.specs.declared.Item.the-variants.{End, Literal, Written}
+use Rattle.rules.proofs.TextLaws.{levels-end, levels-literal, levels-writes, levels-jump, levels-escape, levels-iteration, levels-conditional, next-inside, stands}
 use Rattle.running.specs.Runs.{ActsAt, EscapesAt, AloneAt, IteratesAt, ChoosesAt, Ahead, restAt}
 
 module _ (t : List ℕ) (p : ℕ) where
@@ -28,12 +27,6 @@ module _ (t : List ℕ) (p : ℕ) where
 
   pub end-at : itemAt t p ≡ End → restAt (levelsAt t) p ≡ end
   end-at e = rest-of (levels-end t p e) refl
-
-  pub bad-at : itemAt t p ≡ BadNumber → restAt (levelsAt t) p ≡ end
-  bad-at e = rest-of (levels-bad t p e) refl
-
-  pub unfinished-at : itemAt t p ≡ Unfinished → restAt (levelsAt t) p ≡ end
-  unfinished-at e = rest-of (levels-unfinished t p e) refl
 
   module _ (d : Directive) (e : itemAt t p ≡ Written d) where
     pub writes-at : (f : Form) → d .code ≡ Writes f → ActsAt (levelsAt t) p p (Written d) (d .next)
@@ -62,12 +55,3 @@ module _ (t : List ℕ) (p : ℕ) where
 
     pub conditional-at : d .code ≡ Opens Conditional → ChoosesAt (levelsAt t) p p d (d .next)
     conditional-at q = record { is = levels-conditional t p d e q }
-
-    pub separator-at : d .code ≡ Separator → restAt (levelsAt t) p ≡ end
-    separator-at q = rest-of (levels-separator t p d e q) refl
-
-    pub closer-at : (b : Bracket) → d .code ≡ Closes b → restAt (levelsAt t) p ≡ end
-    closer-at b q = rest-of (levels-closer t p d e b q) refl
-
-    pub unknown-at : d .code ≡ Unknown → restAt (levelsAt t) p ≡ end
-    unknown-at q = rest-of (levels-unknown t p d e q) refl

@@ -57,7 +57,8 @@ fn wide(byte: u8) -> usize
 }
 
 pub fn widened(n: u16) -> usize
-    ensures { λ r. ⌜ r ≡ n ⌝ }
+    ensures is { λ r. ⌜ r ≡ n ⌝ }
+    ensures within { λ r. ⌜ r ≤ 65535 ⌝ }
 {
     n as usize
 }

@@ -16,7 +16,7 @@ widened-requires : tie.Need-widened-requires
 widened-requires c κs = search needs
 
 returns : tie.Need-returns
-returns c = c .widened .ensures ∙ cell-is (c .before .before .before .before .args .marks .now) (c .before .before .before .before .args .i) (c .before .before .if1 .taken)
+returns c = c .widened .ensures .0 ∙ cell-is (c .before .before .before .before .args .marks .now) (c .before .before .before .before .args .i) (c .before .before .if1 .taken)
 
 returns-2 : tie.Need-returns-2
 returns-2 c = sym (List·getD-eq-default ((c .before .before) .args .marks .now) 65535 (c .if1 .left))

@@ -1,3 +1,5 @@
+use Rattle.nesting.proofs.MoveLaws.{closes-is}
+use Rattle.blocks.proofs.ClauseLaws.{inside-start}
 use borrow.Author.Needs.{needs}
 use Rattle.nesting.proofs.moves.close.Statement.{statement}
 use Rattle.nesting.proofs.moves.close.Tie as tie
@@ -6,17 +8,14 @@ use Rattle.nesting.proofs.moves.close.Lts as lts
 use Rattle.blocks.proofs.clauses.block_end.Reads as block-end-reads
 use Rattle.nesting.proofs.moves.stand.Reads as stand-reads
 
--- src/moves.rt:258:21
 block-end-requires : tie.Need-block-end-requires
-block-end-requires c κs = search needs
+block-end-requires c κs = (c .before .before .pre .0, inside-start (c .before .before .args .text .now) (c .before .before .args .inside) (c .before .before .pre .1))
 
--- src/moves.rt:258:15
 stand-requires : tie.Need-stand-requires
 stand-requires c κs = search needs
 
--- src/moves.rt:243:1
 returns : tie.Need-returns
-returns c = ?
+returns c = closes-is (c .stand .result) (c .stand .ensures) (c .before .block-end .ensures)
 
 pub close-spec : {M : Type 1} → statement M
 close-spec = tie.close (tie.spec block-end-requires stand-requires returns)

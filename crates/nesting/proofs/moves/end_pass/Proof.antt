@@ -1,3 +1,5 @@
+use mathlib.Core.Path.{refl, sym, _∙_}
+use Rattle.nesting.proofs.MoveLaws.{pass-over, pass-none, again-fits, pass-again}
 use borrow.Author.Needs.{needs}
 use Rattle.nesting.proofs.moves.end_pass.Statement.{statement}
 use Rattle.nesting.proofs.moves.end_pass.Tie as tie
@@ -10,45 +12,35 @@ use Rattle.nesting.proofs.moves.over.Reads as over-reads
 use Rattle.nesting.proofs.moves.stand.Reads as stand-reads
 use Rattle.nesting.proofs.nests.pushed.Reads as pushed-reads
 
--- src/moves.rt:302:8
 is-over-requires : tie.Need-is-over-requires
 is-over-requires c κs = search needs
 
--- src/moves.rt:303:9
 close-iteration-requires : tie.Need-close-iteration-requires
-close-iteration-requires c κs = search needs
+close-iteration-requires c κs = (c .before .before .before .before .before .before .before .pre .0, c .before .before .before .before .before .before .before .pre .1)
 
--- src/moves.rt:303:9
 returns : tie.Need-returns
-returns c = ?
+returns c = let a = c .before .before .before .before .before .before .before .before .args in pass-over (a .text .now) (a .table .now) (a .here) (a .block) (a .outside) (c .before .before .before .before .before .before .before .before .pre .1) (sym (c .before .before .is-over .ensures) ∙ c .before .if1 .taken) (c .close-iteration .ensures)
 
--- src/moves.rt:306:9
 over-requires : tie.Need-over-requires
 over-requires c κs = search needs
 
--- src/moves.rt:306:9
 returns-2 : tie.Need-returns-2
-returns-2 c = ?
+returns-2 c = let a = c .before .before .before .before .before .before .before .before .before .before .args in pass-none (a .text .now) (a .table .now) (a .here) (a .block) (a .outside) (c .before .before .before .before .before .before .before .before .before .before .pre .1) (sym (c .before .before .before .before .is-over .ensures) ∙ c .before .before .before .if1 .left) (c .before .if2 .taken) (c .over .ensures)
 
--- src/moves.rt:314:17
 one-less-requires : tie.Need-one-less-requires
 one-less-requires c κs = search needs
 
--- src/moves.rt:320:35
 sub-stand : tie.Need-sub-stand
 sub-stand c = search needs
 
--- src/moves.rt:320:15
 stand-requires : tie.Need-stand-requires
 stand-requires c κs = search needs
 
--- src/moves.rt:321:15
 pushed-requires : tie.Need-pushed-requires
-pushed-requires c κs = ?
+pushed-requires c κs = let a = c .before .before .before .before .before .before .before .before .before .before .before .before .before .before .args in (c .before .before .before .before .before .before .before .before .before .before .before .before .before .before .pre .1 .level, again-fits (a .text .now) (a .table .now) (a .here) (a .block) (a .outside) (c .before .before .before .before .before .before .before .before .before .before .before .before .before .before .pre .1) (sym (c .before .before .before .before .before .before .before .before .is-over .ensures) ∙ c .before .before .before .before .before .before .before .if1 .left) (c .before .before .one-less .result) (c .before .before .one-less .ensures))
 
--- src/moves.rt:287:1
 returns-3 : tie.Need-returns-3
-returns-3 c = ?
+returns-3 c = let a = c .before .before .before .before .before .before .before .before .before .before .before .before .before .before .before .args in pass-again (a .text .now) (a .table .now) (a .here) (a .block) (a .outside) (c .before .before .before .before .before .before .before .before .before .before .before .before .before .before .before .pre .1) (sym (c .before .before .before .before .before .before .before .before .before .is-over .ensures) ∙ c .before .before .before .before .before .before .before .before .if1 .left) (c .before .before .before .before .before .before .if2 .left) (c .before .before .before .one-less .ensures) (c .before .stand .ensures) (c .pushed .ensures) refl
 
 pub end-pass-spec : {M : Type 1} → statement M
 end-pass-spec =

@@ -1,3 +1,8 @@
+use mathlib.Core.Path.{sym, subst, _∙_}
+use mathlib.Core.Bool.{true, false}
+use borrow.Author.Tests.{not-true, not-false}
+use Rattle.working.specs.Settling.{SettlesDirective}
+use Rattle.nesting.proofs.OpenLaws.{ready-hand, ready-next, passes-fit, open-ill, open-unsettled, open-settled}
 use borrow.Author.Needs.{needs}
 use Rattle.nesting.proofs.moves.open_begun.Statement.{statement}
 use Rattle.nesting.proofs.moves.open_begun.Tie as tie
@@ -10,57 +15,44 @@ use Rattle.nesting.proofs.moves.open_iteration.Reads as open-iteration-
 use Rattle.nesting.proofs.moves.over.Reads as over-reads
 use Rattle.working.proofs.settle_directive.Reads as settle-directive-reads
 
--- src/moves.rt:198:9
 is-well-written-requires : tie.Need-is-well-written-requires
 is-well-written-requires c κs = search needs
 
--- src/moves.rt:199:9
 over-requires : tie.Need-over-requires
 over-requires c κs = search needs
 
--- src/moves.rt:199:9
 returns : tie.Need-returns
-returns c = ?
+returns c = let a = c .before .before .before .before .before .before .before .before .args in open-ill (a .text .now) (a .table .now) (a .here) (a .nest) (a .d) (c .before .before .before .before .before .before .before .before .pre .1) (sym (c .before .before .is-well-written .ensures) ∙ not-true _ (c .before .if1 .taken)) (c .over .ensures)
 
--- src/moves.rt:201:9
 settle-directive-requires : tie.Need-settle-directive-requires
-settle-directive-requires c κs = ?
+settle-directive-requires c κs = let a = c .before .before .before .before .before .before .before .args in (ready-hand (a .text .now) (a .table .now) (a .here) (a .nest) (a .d) (c .before .before .before .before .before .before .before .pre .1), ready-next (a .text .now) (a .table .now) (a .here) (a .nest) (a .d) (c .before .before .before .before .before .before .before .pre .1))
 
--- src/moves.rt:203:27
 enum-known-settled : tie.Need-enum-known-settled
 enum-known-settled c = search needs
 
--- src/moves.rt:203:36
 over-requires-2 : tie.Need-over-requires-2
 over-requires-2 c κs = search needs
 
--- src/moves.rt:204:26
 enum-known-settled-2 : tie.Need-enum-known-settled-2
 enum-known-settled-2 c = search needs
 
--- src/moves.rt:206:16
 is-iteration-requires : tie.Need-is-iteration-requires
 is-iteration-requires c κs = search needs
 
--- src/moves.rt:207:17
 open-iteration-requires : tie.Need-open-iteration-requires
-open-iteration-requires c κs = ?
+open-iteration-requires c κs = let a = c .before .before .before .before .before .before .before .before .before .before .before .before .before .args in let g = (subst (SettlesDirective (a .table .now) (a .here .hand) (a .d) (a .here .next .0)) (c .before .before .before .settled2 .given .1) (c .before .before .before .before .before .settle-directive .ensures)) in (c .before .before .before .before .before .before .before .before .before .before .before .before .before .pre .1, (g .reaches, passes-fit (a .d) _ (sym (c .before .is-iteration .ensures) ∙ c .if2 .taken) (g .lies (sym (c .before .before .before .before .before .before .before .is-well-written .ensures) ∙ not-false _ (c .before .before .before .before .before .before .if1 .left)))))
 
--- src/moves.rt:207:17
 returns-2 : tie.Need-returns-2
-returns-2 c = ?
+returns-2 c = let a = c .before .before .before .before .before .before .before .before .before .before .before .before .before .before .args in open-settled (a .text .now) (a .table .now) (a .here) (a .nest) (a .d) (c .before .before .before .before .before .before .before .before .before .before .before .before .before .before .pre .1) true (sym (c .before .before .is-iteration .ensures) ∙ c .before .if2 .taken) (sym (c .before .before .before .before .before .before .before .before .is-well-written .ensures) ∙ not-false _ (c .before .before .before .before .before .before .before .if1 .left)) (subst (SettlesDirective (a .table .now) (a .here .hand) (a .d) (a .here .next .0)) (c .before .before .before .before .settled2 .given .1) (c .before .before .before .before .before .before .settle-directive .ensures)) (c .open-iteration .ensures (a .here .next .0))
 
--- src/moves.rt:209:13
 open-conditional-requires : tie.Need-open-conditional-requires
-open-conditional-requires c κs = ?
+open-conditional-requires c κs = let a = c .before .before .before .before .before .before .before .before .before .before .before .before .before .args in let g = (subst (SettlesDirective (a .table .now) (a .here .hand) (a .d) (a .here .next .0)) (c .before .before .before .settled2 .given .1) (c .before .before .before .before .before .settle-directive .ensures)) in (c .before .before .before .before .before .before .before .before .before .before .before .before .before .pre .0, (c .before .before .before .before .before .before .before .before .before .before .before .before .before .pre .1, g .reaches))
 
--- src/moves.rt:184:1
 returns-3 : tie.Need-returns-3
-returns-3 c = ?
+returns-3 c = let a = c .before .before .before .before .before .before .before .before .before .before .before .before .args in open-unsettled (a .text .now) (a .table .now) (a .here) (a .nest) (a .d) (c .before .before .before .before .before .before .before .before .before .before .before .before .pre .1) (sym (c .before .before .before .before .before .before .is-well-written .ensures) ∙ not-false _ (c .before .before .before .before .before .if1 .left)) (subst (SettlesDirective (a .table .now) (a .here .hand) (a .d) (a .here .next .0)) (c .before .before .settled .given .1) (c .before .before .before .before .settle-directive .ensures)) (c .over2 .ensures)
 
--- src/moves.rt:184:1
 returns-4 : tie.Need-returns-4
-returns-4 c = ?
+returns-4 c = let a = c .before .before .before .before .before .before .before .before .before .before .before .before .before .before .args in open-settled (a .text .now) (a .table .now) (a .here) (a .nest) (a .d) (c .before .before .before .before .before .before .before .before .before .before .before .before .before .before .pre .1) false (sym (c .before .before .is-iteration .ensures) ∙ c .before .if2 .left) (sym (c .before .before .before .before .before .before .before .before .is-well-written .ensures) ∙ not-false _ (c .before .before .before .before .before .before .before .if1 .left)) (subst (SettlesDirective (a .table .now) (a .here .hand) (a .d) (a .here .next .0)) (c .before .before .before .before .settled2 .given .1) (c .before .before .before .before .before .before .settle-directive .ensures)) (c .open-conditional .ensures (a .here .next .0))
 
 pub open-begun-spec : {M : Type 1} → statement M
 open-begun-spec =

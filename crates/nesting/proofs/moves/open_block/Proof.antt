@@ -1,3 +1,5 @@
+use native.Mathlib.Omega.{arith}
+use Rattle.nesting.proofs.OpenLaws.{met-deep, met-none, met-ready, met-on}
 use borrow.Author.Needs.{needs}
 use Rattle.nesting.proofs.moves.open_block.Statement.{statement}
 use Rattle.nesting.proofs.moves.open_block.Tie as tie
@@ -7,37 +9,29 @@ use Rattle.nesting.proofs.moves.open_begun.Reads as open-begun-reads
 use Rattle.nesting.proofs.moves.over.Reads as over-reads
 use Rattle.nesting.proofs.moves.stand.Reads as stand-reads
 
--- src/moves.rt:231:9
 over-requires : tie.Need-over-requires
 over-requires c κs = search needs
 
--- src/moves.rt:231:9
 returns : tie.Need-returns
-returns c = ?
+returns c = let a = c .before .before .before .before .before .before .args in met-deep (a .text .now) (a .table .now) (a .here) (a .nest) (a .d) (c .before .before .before .before .before .before .pre .1 .1 .1 .0) (c .before .before .before .before .before .before .pre .1 .1 .1 .1) (c .before .if1 .taken) (c .over .ensures)
 
--- src/moves.rt:234:9
 over-requires-2 : tie.Need-over-requires-2
 over-requires-2 c κs = search needs
 
--- src/moves.rt:234:9
 returns-2 : tie.Need-returns-2
-returns-2 c = ?
+returns-2 c = let a = c .before .before .before .before .before .before .before .before .args in met-none (a .text .now) (a .table .now) (a .here) (a .nest) (a .d) (c .before .before .before .before .before .before .before .before .pre .1 .1 .1 .0) (c .before .before .before .before .before .before .before .before .pre .1 .1 .1 .1) (omega (arith, c .before .before .before .if1 .left)) (c .before .if2 .taken) (c .over2 .ensures)
 
--- src/moves.rt:238:35
 sub-stand : tie.Need-sub-stand
 sub-stand c = search needs
 
--- src/moves.rt:238:9
 stand-requires : tie.Need-stand-requires
 stand-requires c κs = search needs
 
--- src/moves.rt:239:5
 open-begun-requires : tie.Need-open-begun-requires
-open-begun-requires c κs = ?
+open-begun-requires c κs = let a = c .before .before .before .before .before .before .before .before .before .before .before .args in (c .before .before .before .before .before .before .before .before .before .before .before .pre .0, met-ready (a .text .now) (a .table .now) (a .here) (a .nest) (a .d) (c .before .before .before .before .before .before .before .before .before .before .before .pre .1 .1 .1 .0) (c .before .before .before .before .before .before .before .before .before .before .before .pre .1 .1 .1 .1) (omega (arith, c .before .before .before .before .before .before .if1 .left)) (c .before .before .before .before .if2 .left) (c .stand .ensures) (c .before .before .before .before .before .before .before .before .before .before .before .pre .1 .0) (c .before .before .before .before .before .before .before .before .before .before .before .pre .1 .1 .0))
 
--- src/moves.rt:215:1
 returns-3 : tie.Need-returns-3
-returns-3 c = ?
+returns-3 c = let a = c .before .before .before .before .before .before .before .before .before .before .before .before .args in met-on (a .text .now) (a .table .now) (a .here) (a .nest) (a .d) (c .before .before .before .before .before .before .before .before .before .before .before .before .pre .1 .1 .1 .0) (c .before .before .before .before .before .before .before .before .before .before .before .before .pre .1 .1 .1 .1) (omega (arith, c .before .before .before .before .before .before .before .if1 .left)) (c .before .before .before .before .before .if2 .left) (c .before .stand .ensures) (c .open-begun .ensures)
 
 pub open-block-spec : {M : Type 1} → statement M
 open-block-spec =

@@ -1,3 +1,6 @@
+use mathlib.Core.Path.{refl, subst}
+use Rattle.blocks.specs.Clauses.{Chooses}
+use Rattle.nesting.proofs.OpenLaws.{ready-hand, clause-fits, conditional-wrong, conditional-none, conditional-on}
 use borrow.Author.Needs.{needs}
 use Rattle.nesting.proofs.moves.open_conditional.Statement.{statement}
 use Rattle.nesting.proofs.moves.open_conditional.Tie as tie
@@ -9,53 +12,41 @@ use Rattle.nesting.proofs.moves.over.Reads as over-reads
 use Rattle.nesting.proofs.moves.stand.Reads as stand-reads
 use Rattle.nesting.proofs.nests.pushed.Reads as pushed-reads
 
--- src/moves.rt:152:9
 choose-clause-requires : tie.Need-choose-clause-requires
-choose-clause-requires c κs = ?
+choose-clause-requires c κs = let a = c .before .before .before .before .args in (c .before .before .before .before .pre .0, (ready-hand (a .text .now) (a .table .now) (a .here) (a .nest) (a .d) (c .before .before .before .before .pre .1 .0), (c .before .before .before .before .pre .1 .1, c .before .before .before .before .pre .1 .0 .inside)))
 
--- src/moves.rt:154:22
 enum-known-chosen : tie.Need-enum-known-chosen
 enum-known-chosen c = search needs
 
--- src/moves.rt:165:23
 stand-requires : tie.Need-stand-requires
 stand-requires c κs = search needs
 
--- src/moves.rt:166:23
 pushed-requires : tie.Need-pushed-requires
-pushed-requires c κs = ?
+pushed-requires c κs = let a = c .before .before .before .before .before .before .before .before .before .args in (c .before .before .before .before .before .before .before .before .before .pre .1 .0 .level, clause-fits (a .text .now) (a .table .now) (a .here) (a .nest) (a .d) (c .before .before .before .before .before .before .before .before .before .pre .1 .0) (a .settings) (a .i) (c .before .before .before .before .before .before .before .before .before .pre .1 .1) (subst (Chooses (a .text .now) (a .table .now) (a .here .hand) (a .d) (a .settings) (a .i .0)) (c .before .before .chosen .given .1) (c .before .before .before .before .choose-clause .ensures)))
 
--- src/moves.rt:169:27
 enum-known-chosen-2 : tie.Need-enum-known-chosen-2
 enum-known-chosen-2 c = search needs
 
--- src/moves.rt:172:17
 block-end-requires : tie.Need-block-end-requires
-block-end-requires c κs = ?
+block-end-requires c κs = let a = c .before .before .before .before .before .before .before .before .args in (c .before .before .before .before .before .before .before .before .pre .0, ((subst (Chooses (a .text .now) (a .table .now) (a .here .hand) (a .d) (a .settings) (a .i .0)) (c .before .chosen2 .given .1) (c .before .before .before .choose-clause .ensures))) .inside .0)
 
--- src/moves.rt:171:19
 stand-requires-2 : tie.Need-stand-requires-2
 stand-requires-2 c κs = search needs
 
--- src/moves.rt:179:23
 enum-known-chosen-3 : tie.Need-enum-known-chosen-3
 enum-known-chosen-3 c = search needs
 
--- src/moves.rt:179:32
 over-requires : tie.Need-over-requires
 over-requires c κs = search needs
 
--- src/moves.rt:136:1
 returns : tie.Need-returns
-returns c = ?
+returns c = let a = c .before .before .before .before .before .before .before .before .before .before .args in λ j. conditional-on (a .text .now) (a .table .now) (a .here) (a .nest) (a .d) (c .before .before .before .before .before .before .before .before .before .before .pre .1 .0) (a .settings) (a .i) (c .before .before .before .before .before .before .before .before .before .before .pre .1 .1) (subst (Chooses (a .text .now) (a .table .now) (a .here .hand) (a .d) (a .settings) (a .i .0)) (c .before .before .before .chosen .given .1) (c .before .before .before .before .before .choose-clause .ensures)) j (c .before .stand .ensures) (c .pushed .ensures) refl
 
--- src/moves.rt:136:1
 returns-2 : tie.Need-returns-2
-returns-2 c = ?
+returns-2 c = let a = c .before .before .before .before .before .before .before .before .before .before .args in λ j. conditional-none (a .text .now) (a .table .now) (a .here) (a .nest) (a .d) (c .before .before .before .before .before .before .before .before .before .before .pre .1 .0) (a .settings) (a .i) (c .before .before .before .before .before .before .before .before .before .before .pre .1 .1) j (subst (Chooses (a .text .now) (a .table .now) (a .here .hand) (a .d) (a .settings) (a .i .0)) (c .before .before .before .chosen2 .given .1) (c .before .before .before .before .before .choose-clause .ensures)) (c .before .block-end .ensures) (c .stand2 .ensures) refl
 
--- src/moves.rt:136:1
 returns-3 : tie.Need-returns-3
-returns-3 c = ?
+returns-3 c = let a = c .before .before .before .before .before .before .before .before .before .args in λ j. conditional-wrong (a .text .now) (a .table .now) (a .here) (a .nest) (a .d) (c .before .before .before .before .before .before .before .before .before .pre .1 .0) (a .settings) (a .i) (c .before .before .before .before .before .before .before .before .before .pre .1 .1) j (subst (Chooses (a .text .now) (a .table .now) (a .here .hand) (a .d) (a .settings) (a .i .0)) (c .before .before .chosen3 .given .1) (c .before .before .before .before .choose-clause .ensures)) (c .over .ensures)
 
 pub open-conditional-spec : {M : Type 1} → statement M
 open-conditional-spec =

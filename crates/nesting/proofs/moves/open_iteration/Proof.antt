@@ -1,3 +1,8 @@
+use mathlib.Core.Path.{refl, subst}
+use native.Mathlib.Omega.{arith}
+use Rattle.working.proofs.WorkLaws.{hand-small}
+use Rattle.blocks.specs.Parts.{GoesOver}
+use Rattle.nesting.proofs.OpenLaws.{ready-hand, loop-fits, iteration-wrong, iteration-on}
 use borrow.Author.Needs.{needs}
 use Rattle.nesting.proofs.moves.open_iteration.Statement.{statement}
 use Rattle.nesting.proofs.moves.open_iteration.Tie as tie
@@ -10,45 +15,35 @@ use Rattle.nesting.proofs.moves.over.Reads as over-reads
 use Rattle.nesting.proofs.moves.stand.Reads as stand-reads
 use Rattle.nesting.proofs.nests.pushed.Reads as pushed-reads
 
--- src/moves.rt:114:9
 go-over-requires : tie.Need-go-over-requires
-go-over-requires c κs = ?
+go-over-requires c κs = let a = c .before .before .before .args in (ready-hand (a .text .now) (a .table .now) (a .here) (a .nest) (a .d) (c .before .before .before .pre .0), c .before .before .before .pre .1 .0)
 
--- src/moves.rt:116:21
 enum-known-entries : tie.Need-enum-known-entries
 enum-known-entries c = search needs
 
--- src/moves.rt:116:30
 over-requires : tie.Need-over-requires
 over-requires c κs = search needs
 
--- src/moves.rt:117:26
 enum-known-entries-2 : tie.Need-enum-known-entries-2
 enum-known-entries-2 c = search needs
 
--- src/moves.rt:119:23
 iteration-kind-requires : tie.Need-iteration-kind-requires
 iteration-kind-requires c κs = search needs
 
--- src/moves.rt:124:23
 next-after-requires : tie.Need-next-after-requires
-next-after-requires c κs = ?
+next-after-requires c κs = let a = c .before .before .before .before .before .before .before .before .args in omega (arith, c .before .before .before .before .before .before .before .before .pre .1 .0, hand-small (ready-hand (a .text .now) (a .table .now) (a .here) (a .nest) (a .d) (c .before .before .before .before .before .before .before .before .pre .0)))
 
--- src/moves.rt:128:23
 stand-requires : tie.Need-stand-requires
 stand-requires c κs = search needs
 
--- src/moves.rt:129:23
 pushed-requires : tie.Need-pushed-requires
-pushed-requires c κs = ?
+pushed-requires c κs = let a = c .before .before .before .before .before .before .before .before .before .before .args in (c .before .before .before .before .before .before .before .before .before .before .pre .0 .level, loop-fits (a .text .now) (a .table .now) (a .here) (a .nest) (a .d) (c .before .before .before .before .before .before .before .before .before .before .pre .0) (a .settings) (a .i) (c .before .before .before .before .before .before .before .before .before .before .pre .1 .0) (subst (GoesOver (a .table .now) (a .here .hand) (a .d .at) (a .i .0)) (c .before .before .before .before .entries2 .given .1) (c .before .before .before .before .before .before .go-over .ensures)) (c .before .before .iteration-kind .ensures) (c .before .next-after .ensures) (c .before .before .before .before .before .before .before .before .before .before .pre .1 .1))
 
--- src/moves.rt:98:1
 returns : tie.Need-returns
-returns c = ?
+returns c = let a = c .before .before .before .before .before .before .before .before .args in λ j. iteration-wrong (a .text .now) (a .table .now) (a .here) (a .nest) (a .d) (c .before .before .before .before .before .before .before .before .pre .0) (a .settings) (a .i) (c .before .before .before .before .before .before .before .before .pre .1 .0) j (subst (GoesOver (a .table .now) (a .here .hand) (a .d .at) (a .i .0)) (c .before .before .entries .given .1) (c .before .before .before .before .go-over .ensures)) (c .over .ensures)
 
--- src/moves.rt:98:1
 returns-2 : tie.Need-returns-2
-returns-2 c = ?
+returns-2 c = let a = c .before .before .before .before .before .before .before .before .before .before .before .args in λ j. iteration-on (a .text .now) (a .table .now) (a .here) (a .nest) (a .d) (c .before .before .before .before .before .before .before .before .before .before .before .pre .0) (a .settings) (a .i) (c .before .before .before .before .before .before .before .before .before .before .before .pre .1 .0) (subst (GoesOver (a .table .now) (a .here .hand) (a .d .at) (a .i .0)) (c .before .before .before .before .before .entries2 .given .1) (c .before .before .before .before .before .before .before .go-over .ensures)) (c .before .before .before .iteration-kind .ensures) (c .before .before .next-after .ensures) j (c .before .stand .ensures) (c .pushed .ensures) refl
 
 pub open-iteration-spec : {M : Type 1} → statement M
 open-iteration-spec =

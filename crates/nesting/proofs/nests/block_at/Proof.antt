@@ -72,8 +72,10 @@ widened-requires-6 c κs = search needs
 
 returns : tie.Need-returns
 returns c =
-    let a = c .before .before .before .before .before .before .before .before .before .before .before .before .before .before .args in
-    block-is (a .t1) (a .i) (c .before .before .before .before .before .before .before .before .before .before .before .before .widened .ensures) (c .before .before .before .before .before .before .before .before .before .before .widened2 .ensures) (c .before .before .before .before .before .before .before .before .widened3 .ensures) (c .before .before .before .before .before .before .passes-of .ensures) (c .before .before .before .before .widened4 .ensures) (c .before .before .widened5 .ensures) (c .widened6 .ensures)
+    let a = c .before .before .before .before .before .before .before .before .before .before .before .before .before .before .args in (
+      block-is (a .t1) (a .i) (c .before .before .before .before .before .before .before .before .before .before .before .before .widened .ensures .0) (c .before .before .before .before .before .before .before .before .before .before .widened2 .ensures .0) (c .before .before .before .before .before .before .before .before .widened3 .ensures .0) (c .before .before .before .before .before .before .passes-of .ensures .0) (c .before .before .before .before .widened4 .ensures .0) (c .before .before .widened5 .ensures .0) (c .widened6 .ensures .0),
+      record { kind = c .before .before .before .before .before .before .before .before .before .before .before .before .widened .ensures .1; place = c .before .before .before .before .before .before .before .before .before .before .widened2 .ensures .1; inside = c .before .before .before .before .before .before .before .before .widened3 .ensures .1; passes = c .before .before .before .before .before .before .passes-of .ensures .1; first = c .before .before .before .before .widened4 .ensures .1; count = c .before .before .widened5 .ensures .1; next = c .widened6 .ensures .1 },
+    )
 
 pub block-at-spec : {M : Type 1} → statement M
 block-at-spec =

@@ -1,6 +1,7 @@
 use mathlib.Core.Path.{sym, ap}
 use Rattle.nesting.specs.Nest.{passesOf}
 use Rattle.nesting.proofs.NestLaws.{limits}
+use native.Mathlib.Omega.{arith}
 use borrow.Author.Needs.{needs}
 use Rattle.nesting.proofs.nests.passes_of.Statement.{statement}
 use Rattle.nesting.proofs.nests.passes_of.Tie as tie
@@ -9,13 +10,15 @@ use Rattle.nesting.proofs.nests.passes_of.Lts as lts
 use Rattle.working.proofs.widened.Reads as widened-reads
 
 returns : tie.Need-returns
-returns c = ap passesOf (sym (c .if1 .taken))
+returns c = (ap passesOf (sym (c .if1 .taken)), tt)
 
 widened-requires : tie.Need-widened-requires
 widened-requires c κs = search needs
 
 returns-2 : tie.Need-returns-2
-returns-2 c = rw (c .widened .ensures) (sym (limits _ (c .before .if1 .left)))
+returns-2 c =
+    let h = c .before .if1 .left in
+    rw (c .widened .ensures .0) (sym (limits _ h), omega (arith, h, c .before .before .good))
 
 pub passes-of-spec : {M : Type 1} → statement M
 passes-of-spec = tie.close (tie.spec returns widened-requires returns-2)

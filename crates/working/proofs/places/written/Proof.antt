@@ -29,7 +29,7 @@ returns : tie.Need-returns
 returns c = default-written (c .enum-told .given .1)
 
 returns-2 : tie.Need-returns-2
-returns-2 c = number-written (c .before .before .x .given .1) (c .widened .ensures)
+returns-2 c = number-written (c .before .before .x .given .1) (c .widened .ensures .0)
 
 returns-3 : tie.Need-returns-3
 returns-3 c = byte-written (c .before .before .x2 .given .1) (c .wide .ensures)
