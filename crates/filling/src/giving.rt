@@ -59,7 +59,7 @@ pub fn no_rest() -> QuoteRest
     }
 }
 
-fn on(here: Here, given: usize, at: usize) -> Put
+pub fn on(here: Here, given: usize, at: usize) -> Put
     ensures { λ r. ⌜ r ≡ putOn here given at ⌝ }
 {
     Put {

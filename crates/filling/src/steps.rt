@@ -4,6 +4,7 @@ use crate::giving::Reach;
 use crate::giving::give_byte;
 use crate::giving::give_form;
 use crate::giving::no_rest;
+use crate::giving::on;
 use crate::giving::over;
 use crate::giving::stepped;
 use acting::acting::act_jump;
@@ -169,15 +170,15 @@ fn jump(d: Directive, table: &[u8], here: Here, given: usize, at: usize) -> Put
     let r = act_jump(spot, d, table, hand, next);
     let stop = r.stop;
     let after = r.next;
+    let there = Here {
+        place: d.next,
+        left: r.left,
+        hand,
+        next: after,
+    };
     match stop {
-        Stop::Refused { code, position } => over(code, position, stepped(here, d.next, next), at),
-        _ => Put {
-            reach: Reach::On,
-            here: stepped(here, d.next, after),
-            given,
-            rest: no_rest(),
-            at,
-        },
+        Stop::Refused { code, position } => over(code, position, there, at),
+        _ => on(there, given, at),
     }
 }
 
