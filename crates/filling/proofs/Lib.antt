@@ -1,1 +1,2 @@
+pub mod JumpLaws
 pub mod StepLaws
