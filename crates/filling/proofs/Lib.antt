@@ -1,2 +1,4 @@
+pub mod AheadLaws
+pub mod GivingLaws
 pub mod JumpLaws
 pub mod StepLaws

@@ -39,10 +39,10 @@ use Rattle.filling.specs.Filling.{noRest, putOn, putOver, Given, whole, 
 use Rattle.filling.specs.Steps.{reachOf, movedStep}
 
 -- how a step came is one way
-over-on : {code p : ℕ} → _≡_ {A = Reach} (Over code p) On → ⊥
+pub over-on : {code p : ℕ} → _≡_ {A = Reach} (Over code p) On → ⊥
 over-on e = let z : _≡_ {A = ℕ} 0 1 = cc in omega arith
 
-over-full : {code p : ℕ} → _≡_ {A = Reach} (Over code p) Full → ⊥
+pub over-full : {code p : ℕ} → _≡_ {A = Reach} (Over code p) Full → ⊥
 over-full e = let z : _≡_ {A = ℕ} 0 1 = cc in omega arith
 
 full-on : _≡_ {A = Reach} Full On → ⊥
@@ -51,8 +51,13 @@ full-on e = let z : _≡_ {A = ℕ} 0 1 = cc in omega arith
 on-full : _≡_ {A = Reach} On Full → ⊥
 on-full e = let z : _≡_ {A = ℕ} 0 1 = cc in omega arith
 
-false-true : false ≡ true → ⊥
+pub false-true : false ≡ true → ⊥
 false-true e = let z : _≡_ {A = ℕ} 0 1 = cc in omega arith
+
+-- a refusal gives nothing more
+pub refused-appends : (code p left : ℕ) {text : List ℕ} {from at : ℕ} {b e : List ℕ} → Appends text from b e at (givenText (refused code p left)) → Appends text from b e at []
+unfolding givenText
+refused-appends code p left a = a
 
 -- what is left of a text behind so many bytes, of two parts
 drop-both : (n : ℕ) (w x : List ℕ) → drop n (w ++ x) ≡ drop n w ++ drop (n - length w) x
