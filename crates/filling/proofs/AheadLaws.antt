@@ -2,7 +2,9 @@
 use Prim.Native.Nat.{ℕ, _+_, _-_, _<_, _≤_}
 use mathlib.Core.Path.{_≡_, refl, sym, ap, subst, _∙_}
 use mathlib.Core.Bool.{Bool, true, false, cond}
-use mathlib.Core.List.{List, [], append-nil}
+use mathlib.Core.List.{List, [], _∷_}
+use denote.Enum.Declared.{tagOf}
+use types.Run.{OneOf, miss}
 use native.Mathlib.Decide.{ℕ-discrete as decEq}
 use native.Mathlib.Omega.{arith}
 use lib.Dec.{eqb}
@@ -24,6 +26,7 @@ use Rattle.acting.specs.declared.state.Stop.{Stop}
 use Rattle.acting.specs.declared.state.Stop.the-variants.{Ended, Left, Refused}
 use Rattle.acting.specs.Ran.{endedRan}
 use Rattle.acting.proofs.Joining.{gave-on, gave-refused, no-end, no-end-left}
+use Rattle.acting.proofs.state.Stop as stop-declared
 use Rattle.running.specs.Runs.{EscapesAt, restAt, leaving, Strides}
 use Rattle.running.proofs.Strides.{strides-none}
 use Rattle.stepping.specs.Stepping.{HeldUp}
@@ -41,6 +44,21 @@ use Rattle.filling.specs.declared.giving.Reach.the-variants.{On, Over, F
 use Rattle.filling.specs.Filling.{putOver, toGive, goesOn, Advances, stepOf}
 use Rattle.filling.specs.Steps.{unheldBy, unheld, isOn, Standing, RunsAhead}
 use Rattle.filling.proofs.StepLaws.{over-on, over-full, false-true, refused-appends, steps-on, advances-join}
+
+-- how a run of short directives stands
+pub unheld-full : (r : Ran) {code x : ℕ} → r .stop ≡ Refused code x → code ≡ 10 → endedRan (r .next .0) (r .left + 1) (r .at) x ≡ unheld r
+unheld-full r {code} {x} q c = sym (ap (λ (s : Stop). unheldBy s r) q ∙ rw (eq-eqb code 10 c) refl)
+
+pub unheld-other : (r : Ran) {code x : ℕ} → r .stop ≡ Refused code x → (code ≡ 10 → ⊥) → r ≡ unheld r
+unheld-other r {code} {x} q c = sym (ap (λ (s : Stop). unheldBy s r) q ∙ rw (ne-eqb code 10 c) refl)
+
+pub unheld-same : (keys : List ℕ) (r : Ran) → keys ≡ 0 ∷ 1 ∷ [] → OneOf keys (tagOf stop-declared.the-type (r .stop)) → r ≡ unheld r
+unheld-same keys r q o = by (r .stop) refl o
+  where
+    by : (x : Stop) → r .stop ≡ x → OneOf keys (tagOf stop-declared.the-type x) → r ≡ unheld r
+    by Ended k o = sym (ap (λ (s : Stop). unheldBy s r) k)
+    by Left k o = sym (ap (λ (s : Stop). unheldBy s r) k)
+    by (Refused code x) k o = absurd (miss (0 ∷ 1 ∷ []) 2 tt (subst (λ (i : List ℕ). OneOf i 2) q o))
 
 -- a run of short directives that found no room, as it stands then
 module _ (t table : List ℕ) (h : Here) (given at : ℕ) (b e : List ℕ) (r : Ran) where
@@ -67,7 +85,8 @@ module _ (t table : List ℕ) (h : Here) (given at : ℕ) (b e : List ℕ) (r : 
             | no c ↦ same (Refused code x) k (rw (ne-eqb code 10 c) refl) code x refl c
           ]
 
-  -- nothing runs ahead
+-- nothing runs ahead
+module _ (t table : List ℕ) (h : Here) (given at : ℕ) (b e : List ℕ) where
   pub none-ahead : (given ≡ 0 → ⊥) → h .place ≤ length t → at ≤ length b → h .next .0 ≤ h .hand .count → {s : Ran} → s ≡ endedRan (h .next .0) (h .left) at (h .place) → e ≡ b → RunsAhead t table h given at b e s
   none-ahead z p l n {s} q w =
       subst (λ (x : List ℕ). RunsAhead t table h given at b x s) (sym w)
@@ -86,7 +105,7 @@ module _ (t table : List ℕ) (h : Here) (o : Nest) (given at : ℕ) (b e : List
   abbrev there : Here
   there = hereAt (r .place) (r .left) (h .hand) (r .next)
 
-  level : ℕ
+  abbrev level : ℕ
   level = 8 - o .depth
 
   deep : length ks + level ≡ deepest
@@ -118,12 +137,12 @@ module _ (t table : List ℕ) (h : Here) (o : Nest) (given at : ℕ) (b e : List
 
     pub ahead-item : {e′ : List ℕ} {s : Step} → Advances t table (toGive given (comes t table there o)) (r .left) (weight there o) (r .at) e e′ s
         → Advances t table (toGive given (comes t table h o)) (h .left) (weight h o) at b e′ s
-    ahead-item {e′} {s} v = elim (decEq given 0) [ | yes z ↦ from-none z | no z ↦ as-it-was (u .none z) ]
+    ahead-item {e′} {s} v = elim (decEq given 0) [ yes z ↦ from-none z | no z ↦ as-it-was (u .none z) ]
       where
         from-none : given ≡ 0 → Advances t table (toGive given (comes t table h o)) (h .left) (weight h o) at b e′ s
         from-none z =
             let w : Advances t table (toGive 0 (comes t table there o)) (r .left) (weight there o) (r .at) e e′ s =
-                subst (λ (k : ℕ). Advances t table (toGive k (comes t table there o)) (r .left) (weight there o) (r .at) e e′ s) z v in
+            subst (λ (k : ℕ). Advances t table (toGive k (comes t table there o)) (r .left) (weight there o) (r .at) e e′ s) z v in
             subst (λ (k : ℕ). Advances t table (toGive k (comes t table h o)) (h .left) (weight h o) at b e′ s) (sym z)
             (record {
               written = append-more (appends ahead-gives) (w .written);
@@ -140,7 +159,7 @@ module _ (t table : List ℕ) (h : Here) (o : Nest) (given at : ℕ) (b e : List
             (subst (λ (x : Ran). Advances t table (toGive given (comes t table (hereAt (x .place) (x .left) (h .hand) (x .next)) o)) (x .left) (weight (hereAt (x .place) (x .left) (h .hand) (x .next)) o) (x .at) e e′ s) (n .0) v)
 
   pub ahead-refused : {code x : ℕ} {s : Step} → r .stop ≡ Refused code x → s ≡ stepOf o (putOver code x there (r .at)) → Advances t table (toGive given (comes t table h o)) (h .left) (weight h o) at b e s
-  ahead-refused {code} {x} {s} q w = elim (decEq given 0) [ | yes z ↦ from-none z | no z ↦ absurd (no-end q (ap (λ (k : Ran). k .stop) (u .none z .0))) ]
+  ahead-refused {code} {x} {s} q w = elim (decEq given 0) [ yes z ↦ from-none z | no z ↦ absurd (no-end q (ap (λ (k : Ran). k .stop) (u .none z .0))) ]
     where
       from-none : given ≡ 0 → Advances t table (toGive given (comes t table h o)) (h .left) (weight h o) at b e s
       from-none z =
@@ -196,6 +215,11 @@ pub record Going (t table : List ℕ) (x : Told) (left heavy from : ℕ) (b₀ :
 pub going-first : (t table : List ℕ) (h : Here) (o : Nest) (given at : ℕ) (b : List ℕ) → Standing t table h o at b → Going t table (toGive given (comes t table h o)) (h .left) (weight h o) at b h o given at b
 going-first t table h o given at b s = record { ends = λ e r v. v; standing = s; size = refl }
 
+pub is-on : (y : Reach) → isOn y ≡ true → y ≡ On
+is-on On q = refl
+is-on (Over code p) q = absurd (false-true q)
+is-on Full q = absurd (false-true q)
+
 pub going-on : {t table : List ℕ} {x : Told} {left heavy from : ℕ} {b₀ : List ℕ} {h : Here} {o : Nest} {given at : ℕ} {b : List ℕ} → Going t table x left heavy from b₀ h o given at b → {e : List ℕ} {r : Step}
     → Advances t table (toGive given (comes t table h o)) (h .left) (weight h o) at b e r → isOn (r .reach) ≡ true → Going t table x left heavy from b₀ (r .here) (r .nest) (r .given) (r .at) e
 going-on {t} {table} {x} {left} {heavy} {from} {b₀} {h} {o} {given} {at} {b} g {e} {r} v k =
@@ -205,8 +229,3 @@ going-on {t} {table} {x} {left} {heavy} {from} {b₀} {h} {o} {given} {at} {b} g
       standing = record { accepted = g .standing .accepted; sound = v .sound (ap goesOn z); room = omega (arith, v .written .most, v .written .size) };
       size = v .written .size ∙ g .size;
     }
-  where
-    is-on : (y : Reach) → isOn y ≡ true → y ≡ On
-    is-on On q = refl
-    is-on (Over code p) q = absurd (false-true q)
-    is-on Full q = absurd (false-true q)

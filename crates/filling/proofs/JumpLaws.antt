@@ -1,14 +1,16 @@
 -- What a jump does: it goes on with another argument, or is refused. Assumes nothing.
-use Prim.Native.Nat.{ℕ, _-_, _≤_}
+use Prim.Native.Nat.{ℕ, _+_, _-_, _≤_}
 use mathlib.Core.Path.{_≡_, refl, sym, ap, subst, _∙_}
 use mathlib.Core.Bool.{Bool, true, false}
 use mathlib.Core.List.{List, []}
 use native.Mathlib.Omega.{arith}
-use lib.ListN.{length}
+use lib.Dec.{leb}
 use Rattle.rules.specs.Flow.{Flow, done, refused, put, Stretch, still, onward, Gives, Lacks}
 use Rattle.rules.specs.Table.{View}
-use Rattle.rules.specs.Working.{Context, Settled, settled, unsettled}
-use Rattle.rules.specs.Run.{choose, onSettled, jumpTo, jump, itemActs}
+use Rattle.rules.specs.Directive.{wellWritten, placesOf, inOrder, either}
+use Rattle.rules.specs.Piece.{orElse}
+use Rattle.rules.specs.Working.{Context, Settled, settled, unsettled, settle}
+use Rattle.rules.specs.Run.{choose, onSettled, jumpTo, jump, directiveActs, itemActs}
 use Rattle.rules.specs.declared.Code.{Code}
 use Rattle.rules.specs.declared.Code.the-variants.{Jump}
 use Rattle.rules.specs.declared.Directive.{Directive}
@@ -34,26 +36,39 @@ silent-either false s u = u
 
 module _ (v : View) (p m : ℕ) (c : Context) where
   silent-to : (k : ℕ) → Silent (λ on. jumpTo v p m c k on)
-  silent-to k = silent-either _ (goes k (λ on. refl)) (stops 6 p m (λ on. refl))
+  silent-to k = silent-either (leb k (c .count)) (goes k (λ on. refl)) (stops 6 p m (λ on. refl))
 
   silent-settled : (z : Settled) {f : Settings → ℕ → (ℕ → Flow) → Flow} → ((s : Settings) (i : ℕ) → Silent (f s i)) → Silent (λ on. onSettled p m z (λ s i. f s i on))
   silent-settled (settled ss i) h = h _ i
   silent-settled (unsettled code) h = stops code p m (λ on. refl)
 
+  silent-by : (d : Directive) (s : Settings) (i : ℕ) → Silent (λ on. jump v p m d c s i on)
+  silent-by d s i =
+      silent-either (d .at) (silent-to (orElse (s .first) 0))
+      (silent-either (d .colon)
+      (silent-either (leb (orElse (s .first) 1) i) (silent-to (i - orElse (s .first) 1)) (stops 6 p m (λ on. refl)))
+      (silent-to (i + orElse (s .first) 1)))
+
   pub silent-jump : (d : Directive) → d .code ≡ Jump → Silent (λ on. itemActs v p m (Written d) c on)
   unfolding itemActs
   silent-jump d q =
-      rw q
-      (silent-either _
-      (silent-settled _ (λ s i. silent-either _ (silent-to _) (silent-either _ (silent-either _ (silent-to _) (stops 6 p m (λ on. refl))) (silent-to _))))
+      subst (λ (k : Code). Silent (λ on. directiveActs v p m d k c on)) (sym q)
+      (silent-either (wellWritten d)
+      (silent-settled (settle v c (placesOf (d .code) (either (d .colon) (d .at))) (inOrder (d .parameters)) (c .next)) (silent-by d))
       (stops 5 p m (λ on. refl)))
 
 -- an end is followed by nothing
-after-done : {a k : ℕ} {g : Flow} {w : List ℕ} → Stretch (done a k) g w → g ≡ done a k
-after-done still = refl
+done-only : {a k : ℕ} {g : Flow} {w : List ℕ} → Stretch (done a k) g w → g ≡ done a k
+done-only still = refl
 
-after-refused : {code p l : ℕ} {g : Flow} {w : List ℕ} → Stretch (refused code p l) g w → g ≡ refused code p l
-after-refused still = refl
+refused-only : {code p l : ℕ} {g : Flow} {w : List ℕ} → Stretch (refused code p l) g w → g ≡ refused code p l
+refused-only still = refl
+
+after-done : {f g : Flow} {w : List ℕ} (a k : ℕ) → f ≡ done a k → Stretch f g w → g ≡ done a k
+after-done {f} {g} {w} a k q s = done-only (subst (λ (x : Flow). Stretch x g w) q s)
+
+after-refused : {f g : Flow} {w : List ℕ} (code p l : ℕ) → f ≡ refused code p l → Stretch f g w → g ≡ refused code p l
+after-refused {f} {g} {w} code p l q s = refused-only (subst (λ (x : Flow). Stretch x g w) q s)
 
 put-done : {p l a k : ℕ} {w : List ℕ} {f : Flow} → _≡_ {A = Flow} (put p l w f) (done a k) → ⊥
 put-done e = let z : _≡_ {A = ℕ} 0 1 = cc in omega arith
@@ -76,15 +91,15 @@ module _ {f : (ℕ → Flow) → Flow} {count : ℕ} {spot : Spot} {r : Ran} (u 
   ends-as i q = by marked
     where
       by : Same (f (λ k. mark (spot .left) k)) mark (λ l k. mark l k) (spot .at) [] [] r → comesAfter mark (λ l k. mark l k) (r .stop) (r .left) (r .next .0) ≡ done (spot .left) i
-      by (gives g) = after-done (subst (λ (x : Flow). Stretch x _ (g .text)) q (g .stretch))
-      by (lacks z g) = absurd (put-done (after-done (subst (λ (x : Flow). Stretch x _ (g .gives .text)) q (g .gives .stretch))))
+      by (gives g) = after-done (spot .left) i q (g .stretch)
+      by (lacks z g) = absurd (put-done (after-done (spot .left) i q (g .gives .stretch)))
 
   refuses-as : (code p l : ℕ) → f (λ k. mark (spot .left) k) ≡ refused code p l → comesAfter mark (λ l k. mark l k) (r .stop) (r .left) (r .next .0) ≡ refused code p l
   refuses-as code p l q = by marked
     where
       by : Same (f (λ k. mark (spot .left) k)) mark (λ l k. mark l k) (spot .at) [] [] r → comesAfter mark (λ l k. mark l k) (r .stop) (r .left) (r .next .0) ≡ refused code p l
-      by (gives g) = after-refused (subst (λ (x : Flow). Stretch x _ (g .text)) q (g .stretch))
-      by (lacks z g) = absurd (put-refused (after-refused (subst (λ (x : Flow). Stretch x _ (g .gives .text)) q (g .gives .stretch))))
+      by (gives g) = after-refused code p l q (g .stretch)
+      by (lacks z g) = absurd (put-refused (after-refused code p l q (g .gives .stretch)))
 
   pub silent-is : Silent f → (on out : ℕ → ℕ → Flow) → f (λ i. on (spot .left) i) ≡ comesAfter on out (r .stop) (r .left) (r .next .0)
   silent-is (goes i h) on out = by (r .stop) refl (ends-as i (h _))

@@ -124,6 +124,10 @@ module _ (t table : List ℕ) (f : Flow) (given left heavy at : ℕ) (b : List �
           advances-over {code = code} {p = p} {g = given} {h = m .here} {o = m .nest} {r = r} (q ∙ ap step z)
           (v .same ∙ ap (λ (w : How). reachedBy w (told (comes t table (m .here) (m .nest))) (m .here .left)) z) (v .steps) l
 
+pub moved-is : (m : Moved) (given at : ℕ) {reach : Reach} {rest : QuoteRest} → reach ≡ reachOf (m .how) → rest ≡ noRest
+    → _≡_ {A = Step} (record { reach = reach; here = m .here; nest = m .nest; given = given; rest = rest; at = at }) (movedStep m given at)
+moved-is m given at p q = rw (p, q) refl
+
 -- a piece w, after which the run stands at `after`
 module _ (t table : List ℕ) (h after : Here) (o : Nest) (p m : ℕ) (w : List ℕ) (given at : ℕ) (b e : List ℕ) where
   abbrev rest : List ℕ
@@ -158,8 +162,18 @@ module _ (t table : List ℕ) (h after : Here) (o : Nest) (p m : ℕ) (w : List 
           | yes z ↦ z
           | no z ↦
               let n = ap length (a .joined) in
-              absurd (omega (arith, n, k, a .least, length-append (take at b) (drop given w), length-append (take (length b) e) (drop g w), length-drop given w, length-drop g w,
-              length-take-le at b (omega (arith, a .least)), length-take-le (length b) e (omega (arith, a .size))))
+              absurd (omega (
+                arith,
+                n,
+                k,
+                a .least,
+                length-append (take at b) (drop given w),
+                length-append (take (length b) e) (drop g w),
+                length-drop given w,
+                length-drop g w,
+                length-take-le at b (omega (arith, a .least)),
+                length-take-le (length b) e (omega (arith, a .size)),
+              ))
         ]
 
     gives-cut : (g : ℕ) → g < length w → Appends (drop given w) at b e (length b) (drop g w)
@@ -167,7 +181,7 @@ module _ (t table : List ℕ) (h after : Here) (o : Nest) (p m : ℕ) (w : List 
     gives-cut g k a =
         let z : given - length w ≡ 0 = let i = begun g k a in omega (arith, i) in
         let left : restOf table noRest ++ drop g (givenText (comes t table h o)) ≡ drop g w ++ rest =
-            ap (λ (x : List ℕ). x ++ drop g (givenText (comes t table h o))) (rest-done table noRest refl) ∙ ap (drop g) text ∙ drop-append-le g w rest (omega (arith, k)) in
+        ap (λ (x : List ℕ). x ++ drop g (givenText (comes t table h o))) (rest-done table noRest refl) ∙ ap (drop g) text ∙ drop-append-le g w rest (omega (arith, k)) in
         record {
           written =
               subst (λ (x : List ℕ). Appends x at b e (length b) (restOf table noRest ++ drop g (givenText (comes t table h o)))) (sym both)
@@ -215,9 +229,11 @@ module _ (t table : List ℕ) (h : Here) (o : Nest) (x : Item) (q : ℕ) (a : Ac
 -- no step is left for it
 pub puts-none : (t table : List ℕ) (x : Item) (q : ℕ) (h : Here) (given at : ℕ) (b : List ℕ) {r : Put} → h .left ≡ 0 → r ≡ putOver 9 (h .place) h at → at ≤ length b → Puts t table x q h given at b b r
 puts-none t table x q h given at b z e l =
-    record { is = λ o s a m.
-        advances-over t table (comes t table h o) given (h .left) (weight h o) at b (ap (stepOf o) e)
-        (ap told (acts-none t table h o x q a z) ∙ told-refused 9 (h .place) (h .left)) (omega arith) l }
+    record {
+      is = λ o s a m.
+          advances-over t table (comes t table h o) given (h .left) (weight h o) at b (ap (stepOf o) e)
+          (ap told (acts-none t table h o x q a z) ∙ told-refused 9 (h .place) (h .left)) (omega arith) l;
+    }
 
 -- one place on, with a step less
 pub steps-on : {n : ℕ} {table : List ℕ} {h : Here} {o : Nest} (place left : ℕ) (next : ArgumentPosition) → Sound n table h o → place ≤ n → left ≤ h .left → handLies table (h .hand) (next .0) ≡ true
@@ -230,7 +246,7 @@ module _ (t table : List ℕ) (x : Told) (left heavy at : ℕ) (b e : List ℕ) 
       → Advances t table (toGive (r .given) (comes t table (r .here) (r .nest))) (r .here .left) (weight (r .here) (r .nest)) (r .at) e e′ r′ → Advances t table x left heavy at b e′ r′
   advances-join v z {e′} {r′} u =
       let y : remaining t table r ≡ toGive (r .given) (comes t table (r .here) (r .nest)) =
-          ap (λ (k : Reach). toldBy k (restOf table (r .rest)) (toGive (r .given) (comes t table (r .here) (r .nest))) (overBy k (r .here .left))) z in
+      ap (λ (k : Reach). toldBy k (restOf table (r .rest)) (toGive (r .given) (comes t table (r .here) (r .nest))) (overBy k (r .here .left))) z in
       record {
         written = append-more (v .written) (subst (λ (k : Told). Appends (k .bytes) (r .at) e e′ (r′ .at) (remaining t table r′ .bytes)) (sym y) (u .written));
         finish = v .finish ∙ ap (λ (k : Told). k .finish) y ∙ u .finish;
