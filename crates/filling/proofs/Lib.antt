@@ -1,1 +1,5 @@
+pub mod AheadLaws
+pub mod GivingLaws
+pub mod JumpLaws
+pub mod PutLaws
 pub mod StepLaws

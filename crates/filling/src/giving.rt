@@ -109,7 +109,7 @@ fn cut_part(
     requires { ⌜ Good (now table) piece ⌝ }
     requires { ⌜ at ≤ length (now window) ⌝ }
     requires { ⌜ given + (length (now window) - at) < length (bytesOf (now table) piece) ⌝ }
-    ensures { λ r. ⌜ Given (bytesOf (now (table .entry)) piece) here here given at (now (window .entry)) (now (window .exit)) (now (table .entry)) r ⌝ }
+    ensures { λ r. ⌜ ((after : Here) → Given (bytesOf (now (table .entry)) piece) here after given at (now (window .entry)) (now (window .exit)) (now (table .entry)) r) ⌝ }
 {
     let end = window.len();
     write_part(piece, table, given, &mut window[at..end]);

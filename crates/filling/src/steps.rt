@@ -319,7 +319,7 @@ const MANY: usize = 64;
 // Lays the landmarks in that turn, and counts it.
 fn lay_in_time(text: &[u8], marks: &mut [u16], turns: usize) -> usize
     requires { ⌜ Landmarks (now text) (now marks) ⌝ }
-    ensures { λ r. ⌜ Landmarks (now (text .entry)) (now (marks .exit)) ⌝ }
+    ensures { λ r. ⌜ Marks (now (text .entry)) (now (marks .entry)) (now (marks .exit)) ⌝ }
 {
     if MANY <= turns {
         return turns;

@@ -1,50 +1,40 @@
+-- A piece is cut at the end of the window: a string in quotes keeps what is left of it. Assumes nothing.
+use native.Mathlib.Omega.{arith}
 use borrow.Author.Needs.{needs}
 use Rattle.filling.proofs.giving.cut_piece.Statement.{statement}
 use Rattle.filling.proofs.giving.cut_piece.Tie as tie
-use Rattle.filling.proofs.giving.cut_piece.Reads as reads
-use Rattle.filling.proofs.giving.cut_piece.Lts as lts
-use Rattle.filling.proofs.giving.cut_part.Reads as cut-part-reads
-use Rattle.filling.proofs.giving.cut_quote.Reads as cut-quote-reads
 
--- src/giving.rt:171:26
 enum-known-source : tie.Need-enum-known-source
 enum-known-source c = search needs
 
--- src/giving.rt:173:17
 cut-quote-requires : tie.Need-cut-quote-requires
-cut-quote-requires c κs = ?
+cut-quote-requires c κs =
+    let start = c .before .before .before .before .before .before .before .before in
+    (start .pre .0, (c .before .before .before .source .given .1, (start .pre .1 .0, omega (arith, c .before .if1 .taken, start .pre .1 .1))))
 
--- src/giving.rt:173:17
 same-length : tie.Need-same-length
 same-length c = search needs
 
--- src/giving.rt:173:17
 returns : tie.Need-returns
-returns c = ?
+returns c = rw (c .before .before .before .before .if1 .taken) (c .before .before .cut-quote .ensures (c .before .before .before .before .before .before .before .before .before .before .before .args .here))
 
--- src/giving.rt:175:13
 cut-part-requires : tie.Need-cut-part-requires
 cut-part-requires c κs = search needs
 
--- src/giving.rt:177:14
 cut-part-requires-2 : tie.Need-cut-part-requires-2
 cut-part-requires-2 c κs = search needs
 
--- src/giving.rt:154:1
 same-length-2 : tie.Need-same-length-2
 same-length-2 c = search needs
 
--- src/giving.rt:154:1
 returns-2 : tie.Need-returns-2
-returns-2 c = ?
+returns-2 c = c .before .before .cut-part .ensures (c .before .before .before .before .before .before .before .before .before .before .before .args .after)
 
--- src/giving.rt:154:1
 same-length-3 : tie.Need-same-length-3
 same-length-3 c = search needs
 
--- src/giving.rt:154:1
 returns-3 : tie.Need-returns-3
-returns-3 c = ?
+returns-3 c = c .before .before .cut-part2 .ensures (c .before .before .before .before .before .before .before .before .args .after)
 
 pub cut-piece-spec : {M : Type 1} → statement M
 cut-piece-spec =

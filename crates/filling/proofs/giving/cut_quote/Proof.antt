@@ -1,26 +1,30 @@
+-- A string in quotes is cut at the end of the window, and the rest of it kept. Assumes nothing.
+use Rattle.filling.proofs.GivingLaws.{quote-in, given-quoted}
 use borrow.Author.Needs.{needs}
 use Rattle.filling.proofs.giving.cut_quote.Statement.{statement}
 use Rattle.filling.proofs.giving.cut_quote.Tie as tie
-use Rattle.filling.proofs.giving.cut_quote.Reads as reads
-use Rattle.filling.proofs.giving.cut_quote.Lts as lts
-use Rattle.pieces.proofs.resuming.quote_rest.Reads as quote-rest-reads
-use Rattle.pieces.proofs.resuming.write_rest.Reads as write-rest-reads
 
--- src/giving.rt:141:9
 quote-rest-requires : tie.Need-quote-rest-requires
 quote-rest-requires c κs = search needs
 
--- src/giving.rt:142:9
 write-rest-requires : tie.Need-write-rest-requires
-write-rest-requires c κs = ?
+write-rest-requires c κs =
+    let start = c .before .before .before .before in
+    let a = start .args in (
+      quote-in (a .table .now) (a .piece) (start .pre .0) (start .pre .1 .0) (c .before .quote-rest .ensures),
+      start .pre .1 .1 .0,
+    )
 
--- src/giving.rt:126:1
 same-length : tie.Need-same-length
 same-length c = search needs
 
--- src/giving.rt:126:1
 returns : tie.Need-returns
-returns c = ?
+returns c =
+    let start = c .before .before .before .before .before .before .before .before in
+    let a = start .args in
+    λ before.
+    given-quoted (a .table .now) (a .piece) before (a .after) (a .at) (start .pre .1 .0) (c .before .before .before .before .before .quote-rest .ensures)
+    (start .pre .1 .1 .0) (start .pre .1 .1 .1) (c .before .before .before .write-rest .ensures)
 
 pub cut-quote-spec : {M : Type 1} → statement M
 cut-quote-spec = tie.close (tie.spec quote-rest-requires write-rest-requires same-length returns)

@@ -1,3 +1,12 @@
+use mathlib.Core.Path.{ap}
+use Rattle.pieces.specs.declared.resuming.QuoteRest.{QuoteRest}
+use Rattle.filling.specs.declared.giving.Reach.the-variants.{Full}
+-- A literal byte, by the steps, the bytes given and the room. Assumes nothing.
+use Prim.Native.Nat.{_+_}
+use native.Mathlib.Omega.{arith}
+use Rattle.rules.specs.declared.Item.the-variants.{Literal}
+use Rattle.filling.proofs.StepLaws.{puts-none}
+use Rattle.filling.proofs.PutLaws.{byte-given, byte-full, byte-put}
 use borrow.Author.Needs.{needs}
 use Rattle.filling.proofs.giving.give_byte.Statement.{statement}
 use Rattle.filling.proofs.giving.give_byte.Tie as tie
@@ -8,61 +17,57 @@ use Rattle.filling.proofs.giving.on.Reads as on-reads
 use Rattle.filling.proofs.giving.over.Reads as over-reads
 use Rattle.filling.proofs.giving.stepped.Reads as stepped-reads
 
--- src/giving.rt:219:9
 over-requires : tie.Need-over-requires
 over-requires c κs = search needs
 
--- src/giving.rt:219:9
 returns : tie.Need-returns
-returns c = ?
+returns c =
+    let a = c .before .before .before .before .args in
+    λ t table. puts-none t table (Literal (a .byte)) (a .here .place + 1) (a .here) (a .given) (a .at) (a .window .now) (c .before .if1 .taken) (c .over .ensures) (c .before .before .before .before .pre .0)
 
--- src/giving.rt:222:31
 add-stepped : tie.Need-add-stepped
-add-stepped c = search needs
+add-stepped c =
+    omega (arith, c .before .before .before .before .before .pre .1)
 
--- src/giving.rt:222:9
 stepped-requires : tie.Need-stepped-requires
-stepped-requires c κs = search needs
+stepped-requires c κs =
+    omega (arith, c .before .before .if1 .left)
 
--- src/giving.rt:224:26
 sub-on : tie.Need-sub-on
 sub-on c = search needs
 
--- src/giving.rt:224:9
 on-requires : tie.Need-on-requires
 on-requires c κs = search needs
 
--- src/giving.rt:224:9
 returns-2 : tie.Need-returns-2
-returns-2 c = ?
+returns-2 c =
+    let a = c .before .before .before .before .before .before .before .before .args in
+    λ t table. byte-given (a .byte) (a .here) (a .given) (a .at) (c .before .before .before .before .before .if1 .left) (c .before .before .stepped .ensures) t table (c .before .if2 .taken) (c .before .before .before .before .before .before .before .before .pre .0) (c .on .ensures)
 
--- src/giving.rt:231:19
 no-rest-requires : tie.Need-no-rest-requires
 no-rest-requires c κs = search needs
 
--- src/giving.rt:227:9
 returns-3 : tie.Need-returns-3
-returns-3 c = ?
+returns-3 c =
+    let a = c .before .before .before .before .before .before .before .before .before .args in
+    λ t table. byte-full (a .byte) (a .here) (a .given) (a .at) (c .before .before .before .before .before .before .if1 .left) (c .before .before .before .stepped .ensures) t table (omega (arith, c .before .before .if2 .left)) (c .before .before .before .before .before .before .before .before .before .pre .0) (c .before .if3 .taken) (ap (λ (x : QuoteRest). record { reach = Full; here = a .here; given = 0; rest = x; at = a .at }) (c .no-rest .ensures))
 
--- src/giving.rt:235:5
 slice-write-window : tie.Need-slice-write-window
 slice-write-window c = search needs
 
--- src/giving.rt:236:18
 add-on : tie.Need-add-on
 add-on c = search needs
 
--- src/giving.rt:236:5
 on-requires-2 : tie.Need-on-requires-2
 on-requires-2 c κs = search needs
 
--- src/giving.rt:213:1
 same-length : tie.Need-same-length
 same-length c = search needs
 
--- src/giving.rt:213:1
 returns-4 : tie.Need-returns-4
-returns-4 c = ?
+returns-4 c =
+    let a = c .before .before .before .before .before .before .before .before .before .args in
+    λ t table. byte-put (a .byte) (a .here) (a .given) (a .at) (c .before .before .before .before .before .before .if1 .left) (c .before .before .before .stepped .ensures) t table (omega (arith, c .before .before .if2 .left)) (omega (arith, c .before .if3 .left)) (c .on2 .ensures)
 
 pub give-byte-spec : {M : Type 1} → statement M
 give-byte-spec =

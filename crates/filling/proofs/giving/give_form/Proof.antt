@@ -1,3 +1,10 @@
+-- A directive of a form: planned, made a piece, and given. Assumes nothing.
+use mathlib.Core.Path.{subst}
+use native.Mathlib.Omega.{arith}
+use Rattle.rules.specs.declared.Item.the-variants.{Written}
+use Rattle.acting.specs.Planning.{Plans}
+use Rattle.filling.proofs.StepLaws.{puts-none}
+use Rattle.filling.proofs.PutLaws.{form-refused, form-shows}
 use borrow.Author.Needs.{needs}
 use Rattle.filling.proofs.giving.give_form.Statement.{statement}
 use Rattle.filling.proofs.giving.give_form.Tie as tie
@@ -9,57 +16,57 @@ use Rattle.filling.proofs.giving.over.Reads as over-reads
 use Rattle.filling.proofs.giving.stepped.Reads as stepped-reads
 use Rattle.making.proofs.making.make_piece.Reads as make-piece-reads
 
--- src/giving.rt:257:9
 over-requires : tie.Need-over-requires
 over-requires c κs = search needs
 
--- src/giving.rt:257:9
 returns : tie.Need-returns
-returns c = ?
+returns c =
+    let a = c .before .before .before .before .before .args in
+    λ t. puts-none t (a .table .now) (Written (a .d)) (a .d .next) (a .here) (a .given) (a .at) (a .window .now) (c .before .if1 .taken) (c .over .ensures) (c .before .before .before .before .before .pre .1 .1 .1 .1)
 
--- src/giving.rt:261:9
 plan-form-requires : tie.Need-plan-form-requires
-plan-form-requires c κs = search needs
+plan-form-requires c κs =
+    (c .before .before .before .before .before .before .pre .0, (c .before .before .before .before .before .before .pre .1 .0, (c .before .before .before .before .before .before .pre .1 .1 .0, c .before .before .before .before .before .before .pre .1 .1 .1 .0)))
 
--- src/giving.rt:264:13
 enum-known-planned : tie.Need-enum-known-planned
 enum-known-planned c = search needs
 
--- src/giving.rt:268:17
 make-piece-requires : tie.Need-make-piece-requires
-make-piece-requires c κs = ?
+make-piece-requires c κs =
+    let a = c .before .before .before .before .before .before .before .before .before .before .args in
+    let p = (subst (Plans (a .table .now) (a .form) (a .d) (a .here .hand) (a .here .next .0)) (c .before .planned .given .1) (c .before .before .before .plan-form .ensures)) in
+    (p .reaches .0, p .reaches .1 .0)
 
--- src/giving.rt:273:17
 stepped-requires : tie.Need-stepped-requires
-stepped-requires c κs = search needs
+stepped-requires c κs =
+    omega (arith, c .before .before .before .before .before .before .before .if1 .left)
 
--- src/giving.rt:269:13
 give-piece-requires : tie.Need-give-piece-requires
-give-piece-requires c κs = ?
+give-piece-requires c κs =
+    (c .before .before .make-piece .ensures .good, c .before .before .before .before .before .before .before .before .before .before .before .before .before .pre .1 .1 .1 .1)
 
--- src/giving.rt:279:24
 enum-known-planned-2 : tie.Need-enum-known-planned-2
 enum-known-planned-2 c = search needs
 
--- src/giving.rt:279:56
 stepped-requires-2 : tie.Need-stepped-requires-2
-stepped-requires-2 c κs = search needs
+stepped-requires-2 c κs =
+    omega (arith, c .before .before .before .before .before .before .if1 .left)
 
--- src/giving.rt:279:33
 over-requires-2 : tie.Need-over-requires-2
 over-requires-2 c κs = search needs
 
--- src/giving.rt:240:1
 same-length : tie.Need-same-length
 same-length c = search needs
 
--- src/giving.rt:240:1
 returns-2 : tie.Need-returns-2
-returns-2 c = ?
+returns-2 c =
+    let a = c .before .before .before .before .before .before .before .before .before .before .before .before .before .before .before .before .args in
+    λ t. form-shows t (a .table .now) (a .form) (a .d) (a .here) (a .given) (a .at) (c .before .before .before .before .before .before .before .before .before .before .before .before .if1 .left) (c .before .before .before .before .before .before .before .before .before .before .before .before .before .before .before .before .pre .1 .1 .0) (subst (Plans (a .table .now) (a .form) (a .d) (a .here .hand) (a .here .next .0)) (c .before .before .before .before .before .before .before .planned .given .1) (c .before .before .before .before .before .before .before .before .before .plan-form .ensures)) (c .before .before .before .before .before .make-piece .ensures .is) (c .before .before .before .before .stepped .ensures) (c .before .before .give-piece .ensures)
 
--- src/giving.rt:240:1
 returns-3 : tie.Need-returns-3
-returns-3 c = ?
+returns-3 c =
+    let a = c .before .before .before .before .before .before .before .before .before .before .before .before .args in
+    λ t. form-refused t (a .table .now) (a .form) (a .d) (a .here) (a .given) (a .at) (c .before .before .before .before .before .before .before .before .if1 .left) (subst (Plans (a .table .now) (a .form) (a .d) (a .here .hand) (a .here .next .0)) (c .before .before .before .planned2 .given .1) (c .before .before .before .before .before .plan-form .ensures)) (c .before .stepped2 .ensures) (c .over2 .ensures) (c .before .before .before .before .before .before .before .before .before .before .before .before .pre .1 .1 .1 .1)
 
 pub give-form-spec : {M : Type 1} → statement M
 give-form-spec =

@@ -1,93 +1,131 @@
+-- What is left of a piece is written whole, or cut at the end of the window. Assumes nothing.
+use mathlib.Core.Path.{_≡_, _∙_}
+use mathlib.Core.Logic.{inl, inr}
+use mathlib.Core.List.{[]}
+use Prim.Native.Nat.{_+_, _-_}
+use native.Mathlib.Omega.{arith}
+use lib.ListN.{length, take, drop, length-drop}
+use Rattle.pieces.specs.Bytes.{bytesOf}
+use Rattle.pieces.specs.Rest.{Appends}
+use Rattle.filling.proofs.GivingLaws.{LeftFits, left-lent, left-whole, left-part, given-before, given-whole}
 use borrow.Author.Needs.{needs}
 use Rattle.filling.proofs.giving.give_piece.Statement.{statement}
 use Rattle.filling.proofs.giving.give_piece.Tie as tie
-use Rattle.filling.proofs.giving.give_piece.Reads as reads
-use Rattle.filling.proofs.giving.give_piece.Lts as lts
-use Rattle.filling.proofs.giving.cut_piece.Reads as cut-piece-reads
-use Rattle.filling.proofs.giving.on.Reads as on-reads
-use Rattle.pieces.proofs.writing.piece_length.Reads as piece-length-reads
-use Rattle.pieces.proofs.writing.write_part.Reads as write-part-reads
-use Rattle.pieces.proofs.writing.write_whole.Reads as write-whole-reads
 
--- src/giving.rt:195:9
 piece-length-requires : tie.Need-piece-length-requires
 piece-length-requires c κs = search needs
 
--- src/giving.rt:197:9
 on-requires : tie.Need-on-requires
 on-requires c κs = search needs
 
--- src/giving.rt:197:9
 returns : tie.Need-returns
-returns c = ?
+returns c =
+    let start = c .before .before .before .before .before in
+    let a = start .args in
+    let w = bytesOf (a .table .now) (a .piece) in
+    let n = c .before .before .piece-length .ensures .0 (a .table .now) (start .pre .0) in
+    given-before w (a .here) (a .after) (a .given) (a .at) (a .window .now) (a .table .now) n (c .before .if1 .taken) (start .pre .1)
+    (c .on .ensures)
 
--- src/giving.rt:199:16
 sub-left : tie.Need-sub-left
 sub-left c = search needs
 
--- src/giving.rt:200:8
 sub-if2 : tie.Need-sub-if2
 sub-if2 c = search needs
 
--- src/giving.rt:201:9
 cut-piece-requires : tie.Need-cut-piece-requires
-cut-piece-requires c κs = ?
+cut-piece-requires c κs =
+    let start = c .before .before .before .before .before .before in
+    let n = c .before .before .before .piece-length .ensures .0 (start .args .table .now) (start .pre .0) in
+    (start .pre .0, (start .pre .1, omega (arith, n, c .before .before .if1 .left, c .before .if2 .taken)))
 
--- src/giving.rt:201:9
 same-length : tie.Need-same-length
 same-length c = search needs
 
--- src/giving.rt:201:9
 returns-2 : tie.Need-returns-2
 returns-2 c = search needs
 
--- src/giving.rt:203:15
 add-end : tie.Need-add-end
 add-end c = search needs
 
--- src/giving.rt:205:35
 sub-write-whole : tie.Need-sub-write-whole
 sub-write-whole c = search needs
 
--- src/giving.rt:205:35
 part-write-whole-start : tie.Need-part-write-whole-start
 part-write-whole-start c = search needs
 
--- src/giving.rt:205:35
 part-write-whole-end : tie.Need-part-write-whole-end
 part-write-whole-end c = search needs
 
--- src/giving.rt:205:9
-write-whole-requires : tie.Need-write-whole-requires
-write-whole-requires c κs = ?
+-- what is left has room
+left-fits : (c : tie.Else2) → let a = c .before .before .before .before .before .args in
+    LeftFits (bytesOf (a .table .now) (a .piece)) (a .given) (a .at) (a .window .now) (c .before .before .piece-length .result)
+left-fits c =
+    let start = c .before .before .before .before .before in
+    record {
+      all = c .before .before .piece-length .ensures .0 (start .args .table .now) (start .pre .0);
+      some = omega (arith, c .before .if1 .left);
+      room = omega (arith, c .if2 .left);
+      inside = start .pre .1;
+    }
 
--- src/giving.rt:207:41
+lent-left : (c : tie.Else2) → let a = c .before .before .before .before .before .args in
+    length (take (a .at + (c .before .before .piece-length .result - a .given) - a .at) (drop (a .at) (a .window .now)))
+    ≡ length (drop (a .given) (bytesOf (a .table .now) (a .piece)))
+lent-left c =
+    let a = c .before .before .before .before .before .args in
+    left-lent (bytesOf (a .table .now) (a .piece)) (a .given) (a .at) (a .window .now) (left-fits c)
+
+write-whole-requires : tie.Need-write-whole-requires
+write-whole-requires c κs =
+    let start = c .before .before .before .before .before .before .before in
+    (start .pre .0, lent-left (c .before .before) ∙ rw (c .before .if3 .taken))
+
 sub-write-part : tie.Need-sub-write-part
 sub-write-part c = search needs
 
--- src/giving.rt:207:41
 part-write-part-start : tie.Need-part-write-part-start
 part-write-part-start c = search needs
 
--- src/giving.rt:207:41
 part-write-part-end : tie.Need-part-write-part-end
 part-write-part-end c = search needs
 
--- src/giving.rt:207:9
 write-part-requires : tie.Need-write-part-requires
-write-part-requires c κs = ?
+write-part-requires c κs =
+    let start = c .before .before .before .before .before .before .before in
+    let a = start .args in
+    let w = bytesOf (a .table .now) (a .piece) in
+    let n = c .before .before .before .before .piece-length .ensures .0 (a .table .now) (start .pre .0) in
+    (start .pre .0, omega (arith, n, c .before .before .before .if1 .left, lent-left (c .before .before), length-drop (a .given) w))
 
--- src/giving.rt:209:5
 on-requires-2 : tie.Need-on-requires-2
 on-requires-2 c κs = search needs
 
--- src/giving.rt:182:1
-same-length-2 : tie.Need-same-length-2
-same-length-2 c = ?
+-- whichever writer wrote it
+written : (c : tie.Joined3) → let a = c .before .before .before .before .before .before .args in
+    let left = c .before .before .before .piece-length .result - a .given in
+    Appends (drop (a .given) (bytesOf (a .table .now) (a .piece))) (a .at) (a .window .now) (c .if3 .window) (a .at + left) []
+written c =
+    let start = c .before .before .before .before .before .before in
+    let a = start .args in
+    let w = bytesOf (a .table .now) (a .piece) in
+    let f = left-fits (c .before) in
+    elim (c .if3 .came) [
+      | inl y ↦ rw (y .5) (left-whole w (a .given) (a .at) (a .window .now) f _ (y .0 .taken) (y .2 .ensures))
+      | inr y ↦ rw (y .5) (left-part w (a .given) (a .at) (a .window .now) f _ (y .2 .ensures))
+    ]
 
--- src/giving.rt:182:1
+same-length-2 : tie.Need-same-length-2
+same-length-2 c = written (c .before) .size
+
 returns-3 : tie.Need-returns-3
-returns-3 c = ?
+returns-3 c =
+    let start = c .before .before .before .before .before .before .before in
+    let a = start .args in
+    let w = bytesOf (a .table .now) (a .piece) in
+    let n = c .before .before .before .before .piece-length .ensures .0 (a .table .now) (start .pre .0) in
+    given-whole w (a .here) (a .after) (a .given) (a .at) (a .window .now) (a .table .now) n (omega (arith, c .before .before .before .if1 .left))
+    (c .on2 .ensures) (written (c .before))
 
 pub give-piece-spec : {M : Type 1} → statement M
 give-piece-spec =

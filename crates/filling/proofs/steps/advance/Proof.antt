@@ -1,3 +1,9 @@
+-- What runs ahead, and then one item. Assumes nothing.
+use mathlib.Core.Path.{refl, ap, _∙_}
+use Rattle.nesting.proofs.MoveLaws.{hand-in, next-in}
+use Rattle.filling.specs.Filling.{stepOf}
+use Rattle.filling.proofs.AheadLaws.{ahead-standing, ahead-refused, ahead-item}
+use Rattle.filling.proofs.PutLaws.{ended-stop}
 use borrow.Author.Needs.{needs}
 use Rattle.filling.proofs.steps.advance.Statement.{statement}
 use Rattle.filling.proofs.steps.advance.Tie as tie
@@ -8,41 +14,41 @@ use Rattle.filling.proofs.steps.put_step.Reads as put-step-reads
 use Rattle.filling.proofs.steps.run_ahead.Reads as run-ahead-reads
 use Rattle.filling.proofs.steps.step_item.Reads as step-item-reads
 
--- src/steps.rt:286:9
 run-ahead-requires : tie.Need-run-ahead-requires
-run-ahead-requires c κs = ?
+run-ahead-requires c κs =
+    let a = c .before .before .before .before .before .args in
+    let y = c .before .before .before .before .before .pre .1 in
+    ((hand-in (a .table .now) (a .here .hand) (a .here .next .0) (y .accepted) (y .sound .hand)), ((next-in (a .table .now) (a .here .hand) (a .here .next .0) (y .sound .hand)), (y .sound .place, (y .sound .left, y .room))))
 
--- src/steps.rt:297:25
 enum-known-stop : tie.Need-enum-known-stop
 enum-known-stop c = search needs
 
--- src/steps.rt:297:54
 over-requires : tie.Need-over-requires
 over-requires c κs = search needs
 
--- src/steps.rt:297:45
 put-step-requires : tie.Need-put-step-requires
 put-step-requires c κs = search needs
 
--- src/steps.rt:298:14
 step-item-requires : tie.Need-step-item-requires
-step-item-requires c κs = ?
+step-item-requires c κs =
+    let a = c .before .before .before .before .before .before .before .before .before .before .before .before .args in
+    (c .before .before .before .before .before .before .before .before .before .before .before .before .pre .0, ahead-standing (a .text .now) (a .table .now) (a .here) (a .nest) (a .given) (a .at) (a .window .now) _ (c .before .before .before .before .before .before .run-ahead .result) (c .before .before .before .before .before .before .before .before .before .before .before .before .pre .1) (c .before .before .before .before .before .before .run-ahead .ensures) (ended-stop _ (c .before .before .before .before .before .before .run-ahead .result .stop) refl (c .before .before .before .before .before .before .run-ahead .ensures .stays) (c .before .match .keys2)))
 
--- src/steps.rt:272:1
 same-length : tie.Need-same-length
 same-length c = search needs
 
--- src/steps.rt:272:1
 returns : tie.Need-returns
-returns c = ?
+returns c =
+    let a = c .before .before .before .before .before .before .before .before .before .before .before .before .before .before .before .args in
+    ahead-refused (a .text .now) (a .table .now) (a .here) (a .nest) (a .given) (a .at) (a .window .now) _ (c .before .before .before .before .before .before .before .before .before .run-ahead .result) (c .before .before .before .before .before .before .before .before .before .before .before .before .before .before .before .pre .1) (c .before .before .before .before .before .before .before .before .before .run-ahead .ensures) (c .before .before .before .stop .given .1) (c .put-step .ensures ∙ ap (stepOf (a .nest)) (c .before .over .ensures))
 
--- src/steps.rt:272:1
 same-length-2 : tie.Need-same-length-2
 same-length-2 c = search needs
 
--- src/steps.rt:272:1
 returns-2 : tie.Need-returns-2
-returns-2 c = ?
+returns-2 c =
+    let a = c .before .before .before .before .before .before .before .before .before .before .before .before .before .before .before .args in
+    ahead-item (a .text .now) (a .table .now) (a .here) (a .nest) (a .given) (a .at) (a .window .now) _ (c .before .before .before .before .before .before .before .before .before .run-ahead .result) (c .before .before .before .before .before .before .before .before .before .before .before .before .before .before .before .pre .1) (c .before .before .before .before .before .before .before .before .before .run-ahead .ensures) (ended-stop _ (c .before .before .before .before .before .before .before .before .before .run-ahead .result .stop) refl (c .before .before .before .before .before .before .before .before .before .run-ahead .ensures .stays) (c .before .before .before .before .match .keys2)) (c .before .before .step-item .ensures)
 
 pub advance-spec : {M : Type 1} → statement M
 advance-spec =

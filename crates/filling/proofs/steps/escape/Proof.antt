@@ -1,3 +1,9 @@
+-- An escape: it leaves the innermost iteration where no argument remains. Assumes nothing.
+use mathlib.Core.Path.{refl}
+use native.Mathlib.Omega.{arith}
+use Rattle.rules.proofs.TextLaws.{next-inside}
+use Rattle.running.proofs.Places.{escape-at}
+use Rattle.filling.proofs.AheadLaws.{escape-none, escape-sound, escape-leaves, escape-stays}
 use borrow.Author.Needs.{needs}
 use Rattle.filling.proofs.steps.escape.Statement.{statement}
 use Rattle.filling.proofs.steps.escape.Tie as tie
@@ -6,25 +12,29 @@ use Rattle.filling.proofs.steps.escape.Lts as lts
 use Rattle.filling.proofs.giving.stepped.Reads as stepped-reads
 use Rattle.nesting.proofs.moves.leave.Reads as leave-reads
 
--- src/steps.rt:194:9
 returns : tie.Need-returns
-returns c = ?
+returns c =
+    let a = c .before .before .before .before .before .args in
+    escape-none (a .text .now) (a .table .now) (a .here) (a .nest) (a .d .next) (escape-at (a .text .now) (a .here .place) (a .d) (c .before .before .before .before .before .pre .1 .1 .1 .0) (c .before .before .before .before .before .pre .1 .1 .1 .1)) (c .if1 .taken) refl
 
--- src/steps.rt:205:9
 stepped-requires : tie.Need-stepped-requires
-stepped-requires c κs = search needs
+stepped-requires c κs =
+    omega (arith, c .before .before .if1 .left)
 
--- src/steps.rt:207:9
 leave-requires : tie.Need-leave-requires
-leave-requires c κs = ?
+leave-requires c κs =
+    let a = c .before .before .before .before .before .before .before .before .before .before .before .args in
+    (c .before .before .before .before .before .before .before .before .before .before .before .pre .0, (c .before .before .before .before .before .before .before .before .before .before .before .pre .1 .0, escape-sound (a .text .now) (a .table .now) (a .here) (a .nest) (a .d .next) (escape-at (a .text .now) (a .here .place) (a .d) (c .before .before .before .before .before .before .before .before .before .before .before .pre .1 .1 .1 .0) (c .before .before .before .before .before .before .before .before .before .before .before .pre .1 .1 .1 .1)) (c .before .before .before .before .before .before .if1 .left) (c .before .before .before .stepped .ensures) (c .before .before .before .before .before .before .before .before .before .before .before .pre .1 .1 .0) (next-inside (a .text .now) (a .here .place) (a .d) (c .before .before .before .before .before .before .before .before .before .before .before .pre .1 .1 .1 .0) .most)))
 
--- src/steps.rt:207:9
 returns-2 : tie.Need-returns-2
-returns-2 c = ?
+returns-2 c =
+    let a = c .before .before .before .before .before .before .before .before .before .before .before .before .args in
+    escape-leaves (a .text .now) (a .table .now) (a .here) (a .nest) (a .d .next) (escape-at (a .text .now) (a .here .place) (a .d) (c .before .before .before .before .before .before .before .before .before .before .before .before .pre .1 .1 .1 .0) (c .before .before .before .before .before .before .before .before .before .before .before .before .pre .1 .1 .1 .1)) (c .before .before .before .before .before .before .before .if1 .left) (c .before .before .before .before .stepped .ensures) (c .before .if2 .taken) (c .leave .ensures)
 
--- src/steps.rt:185:1
 returns-3 : tie.Need-returns-3
-returns-3 c = ?
+returns-3 c =
+    let a = c .before .before .before .before .before .before .before .before .before .before .before .args in
+    escape-stays (a .text .now) (a .table .now) (a .here) (a .nest) (a .d .next) (escape-at (a .text .now) (a .here .place) (a .d) (c .before .before .before .before .before .before .before .before .before .before .before .pre .1 .1 .1 .0) (c .before .before .before .before .before .before .before .before .before .before .before .pre .1 .1 .1 .1)) (c .before .before .before .before .before .before .if1 .left) (c .before .before .before .stepped .ensures) (omega (arith, c .if2 .left)) (c .before .before .before .before .before .before .before .before .before .before .before .pre .1 .1 .0) (next-inside (a .text .now) (a .here .place) (a .d) (c .before .before .before .before .before .before .before .before .before .before .before .pre .1 .1 .1 .0) .most) refl
 
 pub escape-spec : {M : Type 1} → statement M
 escape-spec = tie.close (tie.spec returns stepped-requires leave-requires returns-2 returns-3)

@@ -1,56 +1,53 @@
+-- A jump: it goes on with another argument, or is refused. Assumes nothing.
+use mathlib.Core.Path.{refl}
+use mathlib.Core.List.{[]}
+use native.Mathlib.Omega.{arith}
+use Rattle.rules.specs.declared.Item.the-variants.{Written}
+use Rattle.filling.proofs.StepLaws.{puts-none}
+use Rattle.filling.proofs.PutLaws.{jump-on, jump-refused}
 use borrow.Author.Needs.{needs}
 use Rattle.filling.proofs.steps.jump.Statement.{statement}
 use Rattle.filling.proofs.steps.jump.Tie as tie
 use Rattle.filling.proofs.steps.jump.Reads as reads
 use Rattle.filling.proofs.steps.jump.Lts as lts
 use Rattle.acting.proofs.acting.act_jump.Reads as act-jump-reads
-use Rattle.filling.proofs.giving.no_rest.Reads as no-rest-reads
+use Rattle.filling.proofs.giving.on.Reads as on-reads
 use Rattle.filling.proofs.giving.over.Reads as over-reads
-use Rattle.filling.proofs.giving.stepped.Reads as stepped-reads
 
--- src/steps.rt:159:9
 over-requires : tie.Need-over-requires
 over-requires c κs = search needs
 
--- src/steps.rt:159:9
 returns : tie.Need-returns
-returns c = ?
+returns c =
+    let a = c .before .before .before .before .args in
+    λ t b l. puts-none t (a .table .now) (Written (a .d)) (a .d .next) (a .here) (a .given) (a .at) b (c .before .if1 .taken) (c .over .ensures) l
 
--- src/steps.rt:166:15
-sub-t15 : tie.Need-sub-t15
-sub-t15 c = search needs
+sub-t16 : tie.Need-sub-t16
+sub-t16 c =
+    omega (arith, c .before .before .before .if1 .left)
 
--- src/steps.rt:169:9
 act-jump-requires : tie.Need-act-jump-requires
-act-jump-requires c κs = search needs
+act-jump-requires c κs =
+    (c .before .before .before .before .before .before .pre .0, (c .before .before .before .before .before .before .pre .1 .0, c .before .before .before .before .before .before .pre .1 .1))
 
--- src/steps.rt:173:25
 enum-known-stop : tie.Need-enum-known-stop
 enum-known-stop c = search needs
 
--- src/steps.rt:173:66
-stepped-requires : tie.Need-stepped-requires
-stepped-requires c κs = search needs
-
--- src/steps.rt:173:45
 over-requires-2 : tie.Need-over-requires-2
 over-requires-2 c κs = search needs
 
--- src/steps.rt:176:19
-stepped-requires-2 : tie.Need-stepped-requires-2
-stepped-requires-2 c κs = search needs
+on-requires : tie.Need-on-requires
+on-requires c κs = search needs
 
--- src/steps.rt:178:19
-no-rest-requires : tie.Need-no-rest-requires
-no-rest-requires c κs = search needs
-
--- src/steps.rt:152:1
 returns-2 : tie.Need-returns-2
-returns-2 c = ?
+returns-2 c =
+    let a = c .before .before .before .before .before .before .before .before .before .before .before .before .args in
+    λ t b l. jump-refused t (a .table .now) (a .d) (a .here) (a .given) (a .at) (c .before .before .before .before .before .before .before .before .before .if1 .left) (c .before .before .before .before .before .before .before .before .before .before .before .before .pre .0) (c .before .before .before .before .before .before .before .before .before .before .before .before .pre .1 .0) (c .before .before .before .before .before .act-jump .ensures [] (omega arith)) (c .before .before .stop .given .1) (c .over2 .ensures) l
 
--- src/steps.rt:152:1
 returns-3 : tie.Need-returns-3
-returns-3 c = ?
+returns-3 c =
+    let a = c .before .before .before .before .before .before .before .before .before .before .args in
+    λ t b l. jump-on t (a .table .now) (a .d) (a .here) (a .given) (a .at) (c .before .before .before .before .before .before .before .if1 .left) (c .before .before .before .before .before .before .before .before .before .before .pre .0) (c .before .before .before .before .before .before .before .before .before .before .pre .1 .0) (c .before .before .before .act-jump .ensures [] (omega arith)) _ refl (c .before .match .keys2) (c .on .ensures) l
 
 pub jump-spec : {M : Type 1} → statement M
 jump-spec =
@@ -58,12 +55,10 @@ jump-spec =
     (tie.spec
     over-requires
     returns
-    sub-t15
+    sub-t16
     act-jump-requires
     enum-known-stop
-    stepped-requires
     over-requires-2
-    stepped-requires-2
-    no-rest-requires
+    on-requires
     returns-2
     returns-3)

@@ -1,3 +1,5 @@
+-- A move as a step. Assumes nothing.
+use Rattle.filling.proofs.StepLaws.{moved-is}
 use borrow.Author.Needs.{needs}
 use Rattle.filling.proofs.steps.moved_step.Statement.{statement}
 use Rattle.filling.proofs.steps.moved_step.Tie as tie
@@ -6,17 +8,15 @@ use Rattle.filling.proofs.steps.moved_step.Lts as lts
 use Rattle.filling.proofs.giving.no_rest.Reads as no-rest-reads
 use Rattle.filling.proofs.steps.reach_of.Reads as reach-of-reads
 
--- src/steps.rt:88:16
 reach-of-requires : tie.Need-reach-of-requires
 reach-of-requires c κs = search needs
 
--- src/steps.rt:92:15
 no-rest-requires : tie.Need-no-rest-requires
 no-rest-requires c κs = search needs
 
--- src/steps.rt:81:1
 returns : tie.Need-returns
-returns c = ?
+returns c =
+    moved-is (c .before .before .before .before .args .r) (c .before .before .before .before .args .given) (c .before .before .before .before .args .at) (c .before .reach-of .ensures) (c .no-rest .ensures)
 
 pub moved-step-spec : {M : Type 1} → statement M
 moved-step-spec = tie.close (tie.spec reach-of-requires no-rest-requires returns)

@@ -1,3 +1,7 @@
+-- Short directives run ahead, unless bytes are given already. Assumes nothing.
+use mathlib.Core.Path.{refl}
+use native.Mathlib.Omega.{arith}
+use Rattle.filling.proofs.AheadLaws.{unheld-ahead, none-ahead}
 use borrow.Author.Needs.{needs}
 use Rattle.filling.proofs.steps.run_ahead.Statement.{statement}
 use Rattle.filling.proofs.steps.run_ahead.Tie as tie
@@ -6,25 +10,25 @@ use Rattle.filling.proofs.steps.run_ahead.Lts as lts
 use Rattle.filling.proofs.steps.unhold.Reads as unhold-reads
 use Rattle.stepping.proofs.short.run_short.Reads as run-short-reads
 
--- src/steps.rt:140:23
 run-short-requires : tie.Need-run-short-requires
 run-short-requires c κs = search needs
 
--- src/steps.rt:140:9
 unhold-requires : tie.Need-unhold-requires
-unhold-requires c κs = ?
+unhold-requires c κs =
+    omega (arith, c .before .before .run-short .ensures .0 0 .does .falls, c .before .before .before .before .before .before .before .before .before .before .pre .1 .1 .1 .0)
 
--- src/steps.rt:140:9
 same-length : tie.Need-same-length
 same-length c = search needs
 
--- src/steps.rt:140:9
 returns : tie.Need-returns
-returns c = ?
+returns c =
+    let a = c .before .before .before .before .before .before .before .before .before .before .before .args in
+    unheld-ahead (a .text .now) (a .table .now) (a .here) (a .given) (a .at) (a .window .now) _ (c .before .before .before .run-short .result) (c .before .before .before .before .before .if1 .taken) (c .before .before .before .run-short .ensures .0) (c .before .before .before .run-short .ensures .1 .1 .0) (c .before .before .before .run-short .ensures .1 .1 .1) (c .unhold .ensures)
 
--- src/steps.rt:122:1
 returns-2 : tie.Need-returns-2
-returns-2 c = ?
+returns-2 c =
+    let a = c .before .before .before .before .before .before .args in
+    none-ahead (a .text .now) (a .table .now) (a .here) (a .given) (a .at) (a .window .now) _ (c .if1 .left) (c .before .before .before .before .before .before .pre .1 .1 .0) (c .before .before .before .before .before .before .pre .1 .1 .1 .1) (c .before .before .before .before .before .before .pre .1 .0) refl refl
 
 pub run-ahead-spec : {M : Type 1} → statement M
 run-ahead-spec =

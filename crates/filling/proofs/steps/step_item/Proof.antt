@@ -1,3 +1,14 @@
+-- An item: the end of its sequence, a literal byte or a directive. Assumes nothing.
+use mathlib.Core.Path.{_≡_, refl, sym, subst, _∙_}
+use mathlib.Core.Bool.{false}
+use native.Mathlib.Omega.{arith}
+use Rattle.rules.specs.declared.Item.{Item}
+use Rattle.rules.proofs.TextLaws.{stands}
+use Rattle.blocks.specs.Parts.{endsAt}
+use Rattle.running.proofs.Places.{literal-at, literal-ahead}
+use Rattle.nesting.specs.Moves.{comes, weight}
+use Rattle.filling.proofs.StepLaws.{advances-moved}
+use Rattle.filling.proofs.PutLaws.{puts-step, no-other}
 use borrow.Author.Needs.{needs}
 use Rattle.filling.proofs.steps.step_item.Statement.{statement}
 use Rattle.filling.proofs.steps.step_item.Tie as tie
@@ -12,73 +23,74 @@ use Rattle.filling.proofs.steps.put_step.Reads as put-step-reads
 use Rattle.filling.proofs.steps.step_directive.Reads as step-directive-reads
 use Rattle.nesting.proofs.moves.end_sequence.Reads as end-sequence-reads
 
--- src/steps.rt:260:9
 element-at-requires : tie.Need-element-at-requires
 element-at-requires c κs = search needs
 
--- src/steps.rt:261:8
 ends-here-requires : tie.Need-ends-here-requires
 ends-here-requires c κs = search needs
 
--- src/steps.rt:262:27
 end-sequence-requires : tie.Need-end-sequence-requires
-end-sequence-requires c κs = ?
+end-sequence-requires c κs =
+    let y = c .before .before .before .before .before .before .before .pre .1 in
+    (c .before .before .before .before .before .before .before .pre .0, (y .accepted, (y .sound, c .before .before .element-at .ensures .ends (sym (c .before .ends-here .ensures) ∙ c .if1 .taken))))
 
--- src/steps.rt:262:9
 moved-step-requires : tie.Need-moved-step-requires
 moved-step-requires c κs = search needs
 
--- src/steps.rt:262:9
 returns : tie.Need-returns
-returns c = ?
+returns c =
+    let a = c .before .before .before .before .before .before .before .before .before .args in
+    advances-moved (a .text .now) (a .table .now) (comes (a .text .now) (a .table .now) (a .here) (a .nest)) (a .given) (a .here .left) (weight (a .here) (a .nest)) (a .at) (a .window .now) (c .moved-step .ensures) (c .before .end-sequence .ensures) (c .before .before .before .before .before .before .before .before .before .pre .1 .room)
 
--- src/steps.rt:265:23
 enum-known-item : tie.Need-enum-known-item
 enum-known-item c = search needs
 
--- src/steps.rt:265:41
 give-byte-requires : tie.Need-give-byte-requires
-give-byte-requires c κs = ?
+give-byte-requires c κs =
+    let a = c .before .before .before .before .before .before .before .before .before .before .before .args in
+    let y = c .before .before .before .before .before .before .before .before .before .before .before .pre .1 in
+    let e = c .before .before .before .before .before .before .element-at .ensures .is (sym (c .before .before .before .before .before .ends-here .ensures) ∙ c .before .before .before .before .if1 .left) ∙ c .before .before .item .given .1 in
+    (y .room, omega (arith, stands (a .text .now) (a .here .place) _ e, y .sound .short))
 
--- src/steps.rt:265:32
 put-step-requires : tie.Need-put-step-requires
 put-step-requires c κs = search needs
 
--- src/steps.rt:266:23
 enum-known-item-2 : tie.Need-enum-known-item-2
 enum-known-item-2 c = search needs
 
--- src/steps.rt:266:29
 step-directive-requires : tie.Need-step-directive-requires
-step-directive-requires c κs = ?
+step-directive-requires c κs =
+    let a = c .before .before .before .before .before .before .before .before .before .before .before .args in
+    let f = sym (c .before .before .before .before .before .ends-here .ensures) ∙ c .before .before .before .before .if1 .left in
+    let q = c .before .before .item2 .given .1 in
+    (c .before .before .before .before .before .before .before .before .before .before .before .pre .0, (c .before .before .before .before .before .before .before .before .before .before .before .pre .1, (c .before .before .before .before .before .before .element-at .ensures .is f ∙ q, subst (λ (x : Item). endsAt x ≡ false) q f)))
 
--- src/steps.rt:267:23
 over-requires : tie.Need-over-requires
 over-requires c κs = search needs
 
--- src/steps.rt:267:14
 put-step-requires-2 : tie.Need-put-step-requires-2
 put-step-requires-2 c κs = search needs
 
--- src/steps.rt:246:1
 same-length : tie.Need-same-length
 same-length c = search needs
 
--- src/steps.rt:246:1
 returns-2 : tie.Need-returns-2
-returns-2 c = ?
+returns-2 c =
+    let a = c .before .before .before .before .before .before .before .before .before .before .before .before .before .before .before .args in
+    let y = c .before .before .before .before .before .before .before .before .before .before .before .before .before .before .before .pre .1 in
+    let e = c .before .before .before .before .before .before .before .before .before .before .element-at .ensures .is (sym (c .before .before .before .before .before .before .before .before .before .ends-here .ensures) ∙ c .before .before .before .before .before .before .before .before .if1 .left) ∙ c .before .before .before .before .before .before .item .given .1 in
+    puts-step (c .before .before .before .give-byte .ensures (a .text .now) (a .table .now)) (c .put-step .ensures) (y .sound) (literal-at (a .text .now) (a .here .place) _ e) (literal-ahead (a .text .now) (a .here .place) _ e .most)
 
--- src/steps.rt:246:1
 same-length-2 : tie.Need-same-length-2
 same-length-2 c = search needs
 
--- src/steps.rt:246:1
 returns-3 : tie.Need-returns-3
-returns-3 c = search needs
+returns-3 c =
+    c .before .before .step-directive .ensures
 
--- src/steps.rt:246:1
 returns-4 : tie.Need-returns-4
-returns-4 c = ?
+returns-4 c =
+    absurd (no-other _ (c .before .before .before .before .before .element-at .result) refl (sym (c .before .before .before .before .ends-here .ensures) ∙ c .before .before .before .if1 .left) (c .before .before .match .keys3))
 
 pub step-item-spec : {M : Type 1} → statement M
 step-item-spec =

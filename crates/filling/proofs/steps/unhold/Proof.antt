@@ -1,28 +1,29 @@
+-- A run that found no room stands before the directive that needs it. Assumes nothing.
+use mathlib.Core.Path.{refl}
+use Rattle.filling.proofs.AheadLaws.{unheld-full, unheld-other, unheld-same}
 use borrow.Author.Needs.{needs}
 use Rattle.filling.proofs.steps.unhold.Statement.{statement}
 use Rattle.filling.proofs.steps.unhold.Tie as tie
 use Rattle.filling.proofs.steps.unhold.Reads as reads
 use Rattle.filling.proofs.steps.unhold.Lts as lts
 
--- src/steps.rt:105:25
 enum-known-stop : tie.Need-enum-known-stop
 enum-known-stop c = search needs
 
--- src/steps.rt:110:27
 add-t9 : tie.Need-add-t9
 add-t9 c = search needs
 
--- src/steps.rt:107:17
 returns : tie.Need-returns
-returns c = ?
+returns c =
+    unheld-full (c .before .before .before .before .before .before .args .r) (c .before .before .before .stop .given .1) (c .before .if1 .taken)
 
--- src/steps.rt:98:1
 returns-2 : tie.Need-returns-2
-returns-2 c = ?
+returns-2 c =
+    unheld-other (c .before .before .before .before .before .args .r) (c .before .before .stop .given .1) (c .if1 .left)
 
--- src/steps.rt:98:1
 returns-3 : tie.Need-returns-3
-returns-3 c = ?
+returns-3 c =
+    unheld-same _ (c .before .before .args .r) refl (c .match .keys2)
 
 pub unhold-spec : {M : Type 1} → statement M
 unhold-spec = tie.close (tie.spec enum-known-stop add-t9 returns returns-2 returns-3)

@@ -1,0 +1,121 @@
+-- What a jump does: it goes on with another argument, or is refused. Assumes nothing.
+use Prim.Native.Nat.{ℕ, _+_, _-_, _≤_}
+use mathlib.Core.Path.{_≡_, refl, sym, ap, subst, _∙_}
+use mathlib.Core.Bool.{Bool, true, false}
+use mathlib.Core.List.{List, []}
+use native.Mathlib.Omega.{arith}
+use lib.Dec.{leb}
+use Rattle.rules.specs.Flow.{Flow, done, refused, put, Stretch, still, onward, Gives, Lacks}
+use Rattle.rules.specs.Table.{View}
+use Rattle.rules.specs.Directive.{wellWritten, placesOf, inOrder, either}
+use Rattle.rules.specs.Piece.{orElse}
+use Rattle.rules.specs.Working.{Context, Settled, settled, unsettled, settle}
+use Rattle.rules.specs.Run.{choose, onSettled, jumpTo, jump, directiveActs, itemActs}
+use Rattle.rules.specs.declared.Code.{Code}
+use Rattle.rules.specs.declared.Code.the-variants.{Jump}
+use Rattle.rules.specs.declared.Directive.{Directive}
+use Rattle.rules.specs.declared.Item.the-variants.{Written}
+use Rattle.rules.specs.declared.Settings.{Settings}
+use Rattle.acting.specs.declared.state.Ran.{Ran}
+use Rattle.acting.specs.declared.state.Spot.{Spot}
+use Rattle.acting.specs.declared.state.Stop.{Stop}
+use Rattle.acting.specs.declared.state.Stop.the-variants.{Ended, Left, Refused}
+use Rattle.acting.specs.Ran.{onward as comesAfter, Same, gives, lacks}
+use Rattle.acting.specs.Acting.{Performed}
+use Rattle.acting.proofs.ActLaws.{performed-stays}
+use Rattle.nesting.specs.Moves.{told}
+
+-- what neither writes nor asks what follows
+pub data Silent (f : (ℕ → Flow) → Flow) : Type 0 where
+  goes : (i : ℕ) → ((on : ℕ → Flow) → f on ≡ on i) → Silent f
+  stops : (code p left : ℕ) → ((on : ℕ → Flow) → f on ≡ refused code p left) → Silent f
+
+silent-either : (t : Bool) {f g : (ℕ → Flow) → Flow} → Silent f → Silent g → Silent (λ on. choose t (λ _. f on) (λ _. g on))
+silent-either true s u = s
+silent-either false s u = u
+
+module _ (v : View) (p m : ℕ) (c : Context) where
+  silent-to : (k : ℕ) → Silent (λ on. jumpTo v p m c k on)
+  silent-to k = silent-either (leb k (c .count)) (goes k (λ on. refl)) (stops 6 p m (λ on. refl))
+
+  silent-settled : (z : Settled) {f : Settings → ℕ → (ℕ → Flow) → Flow} → ((s : Settings) (i : ℕ) → Silent (f s i)) → Silent (λ on. onSettled p m z (λ s i. f s i on))
+  silent-settled (settled ss i) h = h _ i
+  silent-settled (unsettled code) h = stops code p m (λ on. refl)
+
+  silent-by : (d : Directive) (s : Settings) (i : ℕ) → Silent (λ on. jump v p m d c s i on)
+  silent-by d s i =
+      silent-either (d .at) (silent-to (orElse (s .first) 0))
+      (silent-either (d .colon)
+      (silent-either (leb (orElse (s .first) 1) i) (silent-to (i - orElse (s .first) 1)) (stops 6 p m (λ on. refl)))
+      (silent-to (i + orElse (s .first) 1)))
+
+  pub silent-jump : (d : Directive) → d .code ≡ Jump → Silent (λ on. itemActs v p m (Written d) c on)
+  unfolding itemActs
+  silent-jump d q =
+      subst (λ (k : Code). Silent (λ on. directiveActs v p m d k c on)) (sym q)
+      (silent-either (wellWritten d)
+      (silent-settled (settle v c (placesOf (d .code) (either (d .colon) (d .at))) (inOrder (d .parameters)) (c .next)) (silent-by d))
+      (stops 5 p m (λ on. refl)))
+
+-- an end is followed by nothing
+done-only : {a k : ℕ} {g : Flow} {w : List ℕ} → Stretch (done a k) g w → g ≡ done a k
+done-only still = refl
+
+refused-only : {code p l : ℕ} {g : Flow} {w : List ℕ} → Stretch (refused code p l) g w → g ≡ refused code p l
+refused-only still = refl
+
+after-done : {f g : Flow} {w : List ℕ} (a k : ℕ) → f ≡ done a k → Stretch f g w → g ≡ done a k
+after-done {f} {g} {w} a k q s = done-only (subst (λ (x : Flow). Stretch x g w) q s)
+
+after-refused : {f g : Flow} {w : List ℕ} (code p l : ℕ) → f ≡ refused code p l → Stretch f g w → g ≡ refused code p l
+after-refused {f} {g} {w} code p l q s = refused-only (subst (λ (x : Flow). Stretch x g w) q s)
+
+put-done : {p l a k : ℕ} {w : List ℕ} {f : Flow} → _≡_ {A = Flow} (put p l w f) (done a k) → ⊥
+put-done e = let z : _≡_ {A = ℕ} 0 1 = cc in omega arith
+
+put-refused : {p l code q a : ℕ} {w : List ℕ} {f : Flow} → _≡_ {A = Flow} (put p l w f) (refused code q a) → ⊥
+put-refused e = let z : _≡_ {A = ℕ} 0 1 = cc in omega arith
+
+refused-done : {code p l a k : ℕ} → _≡_ {A = Flow} (refused code p l) (done a k) → ⊥
+refused-done e = let z : _≡_ {A = ℕ} 0 1 = cc in omega arith
+
+-- what a silent directive answers is what comes after it
+module _ {f : (ℕ → Flow) → Flow} {count : ℕ} {spot : Spot} {r : Ran} (u : Performed f count spot [] [] r) where
+  abbrev mark : ℕ → ℕ → Flow
+  mark l i = done l i
+
+  marked : Same (f (λ i. mark (spot .left) i)) mark (λ l i. mark l i) (spot .at) [] [] r
+  marked = u .does .same mark (λ l i. mark l i)
+
+  ends-as : (i : ℕ) → f (λ k. mark (spot .left) k) ≡ done (spot .left) i → comesAfter mark (λ l k. mark l k) (r .stop) (r .left) (r .next .0) ≡ done (spot .left) i
+  ends-as i q = by marked
+    where
+      by : Same (f (λ k. mark (spot .left) k)) mark (λ l k. mark l k) (spot .at) [] [] r → comesAfter mark (λ l k. mark l k) (r .stop) (r .left) (r .next .0) ≡ done (spot .left) i
+      by (gives g) = after-done (spot .left) i q (g .stretch)
+      by (lacks z g) = absurd (put-done (after-done (spot .left) i q (g .gives .stretch)))
+
+  refuses-as : (code p l : ℕ) → f (λ k. mark (spot .left) k) ≡ refused code p l → comesAfter mark (λ l k. mark l k) (r .stop) (r .left) (r .next .0) ≡ refused code p l
+  refuses-as code p l q = by marked
+    where
+      by : Same (f (λ k. mark (spot .left) k)) mark (λ l k. mark l k) (spot .at) [] [] r → comesAfter mark (λ l k. mark l k) (r .stop) (r .left) (r .next .0) ≡ refused code p l
+      by (gives g) = after-refused code p l q (g .stretch)
+      by (lacks z g) = absurd (put-refused (after-refused code p l q (g .gives .stretch)))
+
+  pub silent-is : Silent f → (on out : ℕ → ℕ → Flow) → f (λ i. on (spot .left) i) ≡ comesAfter on out (r .stop) (r .left) (r .next .0)
+  silent-is (goes i h) on out = by (r .stop) refl (ends-as i (h _))
+    where
+      by : (x : Stop) → r .stop ≡ x → comesAfter mark (λ l k. mark l k) x (r .left) (r .next .0) ≡ done (spot .left) i
+          → f (λ k. on (spot .left) k) ≡ comesAfter on out (r .stop) (r .left) (r .next .0)
+      by Ended q e =
+          let a : r .left ≡ spot .left = cc in
+          let k : r .next .0 ≡ i = cc in
+          h _ ∙ sym (ap (λ (z : Stop). comesAfter on out z (r .left) (r .next .0)) q ∙ ap (λ (l : ℕ). on l (r .next .0)) a ∙ ap (λ (j : ℕ). on (spot .left) j) k)
+      by Left q e = absurd (performed-stays u q)
+      by (Refused code x) q e = absurd (refused-done e)
+  silent-is (stops code p l h) on out = by (r .stop) refl (refuses-as code p l (h _))
+    where
+      by : (x : Stop) → r .stop ≡ x → comesAfter mark (λ a k. mark a k) x (r .left) (r .next .0) ≡ refused code p l
+          → f (λ k. on (spot .left) k) ≡ comesAfter on out (r .stop) (r .left) (r .next .0)
+      by Ended q e = absurd (refused-done (sym e))
+      by Left q e = absurd (performed-stays u q)
+      by (Refused code₂ x) q e = h _ ∙ sym e ∙ sym (ap (λ (z : Stop). comesAfter on out z (r .left) (r .next .0)) q)
