@@ -2,7 +2,9 @@
 use Prim.Native.Nat.{ℕ, zero, suc, _+_, _≤_, _<_}
 use mathlib.Core.Path.{_≡_, refl, sym, ap, subst, _∙_}
 use mathlib.Core.Bool.{Bool, true, false}
-use mathlib.Core.List.{List, [], _++_, append-nil}
+use mathlib.Core.List.{List, [], _∷_, _++_, append-nil}
+use denote.Enum.Declared.{tagOf}
+use types.Run.{OneOf, miss}
 use native.Mathlib.Omega.{arith}
 use lib.Dec.{ltb, eqb}
 use lib.ListN.{length, take, drop, length-append, take-append-drop}
@@ -29,6 +31,7 @@ use Rattle.nesting.specs.declared.nests.Nest.{Nest}
 use Rattle.filling.specs.declared.giving.Reach.{Reach}
 use Rattle.filling.specs.declared.giving.Reach.the-variants.{On, Over, Full}
 use Rattle.filling.specs.declared.steps.Step.{Step}
+use Rattle.filling.proofs.giving.Reach as reach-declared
 use Rattle.filling.specs.Filling.{toGive, Advances}
 use Rattle.filling.specs.Steps.{Standing, isOn}
 use Rattle.windows.specs.declared.state.State.{State}
@@ -38,6 +41,17 @@ use Rattle.windows.specs.Calls.{Shown, more, all, shown, shownIn, Resume
 use Rattle.windows.specs.Continuing.{noBlocks, startOf, endedState, endedWith, begunState, moreWith, resumedBy, resumedAt, Halts, over, full, Continues}
 use Rattle.windows.proofs.CallLaws.{AsEnded, ended-remains, ended-shown, idle-shown}
 use Rattle.windows.proofs.StateLaws.{in-range, begun-remains}
+
+-- the answer of steps that are not over
+pub resumed-more : (keys : List ℕ) (step : Step) → keys ≡ 0 ∷ 2 ∷ [] → OneOf keys (tagOf reach-declared.the-type (step .reach)) → {st : State} {r : Resumed}
+    → st ≡ begunState (step .here) (step .nest) (step .given) (step .rest) → r ≡ moreWith (step .at) st → r ≡ resumedAt step
+resumed-more keys step q o {st} {r} same is = is ∙ ap (moreWith (step .at)) same ∙ by (step .reach) refl o
+  where
+    by : (y : Reach) → step .reach ≡ y → OneOf keys (tagOf reach-declared.the-type y)
+        → moreWith (step .at) (begunState (step .here) (step .nest) (step .given) (step .rest)) ≡ resumedAt step
+    by On k o = sym (ap (λ (x : Reach). resumedBy x step) k)
+    by (Over code p) k o = absurd (miss (0 ∷ 2 ∷ []) 1 tt (subst (λ (i : List ℕ). OneOf i 1) q o))
+    by Full k o = sym (ap (λ (x : Reach). resumedBy x step) k)
 
 module _ (t table : List ℕ) where
   ended-means : (code p steps : ℕ) → remains t table (endedState code p steps) ≡ AsEnded t table (endedState code p steps)
@@ -237,7 +251,7 @@ module _ (t table : List ℕ) where
             let all-of : r .written ≡ length b = ap (λ (y : Resumed). y .written) is in
             let size : length (remains t table s .bytes) ≡ r .written + length (remains t table (r .state) .bytes) = ap length (w .written .joined) ∙ length-append (take (r .written) e) (remains t table (r .state) .bytes) ∙ rw fits in
             let wrote : take (length b) (remains t table s .bytes) ≡ take (r .written) e =
-                ap (take (length b)) (w .written .joined) ∙ take-at (take (r .written) e) (remains t table (r .state) .bytes) (length b) (fits ∙ all-of) in
+            ap (take (length b)) (w .written .joined) ∙ take-at (take (r .written) e) (remains t table (r .state) .bytes) (length b) (fits ∙ all-of) in
             shows s b (more (take (length b) (remains t table s .bytes))) (shown-more s (length b) h some (omega (arith, size, all-of, next)))
             (ap (λ (y : Resumed). y .code) is)
             (ap (λ (y : Resumed). y .position) is)

@@ -40,9 +40,9 @@ module _ (n : ℕ) (table : List ℕ) (o : Nest) where
   one-less zero h = absurd (omega arith)
   one-less (suc i) h = let z : suc i - 1 ≡ i = omega arith in rw z
 
-  pub all-in : {x : Bool} → x ≡ allLie n table o 0 → true ≡ x
+  pub all-in : {i : ℕ} {x : Bool} → x ≡ allLie n table o i → i ≡ 0 → true ≡ x
   unfolding allLie
-  all-in q = sym q
+  all-in q z = sym (q ∙ rw z)
 
   module _ {i : ℕ} {x r : Bool} {k : Block} (q : x ≡ allLie n table o i) (some : 0 < i) (at : k ≡ blockAt o (i - 1)) (is : r ≡ blockLies n table k) where
     lies-by : x ≡ both r (allLie n table o (i - 1))
@@ -65,15 +65,17 @@ module _ (t table : List ℕ) where
       let place = both-true _ _ (left .1) in
       let hand = both-true _ _ (place .1) in
       let blocks = both-true _ _ (hand .1) in
-      let rest = both-true _ _ (blocks .1) in
-      (record {
-        short = leb-true _ _ (short .0);
-        depth = leb-true _ _ (depth .0);
-        left = leb-true _ _ (left .0);
-        place = leb-true _ _ (place .0);
-        hand = hand .0;
-        blocks = blocks .0;
-      }, record { order = leb-true _ _ (rest .0); inside = leb-true _ _ (rest .1) })
+      let rest = both-true _ _ (blocks .1) in (
+        record {
+          short = leb-true _ _ (short .0);
+          depth = leb-true _ _ (depth .0);
+          left = leb-true _ _ (left .0);
+          place = leb-true _ _ (place .0);
+          hand = hand .0;
+          blocks = blocks .0;
+        },
+        record { order = leb-true _ _ (rest .0); inside = leb-true _ _ (rest .1) },
+      )
 
   module _ {h : Here} {o : Nest} (given : ℕ) {q : QuoteRest} (w : Sound (length t) table h o) (l : RestIn table q) where
     begun-sound : isSound t table (begunState h o given q) ≡ true

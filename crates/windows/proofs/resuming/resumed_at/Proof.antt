@@ -1,5 +1,6 @@
 -- The answer is that of how far the steps came. Assumes nothing.
-use mathlib.Core.Path.{_∙_}
+use mathlib.Core.Path.{refl, _∙_}
+use Rattle.windows.proofs.ResumeLaws.{resumed-more}
 use borrow.Author.Needs.{needs}
 use Rattle.windows.proofs.resuming.resumed_at.Statement.{statement}
 use Rattle.windows.proofs.resuming.resumed_at.Tie as tie
@@ -23,7 +24,7 @@ returns : tie.Need-returns
 returns c = rw (c .before .before .before .reach .given .1) (c .ended .ensures)
 
 returns-2 : tie.Need-returns-2
-returns-2 c = ?
+returns-2 c = resumed-more _ (c .before .before .before .before .before .before .args .step) refl (c .before .before .match .keys2) (c .before .begun .ensures) (c .more .ensures)
 
 pub resumed-at-spec : {M : Type 1} → statement M
 resumed-at-spec =

@@ -27,16 +27,16 @@ block-lies-requires : tie.Need-block-lies-requires Inv-loop μ-loop
 block-lies-requires c κs = c .before .before .before .before .pre .0
 
 returns : tie.Need-returns Inv-loop μ-loop
-returns c = let a = c .before .before .before .before .before .before .args in one-out (a .size) (a .table .now) (a .nest) (c .before .before .before .before .loop .inv .1) (c .before .before .before .loop-test .taken) (c .before .before .block-at .ensures .0) (c .before .block-lies .ensures) (c .if1 .taken)
+returns c = let a = c .before .before .before .before .before .before .args in one-out (a .size) (a .table .now) (a .nest) (c .before .before .before .before .loop .inv .1) (c .before .before .before .loop-test .taken) (c .before .before .block-at .ensures .0) (c .before .block-lies .ensures) (not-true (c .before .block-lies .result) (c .if1 .taken))
 
 loop-less : tie.Need-loop-less Inv-loop μ-loop
 loop-less c = omega (arith, c .before .before .before .loop-test .taken)
 
 loop-again : tie.Need-loop-again Inv-loop μ-loop
-loop-again c = let a = c .before .before .before .before .before .before .args in (omega (arith, c .before .before .before .before .loop .inv .0), one-in (a .size) (a .table .now) (a .nest) (c .before .before .before .before .loop .inv .1) (c .before .before .before .loop-test .taken) (c .before .before .block-at .ensures .0) (c .before .block-lies .ensures) (c .if1 .left))
+loop-again c = let a = c .before .before .before .before .before .before .args in (omega (arith, c .before .before .before .before .loop .inv .0), one-in (a .size) (a .table .now) (a .nest) (c .before .before .before .before .loop .inv .1) (c .before .before .before .loop-test .taken) (c .before .before .block-at .ensures .0) (c .before .block-lies .ensures) (not-false (c .before .block-lies .result) (c .if1 .left)))
 
 returns-2 : tie.Need-returns-2 Inv-loop μ-loop
-returns-2 c = ?
+returns-2 c = let a = c .before .before .before .args in all-in (a .size) (a .table .now) (a .nest) (c .before .loop .inv .1) (omega (arith, c .loop-test .left))
 
 pub all-lie-spec : {M : Type 1} → statement M
 all-lie-spec =
