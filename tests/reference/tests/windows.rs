@@ -251,8 +251,9 @@ fn pieces_are_cut_anywhere() {
     ];
     for (text, arg, piece) in pieces {
         let steps = text.matches('~').count() - usize::from(text.ends_with("4~"));
+        let args = [arg];
         for cut in 1..piece.len() {
-            let told = calls(text, &[arg.clone()], &[cut, piece.len() - cut]);
+            let told = calls(text, &args, &[cut, piece.len() - cut]);
             let whole = [more(&piece[..cut]), end(0, 0, steps, &piece[cut..])];
             assert_eq!(told, whole, "{text} cut at {cut}");
         }
