@@ -8,7 +8,8 @@ pub const VAST: usize = 65_536;
 /// A byte at each place that is known again.
 pub struct Field {
     bytes: Vec<u8>,
-    salt: usize,
+    /// As they came.
+    clean: Vec<u8>,
 }
 
 impl Field {
@@ -19,12 +20,11 @@ impl Field {
     /// Another salt makes another byte at each place.
     pub fn salted(salt: usize) -> Field {
         let places = 0..MARGIN + VAST + MARGIN;
-        let bytes = places.map(|at| Field::byte(salt, at)).collect();
-        Field { bytes, salt }
-    }
-
-    fn byte(salt: usize, at: usize) -> u8 {
-        (at * 37 + salt) as u8
+        let clean: Vec<u8> = places.map(|at| (at * 37 + salt) as u8).collect();
+        Field {
+            bytes: clean.clone(),
+            clean,
+        }
     }
 
     pub fn lend(&mut self, room: usize) -> &mut [u8] {
@@ -41,15 +41,15 @@ impl Field {
         } else if !self.untouched(0, start) {
             Err("bytes touched before what was lent")
         } else {
-            let text = self.bytes[start..start + written].to_vec();
-            let mend = |at| self.bytes[at] = Field::byte(self.salt, at);
-            (start..start + written).for_each(mend);
+            let lent = &mut self.bytes[start..start + written];
+            let text = lent.to_vec();
+            lent.copy_from_slice(&self.clean[start..start + written]);
             Ok(text)
         }
     }
 
     /// Whether all is as it came from `from` up to `upto`.
     fn untouched(&self, from: usize, upto: usize) -> bool {
-        (from..upto).all(|at| self.bytes[at] == Field::byte(self.salt, at))
+        self.bytes[from..upto] == self.clean[from..upto]
     }
 }
