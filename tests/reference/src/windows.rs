@@ -127,9 +127,7 @@ impl Line<'_> {
         let Some(node) = innermost(&self.nodes, &self.open).get(self.next) else {
             return self.close();
         };
-        let lists = self.open.iter_mut().rev();
-        let own = lists.filter_map(|block| block.list.as_mut()).next();
-        let arguments = own.unwrap_or(&mut self.arguments);
+        let arguments = current(&mut self.open, &mut self.arguments);
         match node {
             Node::Text { start, end } => {
                 let at = start + self.byte;
@@ -196,9 +194,7 @@ impl Line<'_> {
     /// The end of a clause, of a pass, or of the whole format; and the place
     /// before a first pass.
     fn close(&mut self) -> Result<bool, Refusal> {
-        let lists = self.open.iter().rev();
-        let own = lists.filter_map(|block| block.list.as_ref()).next();
-        let remaining = own.unwrap_or(&self.arguments).remaining();
+        let remaining = current(&mut self.open, &mut self.arguments).remaining();
         let Some(block) = self.open.last_mut() else {
             return Ok(true);
         };
@@ -236,4 +232,12 @@ fn innermost<'n>(nodes: &'n [Node], open: &[Open]) -> &'n [Node] {
             Node::Iteration { body, .. } => body,
             Node::Text { .. } | Node::Single(_) => unreachable!("they hold no block"),
         })
+}
+
+/// The list of the innermost block that has one, or the arguments of the
+/// table.
+fn current<'l>(open: &'l mut [Open], own: &'l mut Arguments) -> &'l mut Arguments {
+    let lists = open.iter_mut().rev();
+    let mut lists = lists.filter_map(|block| block.list.as_mut());
+    lists.next().unwrap_or(own)
 }

@@ -269,40 +269,50 @@ fn joined_as_one_call() {
     let mut seen = [0; 11];
     let (mut cut, mut deepest) = (0, 0);
     for _ in 0..150_000 {
-        let text = match random.below(4) {
-            0 => nested(&random, 8),
-            _ => pieced(&random),
+        let deep = random.once_in(4);
+        let text = if deep {
+            nested(&random, 8)
+        } else {
+            pieced(&random)
         };
         let table = encode(&arguments(&random));
-        let whole = format(text.as_bytes(), &table, usize::MAX);
-        let mut line = Windows::new(text.as_bytes(), &table);
         let size = random.pick(&[1, 2, 3, 7, 64, 512]);
-        let (mut given, mut code) = (0, MORE);
-        while code == MORE {
-            // Long lines would take many windows of a byte.
-            let size = if given > 200 { size + given } else { size };
-            let told = line.call(size);
-            let rest = &whole.text[given..];
-            assert_eq!(told.text, rest[..size.min(rest.len())], "{text:?}");
-            given += told.text.len();
-            let told = (told.code, told.position, told.steps);
-            // "a call stops only at the end or where the next byte has no room"
-            if rest.len() > size {
-                assert_eq!(told, (MORE, 0, 0), "{text:?}");
-            } else {
-                assert_eq!(told, (whole.code, whole.position, whole.steps), "{text:?}");
-            }
+        let met = |line: &Windows| {
             cut += usize::from(line.in_a_piece());
             deepest = line.open_blocks().max(deepest);
-            code = told.0;
-        }
-        seen[code as usize] += 1;
+        };
+        seen[as_one_call(&text, &table, size, met)] += 1;
     }
     assert!(cut > 1000 && deepest == 8, "{cut} cut, {deepest} deep");
     for code in [0, 3, 4, 5, 6, 7, 8, 9] {
         assert!(seen[code] > 20, "code {code}: {}", seen[code]);
     }
     assert_eq!(seen[10], 0);
+}
+
+/// The code of a line that is dealt out in windows just as the text of one
+/// call would be.
+fn as_one_call(text: &str, table: &[u8], size: usize, mut met: impl FnMut(&Windows)) -> usize {
+    let whole = format(text.as_bytes(), table, usize::MAX);
+    let end = (whole.code, whole.position, whole.steps);
+    let mut line = Windows::new(text.as_bytes(), table);
+    let mut given = 0;
+    loop {
+        // Long lines would take many windows of a byte.
+        let size = if given > 200 { size + given } else { size };
+        let told = line.call(size);
+        met(&line);
+        let rest = &whole.text[given..];
+        assert_eq!(told.text, rest[..size.min(rest.len())], "{text:?}");
+        given += told.text.len();
+        let told = (told.code, told.position, told.steps);
+        // "a call stops only at the end or where the next byte has no room"
+        if rest.len() <= size {
+            assert_eq!(told, end, "{text:?}");
+            return whole.code as usize;
+        }
+        assert_eq!(told, (MORE, 0, 0), "{text:?}");
+    }
 }
 
 /// Blocks that close, up to so many deep.

@@ -33,6 +33,9 @@ macro_rules! state {
         }
 
         impl State {
+            /// The name and the type of each field.
+            pub const FIELDS: &[(&str, &str)] = &[$((stringify!($field), stringify!($kind)),)*];
+
             /// Each number of each field becomes what is answered for it.
             pub fn change(&mut self, mut with: impl FnMut(u64) -> u64) {
                 $(self.$field.change(&mut with);)*

@@ -7,12 +7,13 @@ use drawing::field::{Field, VAST};
 use drawing::smallest::{fewer, shorter, smallest, Steps};
 use drawing::{calls, damage, tables, texts, Tally};
 use random::Random;
-use reference::{hex, Answer, Windows};
+use reference::{encode, hex, Answer, Value, Windows};
 use tilde::{State, MORE};
 
 const SEED: u64 = 7;
 const LINES: usize = 200_000;
 const LONG_FORMATS: usize = 8_000;
+const LONG_PIECES: usize = 3_000;
 /// Small ones cut more lines.
 const SIZES: &[usize] = &[1, 1, 1, 2, 2, 3, 3, 7, 7, 64, 512];
 
@@ -46,6 +47,46 @@ fn long_formats() {
         seen.add(compare(&mut field, format, table, windows));
     }
     println!("{LONG_FORMATS} long formats through windows agree with the reference:{seen}");
+}
+
+/// Strings and padding of more than a window.
+#[test]
+fn long_pieces() {
+    let random = Random::new(SEED + 3);
+    let (mut field, mut seen) = (Field::new(), Seen::default());
+    for _ in 0..LONG_PIECES {
+        let (format, arguments) = next_long_pieces(&random);
+        let windows = next_windows(&random);
+        seen.add(compare(&mut field, format, encode(&arguments), windows));
+    }
+    println!("{LONG_PIECES} lines of long pieces through windows agree with the reference:{seen}");
+}
+
+fn next_long_pieces(random: &Random) -> (Vec<u8>, Vec<Value>) {
+    let piece = random.pick(&[
+        "~a",
+        "~s",
+        "~4000@a",
+        "~1000,300,40,'-s",
+        "~9,1000@s",
+        "~a~2000_",
+    ]);
+    let string = |_| {
+        let length = random.pick(&[511, 512, 513, random.below(3000), random.below(20_000)]);
+        let plain = random.once_in(3);
+        let byte = |_| match random.below(3) {
+            0 if !plain => random.pick(b"\"\\"),
+            _ => random.byte(),
+        };
+        Value::Str((0..length).map(byte).collect())
+    };
+    let arguments: Vec<Value> = (0..1 + random.below(3)).map(string).collect();
+    let format = match random.below(3) {
+        0 => piece.repeat(arguments.len()),
+        1 => format!("~@{{{piece}~^, ~}}"),
+        _ => format!("~:[~;~]~@{{~#[~:;{piece}~]~}}"),
+    };
+    (format.into_bytes(), arguments)
 }
 
 /// Each line cut once at every place, and twice in a row from there on.
