@@ -108,7 +108,7 @@ fn where_a_call_stops() {
         calls("a~a~d", &[string(""), string("x")], &[1]),
         [end(7, 3, 3, "a")]
     );
-    // So is the last step: 1 and 1 + 1, then 32,767 passes of two steps.
+    // So is the last step: a byte, an opener, 32,767 passes of two steps.
     assert_eq!(
         calls("a~@{~0%~}", &ints(&[1]), &[1]),
         [end(9, 1, 65_536, "a")]

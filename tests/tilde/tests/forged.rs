@@ -26,6 +26,10 @@ fn forged_states() {
         let line = next_line(&random);
         let [field, _] = &mut fields;
         let own = given(&random, field, &line);
+        // A line that ends at once has no state to change but a fresh one.
+        if own[1].has_ended() && !random.once_in(5) {
+            continue;
+        }
         let others = given(&random, field, &other);
         for _ in 0..STATES {
             let (sort, state) = forge(&random, &line, &own, &others);
