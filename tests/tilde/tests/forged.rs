@@ -46,7 +46,9 @@ fn forged_states() {
         other = line;
     }
     println!("{seen}");
-    seen.assert_enough();
+    if calls >= CALLS {
+        seen.assert_enough();
+    }
 }
 
 // ---- forging --------------------------------------------------------------
