@@ -17,7 +17,19 @@ impl Numbers for usize {
     }
 }
 
-impl<const COUNT: usize> Numbers for [usize; COUNT] {
+impl Numbers for u16 {
+    fn change(&mut self, with: &mut dyn FnMut(u64) -> u64) {
+        *self = with(u64::from(*self)) as u16;
+    }
+}
+
+impl Numbers for u8 {
+    fn change(&mut self, with: &mut dyn FnMut(u64) -> u64) {
+        *self = with(u64::from(*self)) as u8;
+    }
+}
+
+impl<Number: Numbers, const COUNT: usize> Numbers for [Number; COUNT] {
     fn change(&mut self, with: &mut dyn FnMut(u64) -> u64) {
         self.iter_mut().for_each(|number| number.change(with));
     }
@@ -56,11 +68,19 @@ state! {
     count: usize,
     next: usize,
     depth: usize,
-    places: [usize; 8],
-    passes: [usize; 8],
-    starts: [usize; 8],
-    counts: [usize; 8],
-    positions: [usize; 8],
+    kinds: [u16; 8],
+    places: [u16; 8],
+    insides: [u16; 8],
+    passes: [u16; 8],
+    starts: [u16; 8],
+    counts: [u16; 8],
+    positions: [u16; 8],
+    quote: usize,
+    before: usize,
+    from: usize,
+    to: usize,
+    behind: usize,
+    pad: u8,
 }
 
 impl State {

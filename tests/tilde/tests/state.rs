@@ -56,6 +56,8 @@ fn field(kind: &str, name: &str) -> (String, String) {
     let kind = match kind {
         "size_t" => "usize",
         "uint32_t" => "u32",
+        "uint16_t" => "u16",
+        "uint8_t" => "u8",
         other => other,
     };
     match name.split_once('[') {
