@@ -32,6 +32,9 @@ pub const NOWHERE: usize = 65535;
 // What an array holds before landmarks are laid.
 pub const EMPTY: u16 = 65535;
 
+// How long a text is at most that is run without landmarks in any case.
+const LONG: usize = 208;
+
 // A clause, by the place of its block's inside, its number and its own place, whether a ~:; stands before it, and, if it
 // is the last, the place after its block; else 0.
 pub struct Landmark {
@@ -251,4 +254,20 @@ pub fn mark_text(text: &[u8], marks: &mut [u16])
             Shape::Finishes(q) => p = q,
         }
     }
+}
+
+// Whether landmarks may save more than they cost: in a long text with a brace, which a loop opens with. Without a loop a
+// block is met once. What is answered decides nothing but the time of a call.
+pub fn is_worth_landmarks(text: &[u8]) -> bool {
+    if text.len() <= LONG {
+        return false;
+    }
+    let mut i: usize = 0;
+    while i < text.len() {
+        if text[i] == b'{' {
+            return true;
+        }
+        i += 1;
+    }
+    false
 }

@@ -41,7 +41,7 @@ use Rattle.engine.specs.Runners.{LeavesPasses, spotAt}
 use Rattle.running.proofs.Arms.{runs-end, steps-deep, steps-block-none, steps-block}
 use Rattle.running.proofs.BlockArms.{chooses-run, iterates-run, blocks-refused, blocks-same, blocks-list, passes-over, passes-none, passes-on, passes-left, passes-refused}
 use Rattle.running.proofs.Strides.{strides, strides-runs-on, strides-runs-left, strides-runs-refused}
-use Rattle.running.proofs.Places.{end-at, bad-at, unfinished-at, separator-at, closer-at, unknown-at, iteration-at, conditional-at}
+use Rattle.running.proofs.Places.{end-at, iteration-at, conditional-at}
 
 pub not-both : {b : Bool} → b ≡ true → b ≡ false → ⊥
 not-both p q = let z : _≡_ {A = ℕ} 0 1 = cc in omega arith

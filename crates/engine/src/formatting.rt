@@ -4,6 +4,7 @@ use acting::state::Ran;
 use acting::state::Stop;
 use blocks::landmarks::CELLS;
 use blocks::landmarks::EMPTY;
+use blocks::landmarks::is_worth_landmarks;
 use blocks::landmarks::mark_text;
 use checking::text::check_text;
 use rules::ArgumentPosition;
@@ -25,9 +26,6 @@ const MOST_STEPS: usize = 65536;
 
 // How deep blocks nest at most.
 const DEEPEST: usize = 8;
-
-// How long a text is at most that is run without landmarks in any case.
-const LONG: usize = 208;
 
 // The answer of a call beside the text: 01's code, the position, the steps done and the bytes written.
 pub struct Outcome {
@@ -64,22 +62,6 @@ fn outcome_of(r: Ran) -> Outcome
             written,
         },
     }
-}
-
-// Whether landmarks may save more than they cost: in a long text with a brace, which a loop opens with. Without a loop a
-// block is met once. What is answered decides nothing but the time of a call.
-fn is_worth_landmarks(text: &[u8]) -> bool {
-    if text.len() <= LONG {
-        return false;
-    }
-    let mut i: usize = 0;
-    while i < text.len() {
-        if text[i] == b'{' {
-            return true;
-        }
-        i += 1;
-    }
-    false
 }
 
 // The run of a text over a table, both of which are accepted, by landmarks.

@@ -145,10 +145,10 @@ module _ (t table : List ℕ) where
 
   -- 3. One call
 
-  abbrev AsEnded : State → Told
+  abbrev pub AsEnded : State → Told
   AsEnded s = record { bytes = []; finish = record { code = s .code; position = s .position; steps = s .steps } }
 
-  ended-remains : (s : State) → isEnded s ≡ true → remains t table s ≡ AsEnded s
+  pub ended-remains : (s : State) → isEnded s ≡ true → remains t table s ≡ AsEnded s
   unfolding remains
   ended-remains s k = by (s .stage) refl
     where
@@ -157,11 +157,11 @@ module _ (t table : List ℕ) where
       by (suc zero) q = absurd (omega (arith, ltb-true 1 (s .stage) k))
       by (suc (suc n)) q = rw q
 
-  ended-shown : (s : State) (room : ℕ) → isEnded s ≡ true → shownIn t table s room ≡ all (AsEnded s)
+  pub ended-shown : (s : State) (room : ℕ) → isEnded s ≡ true → shownIn t table s room ≡ all (AsEnded s)
   unfolding shownIn
   ended-shown s room k = rw (ended-remains s k, k, le-ltb room 0 (omega arith))
 
-  idle-shown : (s : State) (room : ℕ) → isEnded s ≡ false → room ≡ 0 → shownIn t table s room ≡ more []
+  pub idle-shown : (s : State) (room : ℕ) → isEnded s ≡ false → room ≡ 0 → shownIn t table s room ≡ more []
   unfolding shownIn
   idle-shown s room k none = rw (k, none)
 
@@ -194,7 +194,7 @@ module _ (t table : List ℕ) where
     pub nothing-kept : isEnded s ≡ false → length b ≡ 0 → (r .code ≡ 256) × (r .written ≡ 0) × (e ≡ b) × (r .state ≡ s)
     nothing-kept k none =
         let is = idle-shown s (length b) k none in
-        (rw (h .code-is, is), rw (h .written-is, is), h .window-is ∙ rw (h .written-is, is), h .kept k none)
+        (rw (h .code-is, is), rw (h .written-is, is), h .window-is ∙ rw (h .written-is, is), h .kept (rw (k, none)))
 
     -- "A call after the end repeats code, position and steps and writes nothing."
     pub after-end : isEnded s ≡ true

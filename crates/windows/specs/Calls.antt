@@ -6,6 +6,7 @@ use mathlib.Core.List.{List, [], _++_}
 use lib.Dec.{ltb, eqb}
 use lib.ListN.{length, take, drop}
 use Rattle.rules.specs.Choice.{both}
+use Rattle.rules.specs.Directive.{either}
 use Rattle.nesting.specs.Moves.{Told}
 use Rattle.windows.specs.declared.state.State.{State}
 use Rattle.windows.specs.declared.state.Resumed.{Resumed}
@@ -46,8 +47,8 @@ pub record Resumes (t table : List ℕ) (s : State) (before after : List ℕ) (r
   pub window-is : after ≡ shownIn t table s (length before) .text ++ drop (r .written) before
   pub ends-is : isEnded (r .state) ≡ shownIn t table s (length before) .ends
   pub remains-is : remains t table (r .state) ≡ record { bytes = drop (r .written) (remains t table s .bytes); finish = remains t table s .finish }
-  -- "a window of 0 bytes changes nothing"
-  pub kept : isEnded s ≡ false → length before ≡ 0 → r .state ≡ s
+  -- "a window of 0 bytes changes nothing"; nor does a call after the end
+  pub kept : either (isEnded s) (eqb (length before) 0) ≡ true → r .state ≡ s
 
 -- "each call has the same format and table, and the last call's state", until the end is answered: all that is written,
 -- joined, and the last answer

@@ -1,3 +1,4 @@
 pub mod States
 pub mod Calls
+pub mod Continuing
 pub mod Examples

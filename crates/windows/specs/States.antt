@@ -14,7 +14,7 @@ use Rattle.rules.specs.declared.Verdict.the-variants.{Accepted, Refused}
 use Rattle.pieces.specs.Rest.{restOf}
 use Rattle.pieces.specs.declared.resuming.QuoteRest.{QuoteRest}
 use Rattle.nesting.specs.Nest.{handLies, allLie}
-use Rattle.nesting.specs.Moves.{hereAt, Told, toldOver, comes}
+use Rattle.nesting.specs.Moves.{hereAt, Told, told, toldOver, comes}
 use Rattle.nesting.specs.declared.moves.Here.{Here}
 use Rattle.windows.specs.declared.state.State.{State}
 
@@ -58,7 +58,7 @@ byStage (suc (suc k)) fresh begun ended = ended
 unfoldable pub remains : List ℕ → List ℕ → State → Told
 remains t table s =
     byStage (s .stage)
-    (λ _. unlessWrong (tableVerdict table) (λ _. unlessWrong (textVerdict t) (λ _. record { bytes = givenText (flowOf t (viewOf table)); finish = finishOf (flowOf t (viewOf table)) })))
+    (λ _. unlessWrong (tableVerdict table) (λ _. unlessWrong (textVerdict t) (λ _. told (flowOf t (viewOf table)))))
     (λ _. unlessWrong (tableVerdict table) (λ _. ifSound (isSound t table s) (λ _. toCome table (s .rest) (s .given) (comes t table (hereOf s) (s .nest)))))
     (record { bytes = []; finish = record { code = s .code; position = s .position; steps = s .steps } })
 

@@ -3,8 +3,8 @@ use borrow.Author.Needs.{needs}
 use Prim.Native.Nat.{_-_, _≤_}
 use lib.ListN.{length}
 use native.Mathlib.Omega.{arith}
-use Rattle.engine.proofs.formatting.is_worth_landmarks.Statement.{statement}
-use Rattle.engine.proofs.formatting.is_worth_landmarks.Tie as tie
+use Rattle.blocks.proofs.landmarks.is_worth_landmarks.Statement.{statement}
+use Rattle.blocks.proofs.landmarks.is_worth_landmarks.Tie as tie
 
 abbrev Inv-loop : tie.InvT-loop
 Inv-loop text i₀ i = i ≤ length text

@@ -1,0 +1,39 @@
+-- The answer is that of how far the steps came. Assumes nothing.
+use mathlib.Core.Path.{refl, _∙_}
+use Rattle.windows.proofs.ResumeLaws.{resumed-more}
+use borrow.Author.Needs.{needs}
+use Rattle.windows.proofs.resuming.resumed_at.Statement.{statement}
+use Rattle.windows.proofs.resuming.resumed_at.Tie as tie
+
+enum-known-reach : tie.Need-enum-known-reach
+enum-known-reach c = search needs
+
+sub-ended : tie.Need-sub-ended
+sub-ended c = search needs
+
+ended-requires : tie.Need-ended-requires
+ended-requires c κs = search needs
+
+begun-requires : tie.Need-begun-requires
+begun-requires c κs = search needs
+
+more-requires : tie.Need-more-requires
+more-requires c κs = search needs
+
+returns : tie.Need-returns
+returns c = rw (c .before .before .before .reach .given .1) (c .ended .ensures)
+
+returns-2 : tie.Need-returns-2
+returns-2 c = resumed-more _ (c .before .before .before .before .before .before .args .step) refl (c .before .before .match .keys2) (c .before .begun .ensures) (c .more .ensures)
+
+pub resumed-at-spec : {M : Type 1} → statement M
+resumed-at-spec =
+    tie.close
+    (tie.spec
+    enum-known-reach
+    sub-ended
+    ended-requires
+    begun-requires
+    more-requires
+    returns
+    returns-2)
