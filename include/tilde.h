@@ -1,4 +1,4 @@
-/* Formats and vets tilde format strings over byte slices. Link with libtilde.a. */
+/* Formats and vets tilde format strings over byte slices, in one buffer or through small windows. Link with libtilde.a. */
 #ifndef TILDE_H
 #define TILDE_H
 
@@ -9,7 +9,7 @@
 extern "C" {
 #endif
 
-/* What both calls answer. A position is an offset in the format, for TILDE_BAD_TABLE in the table. */
+/* What the calls answer. A position is an offset in the format, for TILDE_BAD_TABLE in the table. */
 enum tilde_code {
     /* Done. Position 0. */
     TILDE_DONE = 0,
@@ -71,7 +71,7 @@ enum tilde_tag {
 #define TILDE_MOST_KINDS 1024
 #define TILDE_MOST_LONGEST 4096
 
-/* A call of tilde_format or tilde_vet takes at most so many bytes of stack on x86-64, with libtilde.a as rt staticlib
+/* A call of tilde_format, tilde_resume or tilde_vet takes at most so many bytes of stack on x86-64, with libtilde.a as rt staticlib
    builds it: from its caller's frame down, with the memcpy and memset that it calls. What runs on the same stack
    meanwhile, a signal handler or the loader that binds memcpy at its first call, comes on top. */
 #define TILDE_STACK_BYTES 16384
@@ -101,6 +101,88 @@ enum tilde_tag {
    No memory is taken, nothing is kept between calls, and calls from several threads do not disturb each other. */
 uint32_t tilde_format(const uint8_t *format, size_t format_length, const uint8_t *table, size_t table_length,
                       uint8_t *buffer, size_t buffer_length, size_t *position, size_t *steps, size_t *written);
+
+/* What a call of tilde_resume answers instead of a tilde_code until the end. */
+#define TILDE_MORE 256
+
+/* Where a line stands between two windows. All zeros is a fresh one. The numbers serve the next call alone: nothing is
+   promised of them but that. Between its fields there are bytes of padding, so states are compared field by field. */
+typedef struct {
+    /* 0 fresh, 1 begun, any other ended */
+    size_t stage;
+    /* the answer, once it has ended */
+    uint32_t code;
+    size_t position, steps;
+    /* the steps that are left, the place of the format where it goes on, and the bytes of what comes from there that are
+       written already */
+    size_t left, place, given;
+    /* the arguments in hand: the entry of the first, how many there are, and the next */
+    size_t first, count, next;
+    /* the open blocks, at most 8, the outermost first: what each is, the places of its tilde and of its inside, the passes
+       left, and the arguments in hand outside it */
+    size_t depth;
+    uint16_t kinds[8], places[8], insides[8], passes[8], starts[8], counts[8], positions[8];
+    /* what is left of a string in quotes that a window cut: how far it has come, the padding before it, its part of the
+       table, and the padding behind it */
+    size_t quote, before, from, to, behind;
+    uint8_t pad;
+} tilde_state;
+
+/* The answer of a call: TILDE_MORE or a tilde_code, and the state for the next call. */
+typedef struct {
+    uint32_t code;
+    size_t position, steps, written;
+    tilde_state state;
+} tilde_resumed;
+
+/* Writes the next part of the text of a format into a window of any size, as much as it has room for.
+
+   format, table           as for tilde_format
+   window, window_length   room for the next part; a piece may be cut at its end
+   state                   all zeros in the first call of a line, and then that of the call before
+
+   - TILDE_MORE: the window is full and at least one byte is still to come. Position and steps are 0.
+   - Any other code is the end: code, position and steps are those of one tilde_format with a buffer that is large enough.
+     They come with the last bytes, so a window that the last byte fills answers the end. TILDE_NO_ROOM is never given.
+   - The bytes of the window from written on are as they came.
+   - With a window of 0 bytes before the end is answered, the answer is TILDE_MORE with 0 bytes, and the state is the one
+     handed over, even where the format or the table is bad.
+   - After the end a call repeats code, position and steps, writes nothing, and answers the state that it was given.
+
+   The windows joined are the text of that one tilde_format: after a refusal what it keeps, and nothing of the refused
+   piece. This holds where each call of a line has the same format and table, and the state of the call before. Any other
+   state, format or table is answered as well, always in the same way, and writes nothing outside the window; a state
+   whose numbers are out of range is refused with TILDE_BAD_BLOCK at 0, 0 steps.
+
+   A call costs the bytes that it writes, a check of the table (some nanoseconds for each entry), and up to the rest of
+   the steps where these write nothing; the first call also checks the format. A string in quotes is not read again from
+   its start, however it is cut; of any other piece a window reads no more than it writes, and 128 bytes.
+
+   Pointers are as for tilde_format; the window must not overlap the format or the table. A state may be copied, kept, and
+   gone on from twice. No memory is taken. */
+tilde_resumed tilde_resume(const uint8_t *format, size_t format_length, const uint8_t *table, size_t table_length,
+                           uint8_t *window, size_t window_length, tilde_state state);
+
+/* The same with the state in place, for daily use:
+
+       tilde_state state = {0};
+       do {
+           code = tilde_window(&state, format, format_length, table, table_length, window, sizeof window,
+                               &position, &steps, &written);
+           drain(window, written);
+       } while (code == TILDE_MORE); */
+static inline uint32_t tilde_window(tilde_state *state, const uint8_t *format, size_t format_length,
+                                    const uint8_t *table, size_t table_length, uint8_t *window, size_t window_length,
+                                    size_t *position, size_t *steps, size_t *written)
+{
+    const tilde_resumed answer =
+        tilde_resume(format, format_length, table, table_length, window, window_length, *state);
+    *state = answer.state;
+    *position = answer.position;
+    *steps = answer.steps;
+    *written = answer.written;
+    return answer.code;
+}
 
 /* Judges a format once for all tables whose arguments are of the given kinds, and answers a tilde_code: one of 0, 2 to
    8, 11 and 12. The format may have conditionals, but no jump, iteration, escape or parameter v.

@@ -1,4 +1,5 @@
-/* A table of arguments as it grows, for the tests of tilde.h. Define _GNU_SOURCE before the first include. */
+/* A table of arguments as it grows, for the tests of tilde.h, not all of which have arguments of every kind. Define
+   _GNU_SOURCE before the first include. */
 #ifndef TABLES_H
 #define TABLES_H
 
@@ -34,22 +35,22 @@ static void entry(uint8_t tag, uint64_t value)
     big_endian(out + 4, value, 8);
 }
 
-static void integer(int64_t number)
+static inline void integer(int64_t number)
 {
     entry(TILDE_INTEGER, (uint64_t)number);
 }
 
-static void character(uint8_t code)
+static inline void character(uint8_t code)
 {
     entry(TILDE_CHARACTER, code);
 }
 
-static void boolean(int truth)
+static inline void boolean(int truth)
 {
     entry(TILDE_BOOLEAN, truth ? 1 : 0);
 }
 
-static void bytes(const void *from, size_t length)
+static inline void bytes(const void *from, size_t length)
 {
     if (length > 0)
         memcpy(table.pool + table.pool_length, from, length);
@@ -57,7 +58,7 @@ static void bytes(const void *from, size_t length)
     table.pool_length += length;
 }
 
-static void list(size_t first, size_t count)
+static inline void list(size_t first, size_t count)
 {
     entry(TILDE_LIST, (uint64_t)first << 32 | count);
 }

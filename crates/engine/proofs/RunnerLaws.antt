@@ -18,12 +18,12 @@ use Rattle.rules.specs.declared.Code.the-variants.{Writes, Jump, Escape, Opens,
 use Rattle.rules.specs.declared.ArgumentPosition.{ArgumentPosition}
 use Rattle.rules.specs.declared.Directive.{Directive}
 use Rattle.rules.specs.declared.Item.{Item}
-use Rattle.rules.specs.declared.Item.the-variants.{End, Literal, Written, BadNumber, Unfinished}
+use Rattle.rules.specs.declared.Item.the-variants.{Literal, Written}
 use Rattle.rules.specs.declared.Setting.{Setting}
 use Rattle.rules.proofs.Item as item-declared
 use Rattle.rules.proofs.TextLaws.{next-inside, stands}
 use Rattle.checking.specs.Ends.{AfterBlock}
-use Rattle.working.specs.Settling.{InHand, handAt}
+use Rattle.working.specs.Settling.{handAt}
 use Rattle.working.specs.declared.arguments.Hand.{Hand}
 use Rattle.acting.specs.declared.state.Ran.{Ran}
 use Rattle.acting.specs.declared.state.Spot.{Spot}
@@ -34,14 +34,14 @@ use Rattle.acting.proofs.Joining.{no-end-left}
 use Rattle.acting.proofs.state.Stop as stop-declared
 use Rattle.running.specs.Runs.{EndsAt, EndsBlock, After, restAt, Runs, Steps, Strides, Blocks, Passes, opening}
 use Rattle.blocks.specs.Clauses.{InsideAt}
-use Rattle.blocks.specs.Parts.{endsSequence, endsAt, opensBlock, iterates, outsideOf, OverIn}
+use Rattle.blocks.specs.Parts.{endsSequence, opensBlock, iterates, outsideOf, OverIn}
 use Rattle.blocks.specs.declared.passes.Over.the-variants.{Is as OverIs}
 use Rattle.stepping.specs.Stepping.{isEnded, ActsAlone}
 use Rattle.engine.specs.Runners.{LeavesPasses, spotAt}
 use Rattle.running.proofs.Arms.{runs-end, steps-deep, steps-block-none, steps-block}
 use Rattle.running.proofs.BlockArms.{chooses-run, iterates-run, blocks-refused, blocks-same, blocks-list, passes-over, passes-none, passes-on, passes-left, passes-refused}
 use Rattle.running.proofs.Strides.{strides, strides-runs-on, strides-runs-left, strides-runs-refused}
-use Rattle.running.proofs.Places.{end-at, iteration-at, conditional-at}
+use Rattle.running.proofs.Places.{iteration-at, conditional-at}
 
 pub not-both : {b : Bool} → b ≡ true → b ≡ false → ⊥
 not-both p q = let z : _≡_ {A = ℕ} 0 1 = cc in omega arith
@@ -85,14 +85,6 @@ left-at o = ap (λ (z : Spot). z .left) o
 
 pub place-at : {t : List ℕ} {q : ℕ} {x y : Spot} → x ≡ y → InsideAt t q (y .place) → InsideAt t q (x .place)
 place-at {t} {q} o h = subst (λ (z : Spot). InsideAt t q (z .place)) (sym o) h
-
--- the items of the arm for all others end their sequences
-pub no-other : (keys : List ℕ) (x : Item) → keys ≡ 0 ∷ 3 ∷ 4 ∷ [] → endsAt x ≡ false → OneOf keys (tagOf item-declared.the-type x) → ⊥
-no-other keys End q h o = not-both refl h
-no-other keys (Literal b) q h o = miss (0 ∷ 3 ∷ 4 ∷ []) 1 tt (subst (λ (k : List ℕ). OneOf k 1) q o)
-no-other keys (Written d) q h o = miss (0 ∷ 3 ∷ 4 ∷ []) 2 tt (subst (λ (k : List ℕ). OneOf k 2) q o)
-no-other keys BadNumber q h o = not-both refl h
-no-other keys Unfinished q h o = not-both refl h
 
 pub acts-alone : (c : Code) → CodeRight c → opensBlock c ≡ false → endsSequence c ≡ false → ActsAlone c
 acts-alone (Writes f) r o e = r

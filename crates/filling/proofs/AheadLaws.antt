@@ -1,26 +1,24 @@
 -- What runs ahead of an item, an escape, and the loop over steps. Assumes nothing.
 use Prim.Native.Nat.{ℕ, _+_, _-_, _<_, _≤_}
 use mathlib.Core.Path.{_≡_, refl, sym, ap, subst, _∙_}
-use mathlib.Core.Bool.{Bool, true, false, cond}
+use mathlib.Core.Bool.{true}
 use mathlib.Core.List.{List, [], _∷_}
 use denote.Enum.Declared.{tagOf}
 use types.Run.{OneOf, miss}
 use native.Mathlib.Decide.{ℕ-discrete as decEq}
 use native.Mathlib.Omega.{arith}
-use lib.Dec.{eqb}
-use lib.ListN.{length, take, drop}
+use lib.ListN.{length, take}
 use borrow.Author.Tests.{eq-eqb, ne-eqb, le-leb, lt-leb}
-use Rattle.rules.specs.Flow.{Flow, refused, givenText, finishOf, Gives}
-use Rattle.rules.specs.Table.{viewOf, tableVerdict}
+use Rattle.rules.specs.Flow.{Flow, givenText, Gives}
+use Rattle.rules.specs.Table.{viewOf}
 use Rattle.rules.specs.Text.{Level, innermost, levelsAt, deepest}
 use Rattle.rules.specs.Working.{noneRemain}
 use Rattle.rules.specs.Run.{Frame, begin, choose, run}
-use Rattle.rules.specs.declared.Verdict.the-variants.{Accepted}
 use Rattle.rules.proofs.FlowLaws.{gives-text, gives-finish}
 use Rattle.rules.proofs.RunLaws.{begin-yes, begin-no, choose-yes, choose-no, run-escapes}
 use Rattle.pieces.specs.Rest.{Appends}
 use Rattle.pieces.proofs.Rests.{append-more}
-use Rattle.working.specs.Settling.{InHand, handAt}
+use Rattle.working.specs.Settling.{handAt}
 use Rattle.acting.specs.declared.state.Ran.{Ran}
 use Rattle.acting.specs.declared.state.Stop.{Stop}
 use Rattle.acting.specs.declared.state.Stop.the-variants.{Ended, Left, Refused}
@@ -36,7 +34,7 @@ use Rattle.nesting.specs.declared.moves.Here.{Here}
 use Rattle.nesting.specs.declared.moves.How.the-variants.{On as MovesOn}
 use Rattle.nesting.specs.declared.moves.Moved.{Moved}
 use Rattle.nesting.specs.declared.nests.Nest.{Nest}
-use Rattle.nesting.proofs.MoveLaws.{hand-in, next-in, lies, moves-on, moves-as, moves-refused}
+use Rattle.nesting.proofs.MoveLaws.{hand-in, lies, moves-on, moves-as, moves-refused}
 use Rattle.nesting.proofs.NestLaws.{frames-length}
 use Rattle.filling.specs.declared.steps.Step.{Step}
 use Rattle.filling.specs.declared.giving.Reach.{Reach}

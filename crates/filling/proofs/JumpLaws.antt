@@ -1,11 +1,11 @@
 -- What a jump does: it goes on with another argument, or is refused. Assumes nothing.
-use Prim.Native.Nat.{ℕ, _+_, _-_, _≤_}
+use Prim.Native.Nat.{ℕ, _+_, _-_}
 use mathlib.Core.Path.{_≡_, refl, sym, ap, subst, _∙_}
 use mathlib.Core.Bool.{Bool, true, false}
 use mathlib.Core.List.{List, []}
 use native.Mathlib.Omega.{arith}
 use lib.Dec.{leb}
-use Rattle.rules.specs.Flow.{Flow, done, refused, put, Stretch, still, onward, Gives, Lacks}
+use Rattle.rules.specs.Flow.{Flow, done, refused, put, Stretch, still}
 use Rattle.rules.specs.Table.{View}
 use Rattle.rules.specs.Directive.{wellWritten, placesOf, inOrder, either}
 use Rattle.rules.specs.Piece.{orElse}
@@ -23,7 +23,6 @@ use Rattle.acting.specs.declared.state.Stop.the-variants.{Ended, Left, Refused}
 use Rattle.acting.specs.Ran.{onward as comesAfter, Same, gives, lacks}
 use Rattle.acting.specs.Acting.{Performed}
 use Rattle.acting.proofs.ActLaws.{performed-stays}
-use Rattle.nesting.specs.Moves.{told}
 
 -- what neither writes nor asks what follows
 pub data Silent (f : (ℕ → Flow) → Flow) : Type 0 where

@@ -8,19 +8,18 @@ use denote.Enum.Declared.{tagOf}
 use types.Run.{OneOf, miss}
 use lib.ListN.{length, drop, set, drop-of-length-le}
 use Rattle.rules.specs.Flow.{Flow, put, refused}
-use Rattle.rules.specs.Directive.{CodeRight, FormRight, itemAt}
 use Rattle.rules.specs.Piece.{textOf}
-use Rattle.rules.specs.Table.{View, viewOf, meant, tableVerdict}
+use Rattle.rules.specs.Table.{View, viewOf, meant}
 use Rattle.rules.specs.Text.{levelsAt}
 use Rattle.rules.specs.Working.{Context}
-use Rattle.rules.specs.Run.{Frame, itemActs, run}
+use Rattle.rules.specs.Run.{itemActs, run}
 use Rattle.rules.specs.declared.ArgumentPosition.{ArgumentPosition}
 use Rattle.rules.specs.declared.Code.{Code}
 use Rattle.rules.specs.declared.Code.the-variants.{Writes, Jump, Escape, Opens, Separator, Closes, Unknown}
 use Rattle.rules.specs.declared.Directive.{Directive}
 use Rattle.rules.specs.declared.Form.{Form}
 use Rattle.rules.specs.declared.Item.{Item}
-use Rattle.rules.specs.declared.Item.the-variants.{End, Literal, Written, BadNumber, Unfinished}
+use Rattle.rules.specs.declared.Item.the-variants.{Literal, Written}
 use Rattle.rules.specs.declared.Settings.{Settings}
 use Rattle.rules.specs.declared.Argument.{Argument}
 use Rattle.rules.proofs.Code as code-declared
@@ -39,7 +38,7 @@ use Rattle.acting.specs.Ran.{onward}
 use Rattle.acting.specs.Acting.{Performed}
 use Rattle.acting.proofs.ActLaws.{performed-stays}
 use Rattle.acting.proofs.state.Stop as stop-declared
-use Rattle.blocks.specs.Parts.{endsAt, endsSequence, opensBlock}
+use Rattle.blocks.specs.Parts.{endsSequence, opensBlock}
 use Rattle.running.specs.Runs.{ActsAt, restAt}
 use Rattle.nesting.specs.Moves.{hereAt, told, comes, Sound, weight}
 use Rattle.nesting.specs.Nest.{framesOf, handLies}
@@ -189,13 +188,6 @@ escape-code keys (Opens b) q o e w = absurd (not-both-ways refl o)
 escape-code keys Separator q o e w = absurd (not-both-ways refl e)
 escape-code keys (Closes b) q o e w = absurd (not-both-ways refl e)
 escape-code keys Unknown q o e w = absurd (not-both-ways refl e)
-
-pub no-other : (keys : List ℕ) (x : Item) → keys ≡ 0 ∷ 3 ∷ 4 ∷ [] → endsAt x ≡ false → OneOf keys (tagOf item-declared.the-type x) → ⊥
-no-other keys End q h o = not-both-ways refl h
-no-other keys (Literal b) q h o = miss (0 ∷ 3 ∷ 4 ∷ []) 1 tt (subst (λ (k : List ℕ). OneOf k 1) q o)
-no-other keys (Written d) q h o = miss (0 ∷ 3 ∷ 4 ∷ []) 2 tt (subst (λ (k : List ℕ). OneOf k 2) q o)
-no-other keys BadNumber q h o = not-both-ways refl h
-no-other keys Unfinished q h o = not-both-ways refl h
 
 pub ended-stop : (keys : List ℕ) (x : Stop) → keys ≡ 0 ∷ 1 ∷ [] → (x ≡ Left → ⊥) → OneOf keys (tagOf stop-declared.the-type x) → x ≡ Ended
 ended-stop keys Ended q n o = refl

@@ -1,26 +1,23 @@
 -- Steps that fill a window: a piece, a move, what is over, and one step after another. Assumes nothing.
-use Prim.Native.Nat.{ℕ, zero, suc, _+_, _-_, _<_, _≤_}
+use Prim.Native.Nat.{ℕ, _+_, _-_, _<_, _≤_}
 use mathlib.Core.Path.{_≡_, refl, sym, ap, subst, _∙_}
-use mathlib.Core.Bool.{Bool, true, false}
-use mathlib.Core.List.{List, [], _∷_, _++_, append-nil}
+use mathlib.Core.Bool.{true, false}
+use mathlib.Core.List.{List, [], _++_}
 use native.Mathlib.Decide.{decLt}
 use native.Mathlib.Omega.{arith}
-use lib.ListN.{length, take, drop, length-append, length-drop, length-take, drop-of-length-le, replicate, length-replicate}
+use lib.ListN.{length, take, drop, length-append, length-drop, drop-of-length-le}
 use lib.Seq.{drop-nil, drop-append-add, drop-append-le, length-take-le}
-use Rattle.rules.specs.Flow.{Flow, put, refused, givenText, Finish, finishOf, Gives}
-use Rattle.rules.specs.Table.{viewOf, tableVerdict}
-use Rattle.rules.specs.Text.{Level, Sequence, innermost, levelsAt, deepest}
-use Rattle.rules.specs.Working.{Context}
-use Rattle.rules.specs.Run.{Frame, begin, itemActs, run}
+use Rattle.rules.specs.Flow.{Flow, put, refused, givenText, finishOf}
+use Rattle.rules.specs.Table.{viewOf}
+use Rattle.rules.specs.Text.{Level, innermost, levelsAt}
+use Rattle.rules.specs.Run.{begin, itemActs, run}
 use Rattle.rules.specs.declared.ArgumentPosition.{ArgumentPosition}
 use Rattle.rules.specs.declared.Item.{Item}
-use Rattle.rules.proofs.FlowLaws.{gives-text, gives-finish}
 use Rattle.rules.proofs.RunLaws.{begin-yes, begin-no, run-acts}
 use Rattle.pieces.specs.Rest.{restOf, RestIn, Appends}
 use Rattle.pieces.specs.declared.resuming.QuoteRest.{QuoteRest}
 use Rattle.pieces.proofs.Rests.{append-none, append-before, append-more, rest-done}
 use Rattle.working.specs.Settling.{handAt}
-use Rattle.working.specs.declared.arguments.Hand.{Hand}
 use Rattle.running.specs.Runs.{ActsAt, restAt}
 use Rattle.nesting.specs.Moves.{hereAt, Told, told, toldOver, comes, Sound, weight, Moves}
 use Rattle.nesting.specs.Moves.{toldBy as reachedBy}
@@ -35,7 +32,7 @@ use Rattle.filling.specs.declared.giving.Reach.{Reach}
 use Rattle.filling.specs.declared.giving.Reach.the-variants.{On, Over, Full}
 use Rattle.filling.specs.declared.giving.Put.{Put}
 use Rattle.filling.specs.declared.steps.Step.{Step}
-use Rattle.filling.specs.Filling.{noRest, putOn, putOver, Given, whole, cut, quoted, toGive, toldBy, overBy, remaining, goesOn, Advances, stepOf, Puts}
+use Rattle.filling.specs.Filling.{noRest, putOn, putOver, Given, whole, cut, quoted, toGive, toldBy, overBy, remaining, Advances, stepOf, Puts}
 use Rattle.filling.specs.Steps.{reachOf, movedStep}
 
 -- how a step came is one way

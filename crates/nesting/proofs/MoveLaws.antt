@@ -1,18 +1,18 @@
 -- Moves: one that is over, one that goes on, and what each block makes of them. Assumes nothing.
 use Prim.Native.Nat.{ℕ, zero, suc, _+_, _-_, _<_, _≤_}
 use mathlib.Core.Path.{_≡_, refl, sym, ap, subst, _∙_}
-use mathlib.Core.Bool.{Bool, true, false, cond}
-use mathlib.Core.List.{List, [], _∷_}
+use mathlib.Core.Bool.{Bool, true, false}
+use mathlib.Core.List.{List, _∷_}
 use native.Mathlib.Omega.{arith}
 use lib.Dec.{leb}
 use lib.ListN.{length}
 use borrow.Author.Tests.{le-leb, leb-true, eq-eqb, ne-eqb}
-use Rattle.rules.specs.Flow.{Flow, done, refused, limit, givenText, finishOf}
-use Rattle.rules.specs.Table.{View, viewOf, tableVerdict, entryCount}
+use Rattle.rules.specs.Flow.{Flow, done, refused, givenText}
+use Rattle.rules.specs.Table.{viewOf, tableVerdict, entryCount}
 use Rattle.rules.specs.Text.{Level, Sequence, end, innermost, outer, levelsAt}
 use Rattle.rules.specs.Working.{Context, noneRemain}
 use Rattle.rules.specs.Directive.{either}
-use Rattle.rules.specs.Run.{Frame, iteration, conditional, Outside, sameArguments, other, afterwards, usedUp, oneLess, begin, run, doneWith, leave}
+use Rattle.rules.specs.Run.{Frame, iteration, conditional, afterwards, usedUp, oneLess, begin, run}
 use Rattle.rules.specs.declared.ArgumentPosition.{ArgumentPosition}
 use Rattle.rules.specs.declared.Setting.{Setting}
 use Rattle.rules.specs.declared.Setting.the-variants.{Absent, Is}
@@ -24,7 +24,7 @@ use Rattle.rules.proofs.Tests.{both-true, true-both}
 use Rattle.working.specs.Settling.{InHand, handAt}
 use Rattle.working.specs.declared.arguments.Hand.{Hand}
 use Rattle.working.proofs.WorkLaws.{hand-small}
-use Rattle.running.specs.Runs.{restAt, leaving}
+use Rattle.running.specs.Runs.{restAt}
 use Rattle.running.proofs.Places.{end-at}
 use Rattle.nesting.specs.declared.moves.Here.{Here}
 use Rattle.nesting.specs.declared.moves.How.{How}
@@ -32,8 +32,8 @@ use Rattle.nesting.specs.declared.moves.How.the-variants.{On, Over}
 use Rattle.nesting.specs.declared.moves.Moved.{Moved}
 use Rattle.nesting.specs.declared.nests.Block.{Block}
 use Rattle.nesting.specs.declared.nests.Nest.{Nest}
-use Rattle.nesting.specs.Nest.{blockAt, frameOf, framesOf, handLies, blockLies, allLie, Pushes, Fits, FitsPasses}
-use Rattle.nesting.specs.Moves.{hereAt, overAt, told, toldOver, toldBy, comes, reached, Sound, weight, Moves, Closes, Passing, outsideBy, endsBlock, afterBlock}
+use Rattle.nesting.specs.Nest.{blockAt, frameOf, framesOf, handLies, blockLies, Pushes, Fits, FitsPasses}
+use Rattle.nesting.specs.Moves.{hereAt, overAt, told, toldOver, comes, Sound, weight, Moves, Closes, Passing, outsideBy, endsBlock, afterBlock}
 use Rattle.nesting.proofs.NestLaws.{fewer, frames-pushed, lie-pushed, frames-top, lie-top}
 
 over-on : {code p : ℕ} → _≡_ {A = How} (Over code p) On → ⊥

@@ -1,17 +1,16 @@
 -- Blocks that are opened, and blocks that an escape leaves. Assumes nothing.
-use Prim.Native.Nat.{ℕ, zero, suc, _+_, _-_, _<_, _≤_}
+use Prim.Native.Nat.{ℕ, _+_, _-_, _<_, _≤_}
 use mathlib.Core.Path.{_≡_, refl, sym, ap, subst, _∙_}
 use mathlib.Core.Bool.{Bool, true, false, cond}
-use mathlib.Core.List.{List, [], _∷_}
+use mathlib.Core.List.{List, _∷_}
 use native.Mathlib.Omega.{arith}
 use lib.ListN.{length, getD}
 use borrow.Author.Tests.{le-leb}
 use Rattle.rules.specs.Directive.{either, wellWritten, itemAt, placesOf, anyNumber}
-use Rattle.rules.specs.Flow.{Flow, refused}
+use Rattle.rules.specs.Flow.{Flow}
 use Rattle.rules.specs.Table.{viewOf, tableVerdict}
-use Rattle.rules.specs.Text.{Level, Sequence, end, innermost, outer, asClauses, levelsAt, deepest}
-use Rattle.rules.specs.Working.{Context}
-use Rattle.rules.specs.Run.{Frame, iteration, conditional, run, nested, begin, leave}
+use Rattle.rules.specs.Text.{Level, Sequence, end, innermost, outer, levelsAt}
+use Rattle.rules.specs.Run.{Frame, iteration, conditional, run, nested, begin}
 use Rattle.rules.specs.declared.ArgumentPosition.{ArgumentPosition}
 use Rattle.rules.specs.declared.Bracket.the-variants.{Conditional, Iteration}
 use Rattle.rules.specs.declared.Code.{Code}
@@ -26,13 +25,12 @@ use Rattle.rules.proofs.RunLaws.{begin-yes, begin-no, nested-yes, nested-no, ru
 use Rattle.rules.proofs.Tests.{not-both-ways, true-both}
 use Rattle.rules.proofs.TextLaws.{next-inside}
 use Rattle.checking.specs.Ends.{AfterBlock}
-use Rattle.working.specs.Settling.{InHand, handAt, InPlace, InRange, placesIn, SettlesDirective, AllLie}
+use Rattle.working.specs.Settling.{InHand, handAt, InPlace, InRange, placesIn, SettlesDirective}
 use Rattle.working.specs.declared.arguments.Hand.{Hand}
 use Rattle.working.specs.declared.settling.SettledOut.the-variants.{Is as settledIs, Wrong as settledWrong}
 use Rattle.acting.proofs.ActLaws.{settings-well, settings-ill}
-use Rattle.blocks.specs.Clauses.{InsideAt, Chooses, ChosenIn}
+use Rattle.blocks.specs.Clauses.{Chooses}
 use Rattle.blocks.specs.Parts.{opensBlock, iterates, outsideOf, OverIn, GoesOver}
-use Rattle.blocks.specs.declared.clauses.Chosen.{Chosen}
 use Rattle.blocks.specs.declared.clauses.Chosen.the-variants.{At, Nothing, Wrong}
 use Rattle.blocks.specs.declared.passes.Over.the-variants.{Is as OverIs, Wrong as OverWrong}
 use Rattle.blocks.proofs.PassLaws.{over-hand}
@@ -44,8 +42,8 @@ use Rattle.nesting.specs.declared.moves.How.the-variants.{On}
 use Rattle.nesting.specs.declared.moves.Moved.{Moved}
 use Rattle.nesting.specs.declared.nests.Block.{Block}
 use Rattle.nesting.specs.declared.nests.Nest.{Nest}
-use Rattle.nesting.specs.Nest.{blockAt, frameOf, framesOf, handLies, blockLies, Pushes, Fits, FitsPasses}
-use Rattle.nesting.specs.Moves.{hereAt, overAt, kindOf, told, comes, Sound, weight, Moves, Ready, Passing, afterBlock}
+use Rattle.nesting.specs.Nest.{blockAt, frameOf, framesOf, blockLies, Pushes, Fits, FitsPasses}
+use Rattle.nesting.specs.Moves.{hereAt, overAt, kindOf, told, comes, Sound, weight, Moves, Ready, afterBlock}
 use Rattle.nesting.proofs.NestLaws.{fewer, frames-length, frames-top, lie-top}
 use Rattle.nesting.proofs.MoveLaws.{hand-in, next-in, lies, moves-refused, moves-over, moves-as, moves-in, moves-out, closes-is, end-rest, clause-frame, loop-frame, fits, told-done}
 

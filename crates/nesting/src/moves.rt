@@ -26,20 +26,19 @@ use working::Hand;
 use working::SettledOut;
 use working::settle_directive;
 ghost use mathlib.Core.Path.{_≡_};
-ghost use mathlib.Core.Bool.{true, false};
+ghost use mathlib.Core.Bool.{true};
 ghost use Prim.Native.Nat.{ℕ, _+_, _≤_, _<_};
 ghost use lib.ListN.{length};
 ghost use Rattle.rules.specs.Directive.{itemAt};
 ghost use Rattle.rules.specs.Table.{viewOf, tableVerdict};
 ghost use Rattle.rules.specs.Text.{end, levelsAt};
-ghost use Rattle.rules.specs.Run.{refused};
 ghost use Rattle.rules.specs.declared.Item.the-variants.{Written};
 ghost use Rattle.rules.specs.declared.Verdict.the-variants.{Accepted};
-ghost use Rattle.working.specs.Settling.{handAt, InRange, placesIn};
+ghost use Rattle.working.specs.Settling.{handAt};
 ghost use Rattle.running.specs.Runs.{restAt, leaving, picking, entering, opening};
 ghost use Rattle.blocks.specs.Landmarks.{Landmarks};
 ghost use Rattle.blocks.specs.Parts.{opensBlock, iterates};
-ghost use Rattle.nesting.specs.Nest.{framesOf, frameOf, FitsPasses, blockLies};
+ghost use Rattle.nesting.specs.Nest.{framesOf, FitsPasses};
 ghost use Rattle.nesting.specs.Moves.{kindOf, hereAt, overAt, Sound, Ready, comes, weight, Moves, Closes, Passing, endsBlock, afterBlock};
 
 // How deep blocks nest at most.

@@ -5,11 +5,8 @@ use rules::Setting;
 use working::Hand;
 use working::widened;
 ghost use mathlib.Core.Path.{_≡_};
-ghost use mathlib.Core.Bool.{cond};
 ghost use Prim.Native.Nat.{_-_, _<_};
-ghost use lib.Dec.{eqb};
 ghost use Rattle.nesting.specs.Nest.{blockAt, passesOf, Fits, FitsPasses, Pushes};
-ghost use Rattle.rules.specs.declared.Setting.the-variants.{Absent, Is};
 
 // What a block is: a conditional, an iteration over a list, or, by this number and any above it, an iteration over the
 // arguments in hand.

@@ -6,10 +6,10 @@ use mathlib.Core.List.{List, [], _∷_, _++_, append-nil}
 use denote.Enum.Declared.{tagOf}
 use types.Run.{OneOf, miss}
 use native.Mathlib.Omega.{arith}
-use lib.Dec.{ltb, eqb}
+use lib.Dec.{eqb}
 use lib.ListN.{length, take, drop, length-append, take-append-drop}
 use lib.Seq.{length-take-le, take-at, drop-at}
-use borrow.Author.Tests.{ltb-true, lt-ltb, le-ltb, eqb-true, ne-eqb, le-leb}
+use borrow.Author.Tests.{lt-ltb, le-ltb, ne-eqb, le-leb}
 use Rattle.rules.specs.Answer.{flowOf}
 use Rattle.rules.specs.Directive.{either}
 use Rattle.rules.specs.Flow.{limit, Finish}
@@ -21,7 +21,7 @@ use Rattle.rules.proofs.TableLaws.{accepted-sound}
 use Rattle.rules.proofs.TextLaws.{sound-start}
 use Rattle.rules.proofs.ViewLaws.{view-arguments}
 use Rattle.rules.proofs.Tests.{true-both}
-use Rattle.pieces.specs.Rest.{restOf, RestIn, Appends, WritesRest}
+use Rattle.pieces.specs.Rest.{restOf, Appends, WritesRest}
 use Rattle.pieces.specs.declared.resuming.RestWritten.{RestWritten}
 use Rattle.pieces.proofs.Rests.{append-none, append-more, append-before, rest-done}
 use Rattle.nesting.specs.Nest.{framesOf, allLie}

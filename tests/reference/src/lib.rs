@@ -1,9 +1,11 @@
 //! An ordinary formatter for the rules of "Build requirements and exact
-//! rules", with request Thirteen of "After the base": a format string is
-//! parsed once into a tree, and the tree is run over an argument table.
+//! rules", with requests Eleven and Thirteen of "After the base": a format
+//! string is parsed once into a tree, and the tree is run over an argument
+//! table, into one buffer or into small windows.
 
 #![forbid(unsafe_code)]
 
+mod act;
 mod directive;
 mod encode;
 mod job;
@@ -12,6 +14,7 @@ mod run;
 mod table;
 mod tree;
 mod vet;
+mod windows;
 
 pub use encode::{encode, entry, table_of, Value};
 pub use job::{hex, job_line};
@@ -19,6 +22,7 @@ pub use run::{format, Answer};
 pub use table::{check_table, ENTRY, HEADER};
 pub use tree::{check_format, conditionals, Conditional};
 pub use vet::{brute_tables, picks, try_tables, vet, vet_brute, Vetted};
+pub use windows::{Windows, MORE};
 
 /// "n (2 bytes, at most 1,024)"; also the most kinds that vet takes.
 pub const MOST_ENTRIES: usize = 1024;

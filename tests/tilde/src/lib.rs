@@ -1,6 +1,15 @@
 //! The calls of the proved crate tilde.
 
+mod state;
+
+pub use state::{Resumed, State};
+
+/// The code of "more".
+pub const MORE: u32 = 256;
+
 mod calls {
+    use crate::state::{Resumed, State};
+
     extern "C" {
         pub fn tilde_format(
             format: *const u8,
@@ -22,6 +31,15 @@ mod calls {
             position: *mut usize,
             count: *mut usize,
         ) -> u32;
+        pub fn tilde_resume(
+            format: *const u8,
+            format_length: usize,
+            table: *const u8,
+            table_length: usize,
+            window: *mut u8,
+            window_length: usize,
+            state: State,
+        ) -> Resumed;
     }
 }
 
@@ -67,4 +85,22 @@ pub fn vet(format: &[u8], kinds: &[u8], longest: usize) -> (u32, usize, usize) {
         )
     };
     (code, position, count)
+}
+
+/// One window of a line: the code, or `MORE`, the position, the steps, the bytes written at the start of the window, and
+/// the state to go on with.
+#[inline]
+pub fn resume(format: &[u8], table: &[u8], window: &mut [u8], state: State) -> Resumed {
+    // SAFETY: each pointer and length are those of one slice, of which the window is lent to this call alone.
+    unsafe {
+        calls::tilde_resume(
+            format.as_ptr(),
+            format.len(),
+            table.as_ptr(),
+            table.len(),
+            window.as_mut_ptr(),
+            window.len(),
+            state,
+        )
+    }
 }

@@ -1,9 +1,10 @@
-//! The cases of formats.txt, lines.txt, tables.txt and vets.txt. README.md has
-//! their notation. A line that is not in it is a panic that names the line.
+//! The cases of formats.txt, lines.txt, tables.txt, vets.txt and windows.txt.
+//! README.md has their notation. A line that is not in it is a panic that names
+//! the line.
 
 #![forbid(unsafe_code)]
 
-use reference::Value;
+use reference::{encode, Value};
 
 /// Where a case stands: its file, its line and what it is about.
 #[derive(Clone, Debug)]
@@ -50,6 +51,25 @@ pub struct VetCase {
     pub format: Vec<u8>,
     pub kinds: Vec<u8>,
     pub longest: usize,
+}
+
+/// One line through windows: what each call writes, and the end.
+pub struct WindowCase {
+    pub place: Place,
+    pub code: u32,
+    pub position: usize,
+    pub steps: usize,
+    pub format: Vec<u8>,
+    pub table: Vec<u8>,
+    pub calls: Vec<WindowCall>,
+}
+
+/// A call: the size of its window, the text written there, and whether it
+/// answers the end or "more".
+pub struct WindowCall {
+    pub window: usize,
+    pub text: Vec<u8>,
+    pub ends: bool,
 }
 
 pub fn formats() -> Vec<FormatCase> {
@@ -119,6 +139,26 @@ pub fn vets() -> Vec<VetCase> {
             place,
         }
     })
+}
+
+pub fn windows() -> Vec<WindowCase> {
+    cases(
+        "windows.txt",
+        include_str!("../windows.txt"),
+        |place, fields| {
+            let [end, format, table, calls] = split(fields, " | ", &place);
+            let [code, position, steps] = split(end, " ", &place);
+            WindowCase {
+                code: number(code, &place),
+                position: number(position, &place),
+                steps: number(steps, &place),
+                format: text_field(format, &place),
+                table: table_field(table, &place),
+                calls: calls_field(calls, &place),
+                place,
+            }
+        },
+    )
 }
 
 fn cases<T>(file: &'static str, content: &str, read: impl Fn(Place, &str) -> T) -> Vec<T> {
@@ -194,6 +234,27 @@ fn kinds_field(field: &str, place: &Place) -> Vec<u8> {
         None => panic!("{place:?}: {letter} is no kind"),
     };
     text_field(field, place).into_iter().map(tag).collect()
+}
+
+/// The table of some arguments, or its bytes.
+fn table_field(field: &str, place: &Place) -> Vec<u8> {
+    match field.strip_prefix('$') {
+        Some(hex) => hex_field(hex, place),
+        None => encode(&arguments_field(field, place)),
+    }
+}
+
+fn calls_field(field: &str, place: &Place) -> Vec<WindowCall> {
+    let call = |call: &str| {
+        let sign = call.find([':', '=']);
+        let (size, rest) = call.split_at(sign.unwrap_or_else(|| panic!("{place:?}: no call")));
+        WindowCall {
+            window: number(size, place),
+            text: text_field(&rest[1..], place),
+            ends: rest.starts_with('='),
+        }
+    };
+    field.split(' ').map(call).collect()
 }
 
 fn hex_field(field: &str, place: &Place) -> Vec<u8> {
@@ -379,6 +440,21 @@ mod tests {
     }
 
     #[test]
+    fn the_notation_of_windows() {
+        let calls = calls_field(r"2::= 0:\e 12=a\sb", &place());
+        let read: Vec<_> = calls
+            .iter()
+            .map(|call| (call.window, call.text.as_slice(), call.ends))
+            .collect();
+        let expected: [(usize, &[u8], bool); 3] =
+            [(2, b":=", false), (0, b"", false), (12, b"a b", true)];
+        assert_eq!(read, expected);
+        assert_eq!(table_field(r"$\e", &place()), []);
+        assert_eq!(table_field("$00ff", &place()), [0, 255]);
+        assert_eq!(table_field(r"\e", &place()), [0; 8]);
+    }
+
+    #[test]
     fn every_file_is_whole() {
         let whole = |content: &str| {
             content
@@ -390,7 +466,9 @@ mod tests {
         assert_eq!(tables().len(), whole(include_str!("../tables.txt")));
         assert_eq!(lines().len(), whole(include_str!("../lines.txt")));
         assert_eq!(vets().len(), whole(include_str!("../vets.txt")));
+        assert_eq!(windows().len(), whole(include_str!("../windows.txt")));
         assert!(formats().len() >= 855 && tables().len() >= 132);
         assert!(lines().len() >= 367 && vets().len() >= 70);
+        assert!(windows().len() >= 60);
     }
 }

@@ -1,8 +1,8 @@
 //! The reference formatter and the cases, each written from the documents
 //! alone, agree on every case.
 
-use reference::{check_format, check_table, encode, format, vet, Answer, Vetted};
-use vectors::{formats, lines, tables, vets};
+use reference::{check_format, check_table, encode, format, vet, Answer, Vetted, Windows, MORE};
+use vectors::{formats, lines, tables, vets, windows};
 
 fn code_and_position(result: Result<(), (u32, usize)>) -> (u32, usize) {
     result.err().unwrap_or((0, 0))
@@ -57,4 +57,28 @@ fn vetted_formats() {
         assert_eq!(answer, expected, "{:?}", case.place);
     }
     println!("vets.txt: {} vets agree", cases.len());
+}
+
+#[test]
+fn windowed_lines() {
+    let cases = windows();
+    for case in &cases {
+        let mut line = Windows::new(&case.format, &case.table);
+        for (at, call) in case.calls.iter().enumerate() {
+            let (code, position, steps) = if call.ends {
+                (case.code, case.position, case.steps)
+            } else {
+                (MORE, 0, 0)
+            };
+            let expected = Answer {
+                code,
+                position,
+                steps,
+                text: call.text.clone(),
+            };
+            let answer = line.call(call.window);
+            assert_eq!(answer, expected, "{:?}, call {at}", case.place);
+        }
+    }
+    println!("windows.txt: {} lines agree", cases.len());
 }

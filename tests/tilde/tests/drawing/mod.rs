@@ -2,7 +2,9 @@
 //! of those that show a difference.
 #![allow(dead_code, unused_imports)]
 
+pub mod calls;
 pub mod damage;
+pub mod field;
 pub mod smallest;
 pub mod tables;
 pub mod texts;

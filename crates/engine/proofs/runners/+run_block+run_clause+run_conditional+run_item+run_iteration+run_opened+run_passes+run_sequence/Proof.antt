@@ -26,8 +26,9 @@ use Rattle.running.proofs.Strides.{Onto, strides-runs-on, runs-on}
 use Rattle.rules.proofs.Bases.{code-right}
 use Rattle.running.proofs.BlockArms.{blocks-nothing, blocks-clause, blocks-clause-left, blocks-clause-refused, blocks-as}
 use Rattle.blocks.proofs.ClauseLaws.{inside-start}
+use Rattle.blocks.proofs.EndLaws.{no-other}
 use Rattle.blocks.proofs.PassLaws.{over-hand}
-use Rattle.engine.proofs.RunnerLaws.{sequence-stops, steps-stopped, literal-inside, no-other, acts-alone, refused-at, written-inside, left-at, place-at, block-deep, block-none, block-opens, blocks-told, closes-after, ends-inside, over-blocks, passes-from, passes-over-told, passes-none-told, passes-on-told, passes-stopped}
+use Rattle.engine.proofs.RunnerLaws.{sequence-stops, steps-stopped, literal-inside, acts-alone, refused-at, written-inside, left-at, place-at, block-deep, block-none, block-opens, blocks-told, closes-after, ends-inside, over-blocks, passes-from, passes-over-told, passes-none-told, passes-on-told, passes-stopped}
 use Rattle.rules.proofs.TextLaws.{next-inside}
 use Prim.Native.Nat.{ℕ, _+_, _-_, _*_, _<_, _≤_}
 use borrow.Fn.Kinds.{In}

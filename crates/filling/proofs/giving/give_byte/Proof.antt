@@ -1,7 +1,7 @@
+-- A literal byte, by the steps, the bytes given and the room. Assumes nothing.
 use mathlib.Core.Path.{ap}
 use Rattle.pieces.specs.declared.resuming.QuoteRest.{QuoteRest}
 use Rattle.filling.specs.declared.giving.Reach.the-variants.{Full}
--- A literal byte, by the steps, the bytes given and the room. Assumes nothing.
 use Prim.Native.Nat.{_+_}
 use native.Mathlib.Omega.{arith}
 use Rattle.rules.specs.declared.Item.the-variants.{Literal}

@@ -4,7 +4,6 @@ use native.Mathlib.Omega.{arith}
 use Rattle.rules.proofs.TextLaws.{next-inside}
 use Rattle.running.proofs.Places.{escape-at}
 use Rattle.filling.proofs.AheadLaws.{escape-none, escape-sound, escape-leaves, escape-stays}
-use borrow.Author.Needs.{needs}
 use Rattle.filling.proofs.steps.escape.Statement.{statement}
 use Rattle.filling.proofs.steps.escape.Tie as tie
 use Rattle.filling.proofs.steps.escape.Reads as reads

@@ -1,7 +1,7 @@
+-- Steps one after another, until one does not go on. Assumes nothing.
 use mathlib.Core.Path.{refl, sym, _∙_}
 use borrow.Author.Tests.{not-true, not-false}
 use Rattle.filling.proofs.AheadLaws.{is-on}
--- Steps one after another, until one does not go on. Assumes nothing.
 use Rattle.blocks.specs.Landmarks.{Marks}
 use Rattle.nesting.specs.Moves.{comes, weight}
 use Rattle.filling.specs.Filling.{toGive}

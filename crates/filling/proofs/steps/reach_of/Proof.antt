@@ -1,3 +1,4 @@
+-- A move goes on or is over, and a step with it. Assumes nothing.
 use mathlib.Core.Path.{sym, ap}
 use Rattle.filling.specs.Steps.{reachOf}
 use borrow.Author.Needs.{needs}

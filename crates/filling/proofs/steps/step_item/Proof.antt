@@ -8,7 +8,8 @@ use Rattle.blocks.specs.Parts.{endsAt}
 use Rattle.running.proofs.Places.{literal-at, literal-ahead}
 use Rattle.nesting.specs.Moves.{comes, weight}
 use Rattle.filling.proofs.StepLaws.{advances-moved}
-use Rattle.filling.proofs.PutLaws.{puts-step, no-other}
+use Rattle.filling.proofs.PutLaws.{puts-step}
+use Rattle.blocks.proofs.EndLaws.{no-other}
 use borrow.Author.Needs.{needs}
 use Rattle.filling.proofs.steps.step_item.Statement.{statement}
 use Rattle.filling.proofs.steps.step_item.Tie as tie

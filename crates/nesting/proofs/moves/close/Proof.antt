@@ -1,3 +1,4 @@
+-- The place after a block. Assumes nothing.
 use Rattle.nesting.proofs.MoveLaws.{closes-is}
 use Rattle.blocks.proofs.ClauseLaws.{inside-start}
 use borrow.Author.Needs.{needs}

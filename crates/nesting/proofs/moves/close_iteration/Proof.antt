@@ -1,3 +1,4 @@
+-- After an iteration, by the arguments in hand then. Assumes nothing.
 use Rattle.nesting.proofs.MoveLaws.{block-inside, closes-list, closes-same}
 use Rattle.nesting.proofs.moves.close_iteration.Statement.{statement}
 use Rattle.nesting.proofs.moves.close_iteration.Tie as tie

@@ -1,3 +1,4 @@
+-- A pass ends: the iteration is over, refused for want of a step, or goes on. Assumes nothing.
 use mathlib.Core.Path.{refl, sym, _∙_}
 use Rattle.nesting.proofs.MoveLaws.{pass-over, pass-none, again-fits, pass-again}
 use borrow.Author.Needs.{needs}

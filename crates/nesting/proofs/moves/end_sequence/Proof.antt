@@ -1,3 +1,4 @@
+-- A sequence ends: the text, a clause or a pass. Assumes nothing.
 use native.Mathlib.Omega.{arith}
 use Rattle.nesting.proofs.MoveLaws.{ends-run, top-lies, ends-clause, passing, ends-pass}
 use borrow.Author.Needs.{needs}

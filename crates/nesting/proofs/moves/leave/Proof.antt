@@ -1,3 +1,4 @@
+-- An escape leaves block after block up to an iteration. The measure is their number. Assumes nothing.
 use Prim.Native.Nat.{ℕ, _<_}
 use mathlib.Core.Path.{_≡_, ap}
 use native.Mathlib.Omega.{arith}

@@ -1,3 +1,4 @@
+-- A block is refused for its level or its step, or begun. Assumes nothing.
 use native.Mathlib.Omega.{arith}
 use Rattle.nesting.proofs.OpenLaws.{met-deep, met-none, met-ready, met-on}
 use borrow.Author.Needs.{needs}

@@ -1,3 +1,4 @@
+-- A conditional is opened at the clause that runs, passed by, or refused. Assumes nothing.
 use mathlib.Core.Path.{refl, subst}
 use Rattle.blocks.specs.Clauses.{Chooses}
 use Rattle.nesting.proofs.OpenLaws.{ready-hand, clause-fits, conditional-wrong, conditional-none, conditional-on}

@@ -1,3 +1,4 @@
+-- An iteration is opened over its entries, or refused. Assumes nothing.
 use mathlib.Core.Path.{refl, subst}
 use native.Mathlib.Omega.{arith}
 use Rattle.working.proofs.WorkLaws.{hand-small}

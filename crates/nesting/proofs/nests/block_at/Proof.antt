@@ -1,3 +1,4 @@
+-- A block by its numbers. Assumes nothing.
 use Rattle.nesting.proofs.NestLaws.{block-is}
 use borrow.Author.Needs.{needs}
 use Rattle.nesting.proofs.nests.block_at.Statement.{statement}

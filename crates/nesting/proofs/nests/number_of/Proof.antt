@@ -1,3 +1,4 @@
+-- The number of passes that are limited, or not. Assumes nothing.
 use mathlib.Core.Path.{sym, subst, _∙_}
 use Rattle.nesting.specs.Nest.{FitsPasses}
 use Rattle.nesting.proofs.NestLaws.{limited}

@@ -1,3 +1,4 @@
+-- Passes by their number. Assumes nothing.
 use mathlib.Core.Path.{sym, ap}
 use Rattle.nesting.specs.Nest.{passesOf}
 use Rattle.nesting.proofs.NestLaws.{limits}

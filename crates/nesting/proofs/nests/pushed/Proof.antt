@@ -1,5 +1,5 @@
+-- A block is written behind the open ones. Assumes nothing.
 use Rattle.nesting.proofs.NestLaws.{pushes}
-use Rattle.nesting.specs.declared.nests.Nest.{Nest}
 use mathlib.Core.Path.{sym, _∙_}
 use lib.ListN.{length-map}
 use borrow.Author.Needs.{needs}

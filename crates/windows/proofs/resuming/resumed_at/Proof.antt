@@ -1,5 +1,5 @@
 -- The answer is that of how far the steps came. Assumes nothing.
-use mathlib.Core.Path.{refl, _∙_}
+use mathlib.Core.Path.{refl}
 use Rattle.windows.proofs.ResumeLaws.{resumed-more}
 use borrow.Author.Needs.{needs}
 use Rattle.windows.proofs.resuming.resumed_at.Statement.{statement}

@@ -1,6 +1,6 @@
 -- All blocks lie where each does, from the innermost on. Assumes nothing.
 use native.Mathlib.Omega.{arith}
-use mathlib.Core.Path.{_≡_, refl, sym, _∙_}
+use mathlib.Core.Path.{_≡_, refl}
 use Prim.Native.Nat.{_≤_}
 use Rattle.nesting.specs.Nest.{allLie}
 use borrow.Author.Tests.{not-true, not-false}

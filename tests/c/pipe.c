@@ -1,0 +1,174 @@
+/* Runs examples/pipe.c, whose program and what runs it are the words of the command line, and compares what comes out at
+   the other end of its pipe with one call of tilde_format. */
+#define _GNU_SOURCE
+#include "tables.h"
+#include <errno.h>
+#include <inttypes.h>
+#include <sys/wait.h>
+
+#define PLENTY ((size_t)400000)
+#define MOST_WORDS 40
+
+/* The command, and behind it the format and the arguments of a line. */
+static char *command[MOST_WORDS + 1];
+static size_t own_words, all_words;
+static size_t lines = 0;
+
+/* The table in hand gets the arguments, and the command the words for them. */
+static void open_line(const char *format)
+{
+    for (size_t i = own_words; i < all_words; i++)
+        free(command[i]);
+    begin();
+    lines++;
+    command[own_words] = strdup(format);
+    all_words = own_words + 1;
+}
+
+static void add_word(const char *word)
+{
+    expect(all_words < MOST_WORDS, "room for words", lines);
+    command[all_words++] = strdup(word);
+    command[all_words] = NULL;
+}
+
+static void add_string(const char *text)
+{
+    bytes(text, strlen(text));
+    add_word(text);
+}
+
+static void add_integer(int64_t number)
+{
+    char digits[32];
+    snprintf(digits, sizeof digits, "%" PRId64, number);
+    integer(number);
+    add_word(digits);
+}
+
+/* All that arrives on a file descriptor. */
+static size_t read_all(int from, uint8_t *into)
+{
+    size_t length = 0;
+    for (;;) {
+        ssize_t taken = read(from, into + length, PLENTY - length);
+        if (taken < 0 && errno == EINTR)
+            continue;
+        if (taken < 0 || length + (size_t)taken == PLENTY)
+            exit(2);
+        if (taken == 0)
+            return length;
+        length += (size_t)taken;
+    }
+}
+
+/* Runs the command: what it prints, its status, and whether it says why on standard error. */
+static size_t run(uint8_t *printed, int *status, int *says)
+{
+    int ends[2];
+    FILE *said = tmpfile();
+    command[all_words] = NULL;
+    if (said == NULL || pipe(ends) != 0)
+        exit(2);
+    pid_t child = fork();
+    if (child < 0)
+        exit(2);
+    if (child == 0) {
+        dup2(ends[1], STDOUT_FILENO);
+        dup2(fileno(said), STDERR_FILENO);
+        close(ends[0]);
+        close(ends[1]);
+        execvp(command[0], command);
+        _exit(127);
+    }
+    close(ends[1]);
+    size_t length = read_all(ends[0], printed);
+    close(ends[0]);
+    while (waitpid(child, status, 0) < 0)
+        expect(errno == EINTR, "a child", lines);
+    fseek(said, 0, SEEK_END);
+    *says = ftell(said) > 0;
+    fclose(said);
+    return length;
+}
+
+/* The line in hand: what arrives is what one call writes, and a refusal is told and is no success. */
+static void arrives(uint32_t code)
+{
+    static uint8_t printed[PLENTY], buffer[PLENTY];
+    const char *format = command[own_words];
+    size_t position, steps, written;
+    int status, says;
+
+    struct block given = table_block(table.entries, 0);
+    uint32_t answered = tilde_format((const uint8_t *)format, strlen(format), given.bytes, table_length(), buffer, PLENTY,
+                                     &position, &steps, &written);
+    give_back(given);
+    expect(answered == code, "code of one call", lines);
+    size_t length = run(printed, &status, &says);
+    expect(length == written && memcmp(printed, buffer, written) == 0, "what arrives is what one call writes", lines);
+    expect(WIFEXITED(status) && WEXITSTATUS(status) == (code == TILDE_DONE ? 0 : 1), "status of the example", lines);
+    expect(says == (code != TILDE_DONE), "a refusal is told", lines);
+}
+
+static void whole_lines(void)
+{
+    char wide[32];
+
+    open_line("~a: ~@{~4d~^,~}~%");
+    add_string("wind");
+    for (int64_t i = 5; i < 8; i++)
+        add_integer(i * i - 40);
+    arrives(TILDE_DONE);
+    open_line("~s ~:d ~b");
+    add_string("a \"quoted\\ name");
+    add_integer(INT64_MAX);
+    add_integer(INT64_MIN);
+    arrives(TILDE_DONE);
+    open_line("");
+    arrives(TILDE_DONE);
+    /* about one window and about two */
+    for (int width = 511; width <= 1025; width += width == 513 ? 510 : 1) {
+        snprintf(wide, sizeof wide, "~%d,'.d", width);
+        open_line(wide);
+        add_integer(width);
+        arrives(TILDE_DONE);
+    }
+    /* more than a pipe holds */
+    open_line("~4096_~40@{~4096a~:*~}");
+    add_string("x");
+    arrives(TILDE_DONE);
+}
+
+static void refused_lines(void)
+{
+    open_line("~a ~d");
+    add_string("kept");
+    add_string("no integer");
+    arrives(TILDE_WRONG_KIND);
+    open_line("~700_~a");
+    arrives(TILDE_NO_ARGUMENT);
+    open_line("~a~@{x~}");
+    add_integer(1);
+    add_integer(2);
+    arrives(TILDE_STEP_LIMIT);
+    open_line("never~q");
+    arrives(TILDE_UNKNOWN_CODE);
+    open_line("never~{");
+    arrives(TILDE_BAD_BLOCK);
+}
+
+int main(int argc, char **argv)
+{
+    if (argc < 2 || argc > MOST_WORDS / 2)
+        return 2;
+    own_words = (size_t)argc - 1;
+    memcpy(command, argv + 1, own_words * sizeof *command);
+    all_words = own_words;
+    whole_lines();
+    refused_lines();
+    for (size_t i = own_words; i < all_words; i++)
+        free(command[i]);
+    printf("%zu checks\n", checks);
+    return 0;
+}
