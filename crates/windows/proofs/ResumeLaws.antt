@@ -37,7 +37,7 @@ use Rattle.filling.specs.Steps.{Standing, isOn}
 use Rattle.windows.specs.declared.state.State.{State}
 use Rattle.windows.specs.declared.state.Resumed.{Resumed}
 use Rattle.windows.specs.States.{hereOf, isSound, toCome, ifSound, unlessWrong, remains, isEnded}
-use Rattle.windows.specs.Calls.{Shown, more, all, shown, shownIn, Resumes}
+use Rattle.windows.specs.Calls.{Shown, more, all, shownIn, Resumes}
 use Rattle.windows.specs.Continuing.{noBlocks, startOf, endedState, endedWith, begunState, moreWith, resumedBy, resumedAt, Halts, over, full, Continues}
 use Rattle.windows.proofs.CallLaws.{AsEnded, ended-remains, ended-shown, idle-shown}
 use Rattle.windows.proofs.StateLaws.{in-range, begun-remains}
@@ -60,7 +60,8 @@ module _ (t table : List ℕ) where
 
   -- 1. The run goes on from where it stands.
 
-  module _ {x : Told} {left heavy from : ℕ} {b e : List ℕ} {step : Step} {r : Resumed} (a : tableVerdict table ≡ Accepted) (w : Advances t table x left heavy from b e step) where
+  module _ {x : Told} {left heavy from : ℕ} {b e : List ℕ} {step : Step} {r : Resumed} (a : tableVerdict table ≡ Accepted)
+      (w : Advances t table x left heavy from b e step) where
     pub filled : isOn (step .reach) ≡ false → r ≡ resumedAt step → Continues t table x from b e r
     filled off is = by (step .reach) refl off is
       where
@@ -202,7 +203,8 @@ module _ (t table : List ℕ) where
   -- the answer by what is shown
   shows : (s : State) (b : List ℕ) {e : List ℕ} {r : Resumed} (y : Shown) → shownIn t table s (length b) ≡ y
       → r .code ≡ y .code → r .position ≡ y .position → r .steps ≡ y .steps → r .written ≡ length (y .text) → e ≡ y .text ++ drop (r .written) b
-      → isEnded (r .state) ≡ y .ends → remains t table (r .state) ≡ record { bytes = drop (r .written) (remains t table s .bytes); finish = remains t table s .finish }
+      → isEnded (r .state) ≡ y .ends
+      → remains t table (r .state) ≡ record { bytes = drop (r .written) (remains t table s .bytes); finish = remains t table s .finish }
       → (either (isEnded s) (eqb (length b) 0) ≡ true → r .state ≡ s) → Resumes t table s b e r
   shows s b y q code position steps written window ends rest kept = record {
     code-is = rw q code;
@@ -240,7 +242,8 @@ module _ (t table : List ℕ) where
         by (over is) =
             let means : remains t table (r .state) ≡ AsEnded t table (r .state) = ended-remains t table (r .state) (rw is) in
             let wrote : remains t table s .bytes ≡ take (r .written) e = w .written .joined ∙ rw means (append-nil (take (r .written) e)) in
-            let finish : remains t table s .finish ≡ record { code = r .code; position = r .position; steps = r .steps } = w .finish ∙ ap (λ (y : Told). y .finish) means ∙ rw is in
+            let finish : remains t table s .finish ≡ record { code = r .code; position = r .position; steps = r .steps } =
+            w .finish ∙ ap (λ (y : Told). y .finish) means ∙ rw is in
             let size : length (remains t table s .bytes) ≡ r .written = rw wrote fits in
             shows s b (all (remains t table s)) (shown-all s (length b) h some (omega (arith, size, w .written .most)))
             (ap (λ (y : Finish). y .code) (sym finish))
@@ -249,7 +252,8 @@ module _ (t table : List ℕ) where
             (sym size) (rw wrote window) (rw is) rest kept
         by (full is one next) =
             let all-of : r .written ≡ length b = ap (λ (y : Resumed). y .written) is in
-            let size : length (remains t table s .bytes) ≡ r .written + length (remains t table (r .state) .bytes) = ap length (w .written .joined) ∙ length-append (take (r .written) e) (remains t table (r .state) .bytes) ∙ rw fits in
+            let size : length (remains t table s .bytes) ≡ r .written + length (remains t table (r .state) .bytes) =
+            ap length (w .written .joined) ∙ length-append (take (r .written) e) (remains t table (r .state) .bytes) ∙ rw fits in
             let wrote : take (length b) (remains t table s .bytes) ≡ take (r .written) e =
             ap (take (length b)) (w .written .joined) ∙ take-at (take (r .written) e) (remains t table (r .state) .bytes) (length b) (fits ∙ all-of) in
             shows s b (more (take (length b) (remains t table s .bytes))) (shown-more s (length b) h some (omega (arith, size, all-of, next)))
@@ -293,10 +297,12 @@ module _ (t table : List ℕ) where
     pub table-refused : {code p : ℕ} {r : Resumed} → v ≡ Refused code p → r ≡ endedWith code p 0 0 → Resumes t table s b b r
     table-refused {code} {p} e is = resumes s h some (refuses code p (wrong-means s h (sym q ∙ e)) is)
 
-    pub fresh-state : {e : List ℕ} {r : Resumed} → v ≡ Accepted → (s .stage ≡ 1 → ⊥) → Continues t table (fresh (textVerdict t)) 0 b e r → Resumes t table s b e r
+    pub fresh-state : {e : List ℕ} {r : Resumed} → v ≡ Accepted → (s .stage ≡ 1 → ⊥)
+        → Continues t table (fresh (textVerdict t)) 0 b e r → Resumes t table s b e r
     fresh-state {e} {r} a k w =
         resumes s h some (subst (λ (x : Told). Continues t table x 0 b e r) (sym (fresh-means s (omega arith) (sym q ∙ a))) w)
 
-    pub begun-state : {e : List ℕ} {r : Resumed} → v ≡ Accepted → s .stage ≡ 1 → Continues t table (begunBy s (isSound t table s)) 0 b e r → Resumes t table s b e r
+    pub begun-state : {e : List ℕ} {r : Resumed} → v ≡ Accepted → s .stage ≡ 1
+        → Continues t table (begunBy s (isSound t table s)) 0 b e r → Resumes t table s b e r
     begun-state {e} {r} a k w =
         resumes s h some (subst (λ (x : Told). Continues t table x 0 b e r) (sym (begun-means s k (sym q ∙ a))) w)

@@ -17,9 +17,11 @@ use Rattle.pieces.specs.declared.resuming.QuoteRest.{QuoteRest}
 use Rattle.nesting.specs.Moves.{Told}
 use Rattle.nesting.specs.Nest.{framesOf, allLie}
 use Rattle.nesting.specs.declared.nests.Nest.{Nest}
+use Rattle.filling.specs.Filling.{noRest}
 use Rattle.windows.specs.declared.state.State.{State}
 use Rattle.windows.specs.States.{remains}
 use Rattle.windows.specs.Calls.{Shown, more, shown, shownIn}
+use Rattle.windows.specs.Continuing.{noBlocks}
 
 -- tables: a header, entries whose two halves are below 256, and a pool
 abbrev header : ℕ → ℕ → ℕ → List ℕ
@@ -58,22 +60,6 @@ abbrev listed : List ℕ
 listed = 126 ∷ 123 ∷ 60 ∷ 126 ∷ 97 ∷ 62 ∷ 126 ∷ 125 ∷ []
 
 -- 1. Calls from a fresh state
-
--- no open blocks, and nothing left of a string
-abbrev noBlocks : Nest
-noBlocks = record {
-  depth = 0;
-  kinds = replicate 8 0;
-  places = replicate 8 0;
-  insides = replicate 8 0;
-  passes = replicate 8 0;
-  starts = replicate 8 0;
-  counts = replicate 8 0;
-  positions = replicate 8 0;
-}
-
-abbrev noRest : QuoteRest
-noRest = record { stage = 0; left = 0; start = 0; end = 0; right = 0; pad = 0 }
 
 -- a state of this stage and with this answer, all else 0
 abbrev answered : ℕ → ℕ → ℕ → ℕ → State

@@ -1,5 +1,6 @@
 // A call: the table is checked, and with it a text that is begun or the numbers of a state; then the run goes on until
 // it is over or the next byte has no room.
+use crate::state::MOST_STEPS;
 use crate::state::Resumed;
 use crate::state::State;
 use crate::state::here_of;
@@ -38,9 +39,6 @@ ghost use Rattle.windows.specs.Continuing.{noBlocks, startOf, endedWith,
 
 // The code of a call that did not come to the end. It is no code of 01.
 pub const MORE: u32 = 256;
-
-// How many steps all calls of a line together do at most.
-const MOST_STEPS: usize = 65536;
 
 // The stages of a state: begun, and any above it ended
 const BEGUN: usize = 1;

@@ -20,8 +20,8 @@ const LONGEST: usize = 4096;
 // How deep blocks nest at most.
 const DEEPEST: usize = 8;
 
-// How many steps a call does at most.
-const MOST_STEPS: usize = 65536;
+// How many steps the calls of a line do at most, all together.
+pub const MOST_STEPS: usize = 65536;
 
 // All numbers 0 is a fresh state. What the numbers of any state mean is `remains` in specs/States.
 #[repr(C)]
