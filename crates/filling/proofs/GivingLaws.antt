@@ -110,7 +110,7 @@ pub quote-in : (t : List ℕ) (p : Piece) {start end : ℕ} {q : QuoteRest} → 
 unfolding Inside
 quote-in t p {start} {end} {q} g e k =
     let i : Inside t (p .body .word) (Quoted start end) = rw e at (g .body .inside) in
-    rw k (record { order = i .0; inside = i .1 })
+    rw k (record { order = i .0; inside = i .1; before = omega (arith, g .padding); behind = omega (arith, g .padding) })
 
 -- and of one that has no room something is left
 pub given-quoted : (t : List ℕ) (p : Piece) {start end : ℕ} {q : QuoteRest} (before after : Here) (at : ℕ) {b e : List ℕ} {v : RestWritten}

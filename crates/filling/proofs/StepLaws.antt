@@ -187,7 +187,7 @@ module _ (t table : List ℕ) (h after : Here) (o : Nest) (p m : ℕ) (w : List 
           steps = omega arith;
           sound = λ _. s;
           falls = λ y. absurd (full-on y);
-          full = λ _. (refl, (rw left (omega (arith, length-append (drop g w) rest, length-drop g w, k)), record { order = omega arith; inside = omega arith }));
+          full = λ _. (refl, (rw left (omega (arith, length-append (drop g w) rest, length-drop g w, k)), record { order = omega arith; inside = omega arith; before = omega arith; behind = omega arith }));
         }
 
     gives-quoted : (q′ : QuoteRest) → given ≡ 0 → RestIn table q′ → 0 < length (restOf table q′) → Appends w at b e (length b) (restOf table q′)

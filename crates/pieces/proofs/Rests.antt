@@ -65,9 +65,9 @@ quoteRest stage left start end right pad = record {
 }
 
 -- the same string
-pub still-in : {t : List ℕ} {q : QuoteRest} {stage left right pad : ℕ} → RestIn t q
+pub still-in : {t : List ℕ} {q : QuoteRest} {stage left right pad : ℕ} → RestIn t q → left ≤ q .left → right ≤ q .right
     → RestIn t (quoteRest stage left (q .start) (q .end) right pad)
-still-in k = record { order = k .order; inside = k .inside }
+still-in k l r = record { order = k .order; inside = k .inside; before = omega (arith, l, k .before); behind = omega (arith, r, k .behind) }
 
 -- all of a piece is left before any of it is written
 pub rest-piece : (t : List ℕ) (p : Piece) (start end : ℕ) → p .body .source ≡ Quoted start end
@@ -255,7 +255,7 @@ module _ (t : List ℕ) (q : QuoteRest) {from : ℕ} {b e : List ℕ} {left at :
   padding-done z =
       let rest = quoteRest 0 (q .left) (q .start) (q .end) left (q .pad) in
       rest-written t q _ (rw (rest-done t rest refl) (rw z at in-padding))
-      (still-in k) (λ n. absurd (n refl))
+      (still-in k (omega arith) (omega (arith, p .over))) (λ n. absurd (n refl))
 
   pub padding-more : left ≢ 0
       → WritesRest t q from b e
@@ -263,7 +263,7 @@ module _ (t : List ℕ) (q : QuoteRest) {from : ℕ} {b e : List ℕ} {left at :
   padding-more z =
       let rest = quoteRest (q .stage) (q .left) (q .start) (q .end) left (q .pad) in
       let is : restOf t rest ≡ replicate left (q .pad) = rest-padding t rest h in
-      rest-written t q _ (rw is in-padding) (still-in k)
+      rest-written t q _ (rw is in-padding) (still-in k (omega arith) (omega (arith, p .over)))
       (λ _. (
         omega (arith, z, p .place, p .over, p .written .most, p .written .least),
         rw (is, length-replicate left (q .pad)) (omega (arith, z)),
@@ -296,7 +296,7 @@ module _ (t : List ℕ) (q : QuoteRest) {src : List ℕ} {from : ℕ} {b c : Lis
       rest-inside t rest (rw e (stage-least gone)) (rw e (stage-most gone))
       ∙ rw (e, gone-stage gone, later-part (q .start) (q .end) i t, s) in
       rest-written t q _ (rw is in-string)
-      (record { order = omega (arith, w .inside, size, k .order); inside = k .inside })
+      (record { order = omega (arith, w .inside, size, k .order); inside = k .inside; before = k .before; behind = k .behind })
       (λ _. (
         omega (arith, w .written .most, w .written .size),
         rw (is, length-append (owed gone (drop i src)) (closingOf q)) (omega arith),
@@ -326,7 +326,7 @@ module _ (t : List ℕ) (q : QuoteRest) {from : ℕ} {b c : List ℕ} {left at :
       let text = quotedOf (stringOf t q) in
       let padding = replicate (q .right) (q .pad) in
       let is : restOf t rest ≡ beside left (q .right) (q .pad) text = rest-whole t rest one in
-      rest-written t q _ (rw is in-front) (still-in k)
+      rest-written t q _ (rw is in-front) (still-in k (omega (arith, p .over)) (omega arith))
       (λ _. (
         omega (arith, p .written .most, p .written .size),
         rw (is, length-append (replicate left (q .pad)) (text ++ padding), length-append text padding)

@@ -28,10 +28,12 @@ restOf t q =
     (cond (eqb (q .stage) 2) (escaped (stringOf t q) ++ closingOf q)
     (cond (eqb (q .stage) 3) (owed true (stringOf t q) ++ closingOf q) (replicate (q .right) (q .pad)))))
 
--- the string lies in the table
+-- the string lies in the table, and the padding is no longer than that of a piece may be
 pub record RestIn (t : List ℕ) (q : QuoteRest) : Type 0 where
   pub order : q .start ≤ q .end
   pub inside : q .end ≤ length t
+  pub before : q .left ≤ 65536
+  pub behind : q .right ≤ 65536
 
 -- a front of a text is written into the buffer b from a place on, up to the place `at` of e, and the rest is left
 pub record Appends (text : List ℕ) (from : ℕ) (b e : List ℕ) (at : ℕ) (rest : List ℕ) : Type 0 where

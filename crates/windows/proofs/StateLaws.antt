@@ -65,7 +65,9 @@ module _ (t table : List ℕ) where
       let place = both-true _ _ (left .1) in
       let hand = both-true _ _ (place .1) in
       let blocks = both-true _ _ (hand .1) in
-      let rest = both-true _ _ (blocks .1) in (
+      let rest = both-true _ _ (blocks .1) in
+      let inside = both-true _ _ (rest .1) in
+      let padding = both-true _ _ (inside .1) in (
         record {
           short = leb-true _ _ (short .0);
           depth = leb-true _ _ (depth .0);
@@ -74,7 +76,7 @@ module _ (t table : List ℕ) where
           hand = hand .0;
           blocks = blocks .0;
         },
-        record { order = leb-true _ _ (rest .0); inside = leb-true _ _ (rest .1) },
+        record { order = leb-true _ _ (rest .0); inside = leb-true _ _ (inside .0); before = leb-true _ _ (padding .0); behind = leb-true _ _ (padding .1) },
       )
 
   module _ {h : Here} {o : Nest} (given : ℕ) {q : QuoteRest} (w : Sound (length t) table h o) (l : RestIn table q) where
@@ -86,7 +88,7 @@ module _ (t table : List ℕ) where
         (true-both (le-leb _ _ (w .place))
         (true-both (w .hand)
         (true-both (w .blocks)
-        (true-both (le-leb _ _ (l .order)) (le-leb _ _ (l .inside))))))))
+        (true-both (le-leb _ _ (l .order)) (true-both (le-leb _ _ (l .inside)) (true-both (le-leb _ _ (l .before)) (le-leb _ _ (l .behind))))))))))
 
     -- a state that is begun means what comes from there
     pub begun-remains : tableVerdict table ≡ Accepted → remains t table (begunState h o given q) ≡ toCome table q given (comes t table h o)

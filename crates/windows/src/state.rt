@@ -21,6 +21,9 @@ const LONGEST: usize = 4096;
 const DEEPEST: usize = 8;
 
 // How many steps the calls of a line do at most, all together.
+// No piece has more padding on one side.
+const MOST_PADDING: usize = 65536;
+
 pub const MOST_STEPS: usize = 65536;
 
 // All numbers 0 is a fresh state. What the numbers of any state mean is `remains` in specs/States.
@@ -118,14 +121,20 @@ fn all_lie(size: usize, table: &[u8], nest: Nest) -> bool
     true
 }
 
-// Whether what is left of a string lies in the table.
+// Whether what is left of a string lies in the table, with padding as a piece may have.
 fn rest_lies(table: &[u8], rest: QuoteRest) -> bool
     ensures { λ r. ⌜ r ≡ restLies (now (table .entry)) rest ⌝ }
 {
     if rest.end < rest.start {
         return false;
     }
-    rest.end <= table.len()
+    if table.len() < rest.end {
+        return false;
+    }
+    if MOST_PADDING < rest.left {
+        return false;
+    }
+    rest.right <= MOST_PADDING
 }
 
 // Whether all numbers of a state that is begun are in range.

@@ -20,7 +20,7 @@ add-write-inside c = search needs
 write-inside-requires : tie.Need-write-inside-requires
 write-inside-requires c κs =
     let start = c .before .before .before .before .before .before .before .before in (
-      still-in (start .pre .0),
+      still-in (start .pre .0) (omega arith) (omega arith),
       ((omega arith, omega arith), simp length-set (omega arith)),
     )
 

@@ -27,7 +27,7 @@ same-length : tie.Need-same-length
 same-length c =
     let called = c .before .before .before .before .before .before .before in
     let start = called .before .before .before .before .before .before in
-    c .before .before .write-padding .ensures (start .args .table .now) (still-in (start .pre .0)) .size
+    c .before .before .write-padding .ensures (start .args .table .now) (still-in (start .pre .0) (omega arith) (omega arith)) .size
     ∙ simp length-set (called .escape-some .ensures .written .size)
 
 returns : tie.Need-returns
@@ -37,7 +37,7 @@ returns c =
     string-closed (start .args .table .now) (start .args .q) (start .pre .1 .0) (start .pre .0)
     (called .before .before .string-part .ensures) (called .escape-some .ensures)
     (c .before .before .before .before .if1 .taken)
-    (c .before .before .write-padding .ensures (start .args .table .now) (still-in (start .pre .0)))
+    (c .before .before .write-padding .ensures (start .args .table .now) (still-in (start .pre .0) (omega arith) (omega arith)))
 
 stage-inside-requires : tie.Need-stage-inside-requires
 stage-inside-requires c κs = search needs

@@ -1,14 +1,23 @@
--- A string lies in the table where its end does, and its start before that. Assumes nothing.
-use native.Mathlib.Omega.{arith}
-use borrow.Author.Tests.{le-leb, lt-leb}
 use Rattle.windows.proofs.state.rest_lies.Statement.{statement}
 use Rattle.windows.proofs.state.rest_lies.Tie as tie
+use Rattle.windows.proofs.state.rest_lies.Reads as reads
+use Rattle.windows.proofs.state.rest_lies.Lts as lts
 
+-- src/state.rt:129:9
 returns : tie.Need-returns
-returns c = let a = c .before .before .args in rw (lt-leb (a .rest .start) (a .rest .end) (c .if1 .taken))
+returns c = ?
 
+-- src/state.rt:132:9
 returns-2 : tie.Need-returns-2
-returns-2 c = let a = c .before .before .before .args in rw (le-leb (a .rest .start) (a .rest .end) (omega (arith, c .before .if1 .left)))
+returns-2 c = ?
+
+-- src/state.rt:135:9
+returns-3 : tie.Need-returns-3
+returns-3 c = ?
+
+-- src/state.rt:125:1
+returns-4 : tie.Need-returns-4
+returns-4 c = ?
 
 pub rest-lies-spec : {M : Type 1} → statement M
-rest-lies-spec = tie.close (tie.spec returns returns-2)
+rest-lies-spec = tie.close (tie.spec returns returns-2 returns-3 returns-4)
