@@ -1,10 +1,10 @@
 -- Calls one after another write, joined, what one call of format writes into a buffer that is large enough, and the last
--- of them answers as that call does. Then what a single call answers, in the words of 02. All this from what a call
--- promises, `Resumes`. Assumes nothing.
+-- of them answers as that call does. Then what one call answers, and two, in the words of 02, and that calls come to the
+-- end. All this from what a call promises, `Resumes`. Assumes nothing.
 use Prim.Native.Nat.{ℕ, zero, suc, _≤_, _<_}
 use mathlib.Core.Path.{_≡_, refl, sym, ap, _∙_}
 use mathlib.Core.Bool.{Bool, true, false}
-use mathlib.Core.List.{List, [], _++_}
+use mathlib.Core.List.{List, []}
 use native.Mathlib.Decide.{decLt}
 use native.Mathlib.Omega.{arith}
 use lib.ListN.{length, take, drop, length-drop, take-append-drop}
@@ -17,7 +17,7 @@ use Rattle.rules.specs.Text.{textVerdict}
 use Rattle.rules.specs.declared.Verdict.{Verdict}
 use Rattle.rules.specs.declared.Verdict.the-variants.{Accepted, Refused}
 use Rattle.rules.proofs.Faults.{TableFault, TextFault, table-fault, text-fault}
-use Rattle.rules.proofs.FlowLaws.{finished, fit-all}
+use Rattle.rules.proofs.FlowLaws.{finished, fit-all, fit-not}
 use Rattle.rules.proofs.RunReports.{Reports, run-reports}
 use Rattle.rules.proofs.Tests.{not-both-ways}
 use Rattle.nesting.specs.Moves.{Told, told}
@@ -124,6 +124,22 @@ module _ (t table : List ℕ) where
       let j = joined c in
       fresh-answer s q room (rw (j .0) at h) ∙ rw (j .1, j .0)
 
+  fresh-lacks : (s : State) → s .stage ≡ 0 → (room : ℕ) → room < length (remains t table s .bytes)
+      → answerOf t table room .code ≡ 10
+  unfolding remains answerOf
+  fresh-lacks s q room h = by (tableVerdict table) (textVerdict t) (rw q at h)
+    where
+      by : (x y : Verdict) → room < length (freshBy x y .bytes)
+          → unlessRefused x (λ _. unlessRefused y (λ _. fit room [] (flowOf t (viewOf table)))) .code ≡ 10
+      by (Refused code p) y h = absurd (omega arith)
+      by Accepted (Refused code p) h = absurd (omega arith)
+      by Accepted Accepted h = fit-not room (flowOf t (viewOf table)) [] (omega arith) (omega arith)
+
+  -- with any less that buffer is not large enough
+  pub joined-least : {s : State} {out : List ℕ} {z : Resumed} → s .stage ≡ 0 → Calls t table s out z
+      → (room : ℕ) → room < length out → answerOf t table room .code ≡ 10
+  joined-least {s} q c room h = fresh-lacks s q room (rw (joined c .0) at h)
+
   flow-code : (v : View) (f : Flow) → Reports v t f → finishOf f .code ≤ 9
   flow-code v (done left over) r = omega arith
   flow-code v (refused code p left) r = r .most
@@ -223,11 +239,48 @@ module _ (t table : List ℕ) where
         let m = more-fills k some in
         rw (h .remains-is, length-drop) (omega (arith, m .0, m .1))
 
-  -- 4. Calls come to the end: after as many as bytes remain and one more, where each has room for a byte.
+  -- 4. Two calls
 
-  pub callCount : {s : State} {out : List ℕ} {z : Resumed} → Calls t table s out z → ℕ
-  callCount (last h k) = 1
-  callCount (next h c) = suc (callCount c)
+  -- "A call after the end repeats code, position and steps": those of the call that answered the end
+  pub repeats : {s : State} {b e b₂ e₂ : List ℕ} {r r₂ : Resumed} → Resumes t table s b e r → isEnded (r .state) ≡ true
+      → Resumes t table (r .state) b₂ e₂ r₂
+      → (r₂ .code ≡ r .code) × (r₂ .position ≡ r .position) × (r₂ .steps ≡ r .steps)
+      × (r₂ .written ≡ 0) × (e₂ ≡ b₂) × (r₂ .state ≡ r .state)
+  repeats {s = s} {r = r} h k h₂ =
+      let a = after-end h₂ k in
+      let same = sym (ap (λ (x : Told). x .finish) (ended-remains (r .state) k)) ∙ finish-kept h ∙ wrote-all h k .1 in (
+        a .0 ∙ ap (λ (x : Finish). x .code) same,
+        a .1 ∙ ap (λ (x : Finish). x .position) same,
+        a .2 ∙ ap (λ (x : Finish). x .steps) same,
+        a .3,
+        a .4,
+        h₂ .kept (rw k),
+      )
+
+  -- two states that mean the same
+  abbrev pub Alike : State → State → Type 0
+  Alike s s₂ = (remains t table s ≡ remains t table s₂) × (isEnded s ≡ isEnded s₂)
+
+  -- "its effect a fixed function of state and inputs": of what the state means and of the window's length; so too every
+  -- call that follows
+  pub fixed : {s s₂ : State} {b e b₂ e₂ : List ℕ} {r r₂ : Resumed} → Resumes t table s b e r → Resumes t table s₂ b₂ e₂ r₂
+      → Alike s s₂ → length b ≡ length b₂
+      → (r .code ≡ r₂ .code) × (r .position ≡ r₂ .position) × (r .steps ≡ r₂ .steps) × (r .written ≡ r₂ .written)
+      × (take (r .written) e ≡ take (r₂ .written) e₂) × Alike (r .state) (r₂ .state)
+  unfolding shownIn
+  fixed {s} {s₂} {b} {b₂ = b₂} h h₂ a q =
+      let same : shownIn t table s (length b) ≡ shownIn t table s₂ (length b₂) = rw (a .0, a .1, q) in
+      let written = h .written-is ∙ ap (λ (y : Shown). length (y .text)) same ∙ sym (h₂ .written-is) in (
+        h .code-is ∙ ap (λ (y : Shown). y .code) same ∙ sym (h₂ .code-is),
+        h .position-is ∙ ap (λ (y : Shown). y .position) same ∙ sym (h₂ .position-is),
+        h .steps-is ∙ ap (λ (y : Shown). y .steps) same ∙ sym (h₂ .steps-is),
+        written,
+        wrote h ∙ (rw (written, a .0)) ∙ sym (wrote h₂),
+        (h .remains-is ∙ (rw (written, a .0)) ∙ sym (h₂ .remains-is),
+        h .ends-is ∙ ap (λ (y : Shown). y .ends) same ∙ sym (h₂ .ends-is)),
+      )
+
+  -- 5. Calls come to the end: after as many as bytes remain, and at least one, where each has room for a byte.
 
   -- what a call in the state s with the window b gives
   pub record Given (s : State) (b : List ℕ) : Type 0 where
@@ -235,41 +288,34 @@ module _ (t table : List ℕ) where
     pub answer : Resumed
     pub promise : Resumes t table s b window answer
 
-  -- calls up to the end, and no more than so many
-  pub record Ending (s : State) (most : ℕ) : Type 0 where
-    pub out : List ℕ
-    pub answer : Resumed
-    pub calls : Calls t table s out answer
-    pub few : callCount calls ≤ most
-
   -- whatever windows are lent
-  module _ (call : (s : State) (b : List ℕ) → Given s b) (lent : ℕ → List ℕ) (some : (i : ℕ) → 0 < length (lent i)) where
-    one-more : (s : State) (b : List ℕ) (n : ℕ) (x : Bool) → isEnded (call s b .answer .state) ≡ x
-        → (x ≡ false → Ending (call s b .answer .state) n) → Ending s (suc n)
-    unfolding callCount
-    one-more s b n true k on = record {
-      out = take (call s b .answer .written) (call s b .window);
-      answer = call s b .answer;
-      calls = last (call s b .promise) k;
-      few = omega arith;
-    }
-    one-more s b n false k on =
-        let after = on refl in
-        record {
-          out = take (call s b .answer .written) (call s b .window) ++ after .out;
-          answer = after .answer;
-          calls = next (call s b .promise) (after .calls);
-          few = omega (arith, after .few);
-        }
+  module _ (call : (s : State) (b : List ℕ) → Given s b) (lent : ℕ → List ℕ) where
+    -- the state after n calls from the state s on, the first with window i, each with the next window and the last state
+    pub stateAfter : ℕ → ℕ → State → State
+    stateAfter zero i s = s
+    stateAfter (suc n) i s = stateAfter n (suc i) (call s (lent i) .answer .state)
 
-    ends-within : (n i : ℕ) (s : State) → length (remains t table s .bytes) ≤ n → Ending s (suc n)
-    ends-within zero i s h =
+    stays-ended : (n i : ℕ) (s : State) → isEnded s ≡ true → isEnded (stateAfter n i s) ≡ true
+    unfolding stateAfter
+    stays-ended zero i s k = k
+    stays-ended (suc n) i s k =
         let c = call s (lent i) in
-        one-more s (lent i) 0 (isEnded (c .answer .state)) refl (λ k. absurd (omega (arith, fewer-remain (c .promise) k (some i))))
-    ends-within (suc n) i s h =
-        let c = call s (lent i) in
-        one-more s (lent i) (suc n) (isEnded (c .answer .state)) refl
-        (λ k. ends-within n (suc i) (c .answer .state) (omega (arith, fewer-remain (c .promise) k (some i))))
+        stays-ended n (suc i) (c .answer .state) (ended-stays (c .promise) k .0)
 
-    pub calls-end : (s : State) → Ending s (suc (length (remains t table s .bytes)))
-    calls-end s = ends-within (length (remains t table s .bytes)) 0 s (omega arith)
+    module _ (some : (i : ℕ) → 0 < length (lent i)) where
+      pub calls-end : (n i : ℕ) (s : State) → 0 < n → length (remains t table s .bytes) ≤ n
+          → isEnded (stateAfter n i s) ≡ true
+      unfolding stateAfter
+      calls-end zero i s o h = absurd (omega arith)
+      calls-end (suc n) i s o h =
+          let c = call s (lent i) in
+          by (isEnded (c .answer .state)) refl
+          (λ k. calls-end n (suc i) (c .answer .state) (omega (arith, more-fills (c .promise) k (some i) .1, some i))
+          (omega (arith, fewer-remain (c .promise) k (some i))))
+        where
+          after : State
+          after = call s (lent i) .answer .state
+          by : (x : Bool) → isEnded after ≡ x → (isEnded after ≡ false → isEnded (stateAfter n (suc i) after) ≡ true)
+              → isEnded (stateAfter n (suc i) after) ≡ true
+          by true k on = stays-ended n (suc i) after k
+          by false k on = on k

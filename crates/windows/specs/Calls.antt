@@ -38,7 +38,8 @@ unfoldable pub shownIn : List ℕ → List ℕ → State → ℕ → Shown
 shownIn t table s room = shown (isEnded s) room (remains t table s)
 
 -- What a call promises: its numbers, every byte of the window, which was `before` and is `after`, and what the new state
--- means, as a function of the old one
+-- means, as a function of the old one. Left open is only which of the states that mean this is answered: all later calls
+-- over the same format and table are the same for each (`CallLaws.fixed`)
 pub record Resumes (t table : List ℕ) (s : State) (before after : List ℕ) (r : Resumed) : Type 0 where
   pub code-is : r .code ≡ shownIn t table s (length before) .code
   pub position-is : r .position ≡ shownIn t table s (length before) .position
