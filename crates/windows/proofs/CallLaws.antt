@@ -276,8 +276,10 @@ module _ (t table : List ℕ) where
         h .steps-is ∙ ap (λ (y : Shown). y .steps) same ∙ sym (h₂ .steps-is),
         written,
         wrote h ∙ (rw (written, a .0)) ∙ sym (wrote h₂),
-        (h .remains-is ∙ (rw (written, a .0)) ∙ sym (h₂ .remains-is),
-        h .ends-is ∙ ap (λ (y : Shown). y .ends) same ∙ sym (h₂ .ends-is)),
+        (
+          h .remains-is ∙ (rw (written, a .0)) ∙ sym (h₂ .remains-is),
+          h .ends-is ∙ ap (λ (y : Shown). y .ends) same ∙ sym (h₂ .ends-is),
+        ),
       )
 
   -- 5. Calls come to the end: after as many as bytes remain, and at least one, where each has room for a byte.
@@ -315,6 +317,7 @@ module _ (t table : List ℕ) where
         where
           after : State
           after = call s (lent i) .answer .state
+
           by : (x : Bool) → isEnded after ≡ x → (isEnded after ≡ false → isEnded (stateAfter n (suc i) after) ≡ true)
               → isEnded (stateAfter n (suc i) after) ≡ true
           by true k on = stays-ended n (suc i) after k
