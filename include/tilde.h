@@ -1,4 +1,4 @@
-/* Formats and vets tilde format strings over byte slices, in one buffer or through small windows. Link with libtilde.a. */
+/* Formats and vets tilde format strings over byte slices, into one buffer or small windows. Link with libtilde.a. */
 #ifndef TILDE_H
 #define TILDE_H
 
@@ -22,7 +22,7 @@ enum tilde_code {
     TILDE_UNKNOWN_CODE = 3,
     /* Block unclosed, wrong closer, stray separator or one after ~:;, ~:; under ~:[ or ~@[, wrong clause count,
        iteration body of no bytes, ninth level. Position of the opener for unclosed, count and empty body, else of the
-       tilde met. */
+       tilde met. From tilde_resume also a begun state with a number out of range, which no call gave; position 0. */
     TILDE_BAD_BLOCK = 4,
     /* Wrong parameter or modifier, seen in the text. Position of the tilde. */
     TILDE_BAD_PARAMETER = 5,
@@ -34,7 +34,7 @@ enum tilde_code {
     TILDE_OUT_OF_RANGE = 8,
     /* Step 65,537 needed. Position of its byte or tilde, or of the ~{ for a pass. */
     TILDE_STEP_LIMIT = 9,
-    /* Piece doesn't fit. Position of its byte or tilde. */
+    /* tilde_format alone: piece doesn't fit. Position of its byte or tilde. */
     TILDE_NO_ROOM = 10,
     /* Vet: one of ~* ~{ ~^ or a parameter v; position of the first such tilde. Or a conditional whose ways end at
        different arguments, or ~@[ for another kind than a boolean; position of its tilde. */
@@ -65,15 +65,15 @@ enum tilde_tag {
 #define TILDE_MOST_ENTRIES 1024
 #define TILDE_MOST_POOL 65536
 
-/* Limits of a format, of the steps of a call, and of what a vet is asked. */
+/* Limits of a format, of the steps of a line (in one call or all its windows together), and of what a vet is asked. */
 #define TILDE_MOST_FORMAT 4096
 #define TILDE_MOST_STEPS 65536
 #define TILDE_MOST_KINDS 1024
 #define TILDE_MOST_LONGEST 4096
 
-/* A call of tilde_format, tilde_resume or tilde_vet takes at most so many bytes of stack on x86-64, with libtilde.a as rt staticlib
-   builds it: from its caller's frame down, with the memcpy and memset that it calls. What runs on the same stack
-   meanwhile, a signal handler or the loader that binds memcpy at its first call, comes on top. */
+/* A call of tilde_format, tilde_resume or tilde_vet takes at most so many bytes of stack on x86-64, with libtilde.a as
+   rt staticlib builds it: from its caller's frame down, with the memcpy and memset that it calls. What runs on the same
+   stack meanwhile, a signal handler or the loader that binds memcpy at its first call, comes on top. */
 #define TILDE_STACK_BYTES 16384
 
 /* Writes the text of a format over the arguments of a table at the start of a buffer, and answers a tilde_code: one of
@@ -102,24 +102,26 @@ enum tilde_tag {
 uint32_t tilde_format(const uint8_t *format, size_t format_length, const uint8_t *table, size_t table_length,
                       uint8_t *buffer, size_t buffer_length, size_t *position, size_t *steps, size_t *written);
 
-/* What a call of tilde_resume answers instead of a tilde_code until the end. */
+/* What a call of tilde_resume answers instead of a tilde_code until the end. No tilde_code has this value. */
 #define TILDE_MORE 256
 
-/* Where a line stands between two windows. All zeros is a fresh one. The numbers serve the next call alone: nothing is
-   promised of them but that. Between its fields there are bytes of padding, so states are compared field by field. */
+/* Where a line stands between two windows. All zeros is a fresh one: `tilde_state state = {0};`. The numbers serve the
+   next call alone, with the same build of the library. A state holds no pointer: it may be copied, kept, and gone on
+   from twice, and format, table and window may be moved between calls. There is padding between its fields, so memcmp
+   does not compare states. */
 typedef struct {
     /* 0 fresh, 1 begun, any other ended */
     size_t stage;
     /* the answer, once it has ended */
     uint32_t code;
     size_t position, steps;
-    /* the steps that are left, the place of the format where it goes on, and the bytes of what comes from there that are
-       written already */
+    /* the steps that are left, the place of the format where it goes on, and the bytes of what comes from there that
+       are written already */
     size_t left, place, given;
     /* the arguments in hand: the entry of the first, how many there are, and the next */
     size_t first, count, next;
-    /* the open blocks, at most 8, the outermost first: what each is, the places of its tilde and of its inside, the passes
-       left, and the arguments in hand outside it */
+    /* the open blocks, at most 8, the outermost first: what each is, the places of its tilde and of its inside, the
+       passes left, and the arguments in hand outside it */
     size_t depth;
     uint16_t kinds[8], places[8], insides[8], passes[8], starts[8], counts[8], positions[8];
     /* what is left of a string in quotes that a window cut: how far it has come, the padding before it, its part of the
@@ -135,31 +137,41 @@ typedef struct {
     tilde_state state;
 } tilde_resumed;
 
-/* Writes the next part of the text of a format into a window of any size, as much as it has room for.
+/* Writes the next part of the text of a format into a window, as much as it has room for.
 
-   format, table           as for tilde_format
-   window, window_length   room for the next part; a piece may be cut at its end
+   format, table           as for tilde_format, with the same bytes in each call of a line
+   window, window_length   room for the next part, of any size; a piece may be cut at its end, and so may a character of
+                           several bytes
    state                   all zeros in the first call of a line, and then that of the call before
 
-   - TILDE_MORE: the window is full and at least one byte is still to come. Position and steps are 0.
-   - Any other code is the end: code, position and steps are those of one tilde_format with a buffer that is large enough.
-     They come with the last bytes, so a window that the last byte fills answers the end. TILDE_NO_ROOM is never given.
-   - The bytes of the window from written on are as they came.
-   - With a window of 0 bytes before the end is answered, the answer is TILDE_MORE with 0 bytes, and the state is the one
-     handed over, even where the format or the table is bad.
-   - After the end a call repeats code, position and steps, writes nothing, and answers the state that it was given.
+   From a fresh state on the answers are:
+   - TILDE_MORE: the window is full, and at least one byte is still to come. Position and steps are 0.
+   - The end, a code of 0 to 9: code, position and steps are those of one tilde_format with a buffer that is large
+     enough. They come with the last bytes, so a window that the last byte fills answers the end. Codes 1 to 5 come
+     before any byte is written; what was handed out before 6 to 9 stands.
+   - After the end: code, position and steps again, with nothing written and the state that was given.
+   - With a window of 0 bytes before the end: TILDE_MORE, nothing written and the state that was given, even where the
+     format or the table is bad. A loop that lends no room never ends.
+   The bytes of the window from written on are as they came. TILDE_MOST_STEPS is for the line, not for a call.
 
    The windows joined are the text of that one tilde_format: after a refusal what it keeps, and nothing of the refused
-   piece. This holds where each call of a line has the same format and table, and the state of the call before. Any other
-   state, format or table is answered as well, always in the same way, and writes nothing outside the window; a state
-   whose numbers are out of range is refused with TILDE_BAD_BLOCK at 0, 0 steps.
+   piece. This holds where each call of a line has the same format and table, and the state of the call before.
+
+   Any other state, format or table is answered as well, always in the same way, and nothing is written outside the
+   window. A begun state with a number out of range, or with too long a format, is refused with TILDE_BAD_BLOCK at 0, 0
+   steps, after the check of the table; padding of more than 65,536 bytes on a side is out of range, so every line ends.
+   The format of a begun state is not checked again, and a position may lie outside it. A state that has ended answers
+   whatever code it holds, TILDE_MORE too.
 
    A call costs the bytes that it writes, a check of the table (some nanoseconds for each entry), and up to the rest of
-   the steps where these write nothing; the first call also checks the format. A string in quotes is not read again from
-   its start, however it is cut; of any other piece a window reads no more than it writes, and 128 bytes.
+   the steps where these write nothing; the first one also checks the format. The window that first reaches a ~s reads
+   its whole string, to measure it, and later ones do not; of any other piece a window reads no more than it writes, and
+   128 bytes.
 
-   Pointers are as for tilde_format; the window must not overlap the format or the table. A state may be copied, kept, and
-   gone on from twice. No memory is taken. */
+   Pointers are as for tilde_format; the window must not overlap the format or the table. State and answer take about
+   530 bytes of the caller's frame, which TILDE_STACK_BYTES does not count. No memory is taken, and nothing is kept but
+   the state: calls from several threads do not disturb each other, a line may go on in another thread, and a call
+   repeated with the same state writes the same bytes, so that a write that failed can be tried again. */
 tilde_resumed tilde_resume(const uint8_t *format, size_t format_length, const uint8_t *table, size_t table_length,
                            uint8_t *window, size_t window_length, tilde_state state);
 
@@ -170,7 +182,9 @@ tilde_resumed tilde_resume(const uint8_t *format, size_t format_length, const ui
            code = tilde_window(&state, format, format_length, table, table_length, window, sizeof window,
                                &position, &steps, &written);
            drain(window, written);
-       } while (code == TILDE_MORE); */
+       } while (code == TILDE_MORE);
+
+   The state and the three results must not be null, nor overlap each other, the window, the format or the table. */
 static inline uint32_t tilde_window(tilde_state *state, const uint8_t *format, size_t format_length,
                                     const uint8_t *table, size_t table_length, uint8_t *window, size_t window_length,
                                     size_t *position, size_t *steps, size_t *written)
