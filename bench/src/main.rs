@@ -8,6 +8,7 @@ mod plain;
 mod printing;
 mod slowest;
 mod whole;
+mod windows;
 
 use clock::processor_time;
 use random::Random;
@@ -25,10 +26,11 @@ const ROUNDS: usize = 301;
 type Digits = fn(u64, u64, &mut [u8]) -> usize;
 
 /// The tables that are printed, with their names: all of them, or one that is named.
-const TABLES: [(&str, fn()); 6] = [
+const TABLES: [(&str, fn()); 7] = [
     ("lines", lines::measure),
     ("growth", growth::measure),
     ("whole", whole::measure),
+    ("windows", windows::measure),
     ("slowest", slowest::measure),
     ("digits", all_digits),
     ("check", tables),
