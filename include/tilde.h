@@ -1,4 +1,5 @@
-/* Formats and vets tilde format strings over byte slices, into one buffer or small windows. Link with libtilde.a. */
+/* Formats and vets tilde format strings over byte slices, into one buffer or small windows. Link with libtilde.a,
+   and for tilde_resume and tilde_window with libtilde_windows.a before it. */
 #ifndef TILDE_H
 #define TILDE_H
 
@@ -71,8 +72,8 @@ enum tilde_tag {
 #define TILDE_MOST_KINDS 1024
 #define TILDE_MOST_LONGEST 4096
 
-/* A call of tilde_format, tilde_resume or tilde_vet takes at most so many bytes of stack on x86-64, with libtilde.a as
-   rt staticlib builds it: from its caller's frame down, with the memcpy and memset that it calls. What runs on the same
+/* A call of tilde_format, tilde_resume or tilde_vet takes at most so many bytes of stack on x86-64, with the archives as
+   rt staticlib builds them: from its caller's frame down, with the memcpy and memset that it calls. What runs on the same
    stack meanwhile, a signal handler or the loader that binds memcpy at its first call, comes on top. */
 #define TILDE_STACK_BYTES 16384
 

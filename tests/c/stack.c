@@ -13,8 +13,12 @@
 
 _Static_assert(TILDE_STACK_BYTES % 16 == 0, "stacks are aligned to 16 bytes");
 
+/* which call, with its name */
+enum which { FORMAT, VET, RESUME };
+static const char *const names[] = {"tilde_format", "tilde_vet", "tilde_resume"};
+
 struct call {
-    int vets;
+    enum which which;
     size_t format_length;
     size_t given_length;
     size_t room;
@@ -28,28 +32,32 @@ static size_t deepest_depth = 0;
 static uint8_t buffer[ROOM];
 static struct stack ample;
 
+static const tilde_state fresh;
+
 static void make_the_call(void)
 {
     size_t one, two, three;
     caller = __builtin_frame_address(0);
-    if (job.vets)
+    if (job.which == VET)
         tilde_vet(job.format, job.format_length, job.given, job.given_length, TILDE_MOST_LONGEST, &one, &two);
+    else if (job.which == RESUME)
+        tilde_resume(job.format, job.format_length, job.given, job.given_length, buffer, job.room, fresh);
     else
         tilde_format(job.format, job.format_length, job.given, job.given_length, buffer, job.room, &one, &two, &three);
 }
 
 static void show_deepest(FILE *to)
 {
-    fprintf(to, "%s takes %zu bytes of stack, of %d: ", deepest.vets ? "tilde_vet" : "tilde_format", deepest_depth,
+    fprintf(to, "%s takes %zu bytes of stack, of %d: ", names[deepest.which], deepest_depth,
             TILDE_STACK_BYTES);
     for (size_t i = 0; i < deepest.format_length && i < 200; i++)
         fputc(deepest.format[i] < ' ' ? ' ' : deepest.format[i], to);
     fputs(deepest.format_length > 200 ? "...\n" : "\n", to);
 }
 
-static void measure(int vets, const uint8_t *given, size_t given_length, size_t room)
+static void measure_one(enum which which, const uint8_t *given, size_t given_length, size_t room)
 {
-    job.vets = vets;
+    job.which = which;
     job.given = given;
     job.given_length = given_length;
     job.room = room;
@@ -61,6 +69,14 @@ static void measure(int vets, const uint8_t *given, size_t given_length, size_t 
     if (taken > TILDE_STACK_BYTES)
         show_deepest(stderr);
     expect(taken <= TILDE_STACK_BYTES, "TILDE_STACK_BYTES is too small", checks);
+}
+
+/* A vet; or a format, and the same line through a window. */
+static void measure(int vets, const uint8_t *given, size_t given_length, size_t room)
+{
+    measure_one(vets ? VET : FORMAT, given, given_length, room);
+    if (!vets)
+        measure_one(RESUME, given, given_length, room);
 }
 
 /* The arguments: lists within lists, and behind them values of each kind. A list has all entries that follow it, so its

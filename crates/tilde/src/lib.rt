@@ -1,12 +1,8 @@
-// Format, vet and resume for callers in C. None asks anything of its caller: every byte and every number is answered.
+// Format and vet for callers in C. Neither asks anything of its caller: every byte and every number is answered.
 use engine::formatting::format_text;
 use vetting::vet_format;
-use windows::resuming::resume;
-use windows::state::Resumed;
-use windows::state::State;
 ghost use Rattle.rules.specs.Answer.{Answers};
 ghost use Rattle.vet.specs.Demand.{Promised};
-ghost use Rattle.windows.specs.Calls.{Resumes};
 ghost use Rattle.tilde.specs.Exported.{vetted};
 
 // Writes the text of a format over its table at the start of the buffer. Answers 01's code, and with it the position,
@@ -45,19 +41,4 @@ pub extern "C" fn tilde_vet(
     *position = vetted.position;
     *count = vetted.count;
     vetted.code
-}
-
-// Writes of a line as much as the window has room for, from a state on: one whose numbers are all 0, or that of the
-// call before, with the same format and table. Answers 01's code or, where a byte had no room, 256, and with it the
-// position, the steps done, the bytes written and the state.
-#[no_mangle]
-pub extern "C" fn tilde_resume(
-    format: &[u8],
-    table: &[u8],
-    window: &mut [u8],
-    state: State,
-) -> Resumed
-    ensures { λ r. ⌜ Resumes (now (format .entry)) (now (table .entry)) state (now (window .entry)) (now (window .exit)) r ⌝ }
-{
-    resume(format, table, window, state)
 }

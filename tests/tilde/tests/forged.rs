@@ -326,7 +326,7 @@ impl Seen {
     }
 
     fn assert_enough(&self) {
-        let least = self.states / 200;
+        let least = self.states / 400;
         assert!(self.sorts.iter().all(|&count| count > 10 * least), "{self}");
         assert!(self.more > 20 * least, "{self}");
         for code in [0, 1, 3, 4, 5, 6, 7] {
