@@ -72,8 +72,8 @@ enum tilde_tag {
 #define TILDE_MOST_KINDS 1024
 #define TILDE_MOST_LONGEST 4096
 
-/* A call of tilde_format, tilde_resume or tilde_vet takes at most so many bytes of stack on x86-64, with the archives as
-   rt staticlib builds them: from its caller's frame down, with the memcpy and memset that it calls. What runs on the same
+/* A call of tilde_format, tilde_resume or tilde_vet takes at most so many bytes of stack on x86-64, with archives that
+   rt staticlib built: from its caller's frame down, with the memcpy and memset that it calls. What runs on the same
    stack meanwhile, a signal handler or the loader that binds memcpy at its first call, comes on top. */
 #define TILDE_STACK_BYTES 16384
 
@@ -164,10 +164,10 @@ typedef struct {
    The format of a begun state is not checked again, and a position may lie outside it. A state that has ended answers
    whatever code it holds, TILDE_MORE too.
 
-   A call costs the bytes that it writes, a check of the table (some nanoseconds for each entry), and up to the rest of
-   the steps where these write nothing; the first one also checks the format. The window that first reaches a ~s reads
-   its whole string, to measure it, and later ones do not; of any other piece a window reads no more than it writes, and
-   128 bytes.
+   A call costs the bytes that it writes, a check of the table (about a nanosecond for each entry), a look through a
+   format of more than 208 bytes, and up to the rest of the steps where these write nothing; the first one also checks
+   the format. The window that first reaches a ~s reads its whole string, to measure it, and later ones do not; of any
+   other piece a window reads no more than it writes, and 128 bytes.
 
    Pointers are as for tilde_format; the window must not overlap the format or the table. State and answer take about
    530 bytes of the caller's frame, which TILDE_STACK_BYTES does not count. No memory is taken, and nothing is kept but

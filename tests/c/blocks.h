@@ -59,4 +59,20 @@ static void give_back(struct block block)
         free(block.bytes);
 }
 
+/* What stands in lent room before a call: a byte that no text of the cases has, so that an untouched one is known. */
+#define UNTOUCHED 0xaa
+
+static inline int same(const void *one, const void *other, size_t length)
+{
+    return length == 0 || memcmp(one, other, length) == 0;
+}
+
+static inline int untouched(const uint8_t *from, size_t length)
+{
+    for (size_t i = 0; i < length; i++)
+        if (from[i] != UNTOUCHED)
+            return 0;
+    return 1;
+}
+
 #endif

@@ -3,8 +3,6 @@
 #define _GNU_SOURCE
 #include "tables.h"
 
-/* A byte that no text of these cases has, so that an untouched one is known. */
-#define UNTOUCHED 0xaa
 #define PLENTY 16384
 
 /* What tilde_format answers, and what it has written. */
@@ -39,19 +37,6 @@ static struct block copy_of(const void *from, size_t length, int fenced)
     if (length > 0)
         memcpy(block.bytes, from, length);
     return block;
-}
-
-static int same(const void *one, const void *other, size_t length)
-{
-    return length == 0 || memcmp(one, other, length) == 0;
-}
-
-static int untouched(const uint8_t *from, size_t length)
-{
-    for (size_t i = 0; i < length; i++)
-        if (from[i] != UNTOUCHED)
-            return 0;
-    return 1;
 }
 
 /* One call on blocks that are already there. */

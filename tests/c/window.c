@@ -3,7 +3,6 @@
 #define _GNU_SOURCE
 #include "tables.h"
 
-#define UNTOUCHED 0xaa
 #define PLENTY ((size_t)70000)
 /* A line is not cut into more windows than this. */
 #define MOST_WINDOWS ((size_t)1500)
@@ -46,19 +45,6 @@ static struct told by_pointer(tilde_state *state, uint8_t *window, size_t size)
     told.code = tilde_window(state, line.format.bytes, line.format_length, line.table.bytes, line.table_length, window,
                              size, &told.position, &told.steps, &told.written);
     return told;
-}
-
-static int same(const void *one, const void *other, size_t length)
-{
-    return length == 0 || memcmp(one, other, length) == 0;
-}
-
-static int untouched(const uint8_t *from, size_t length)
-{
-    for (size_t i = 0; i < length; i++)
-        if (from[i] != UNTOUCHED)
-            return 0;
-    return 1;
 }
 
 static struct block window_of(size_t size, int fenced)
