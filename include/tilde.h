@@ -6,6 +6,9 @@
 #include <stddef.h>
 #include <stdint.h>
 
+/* The version of this header: major, minor and patch. */
+#define TILDE_VERSION "0.4.0"
+
 #ifdef __cplusplus
 extern "C" {
 #endif
@@ -43,6 +46,33 @@ enum tilde_code {
     /* Vet: more than 1,024 kinds, unknown tag, or longest above 4,096. Position 0. */
     TILDE_BAD_KINDS = 12
 };
+
+/* What a call of tilde_resume answers instead of a tilde_code until the end. No tilde_code has this value. */
+#define TILDE_MORE 256
+
+/* The words for an answer, TILDE_MORE too, in English and without a full stop; those for a number that no call answers
+   say so. */
+static inline const char *tilde_words(uint32_t code)
+{
+    static const char *const words[] = {
+        "done",
+        "bad table",
+        "format above 4,096 bytes",
+        "unknown directive, or the format ends inside one",
+        "block unclosed, or not made as it has to be",
+        "wrong parameter or modifier",
+        "no such argument, or a jump outside",
+        "wrong kind of argument",
+        "value of v or # outside its place's range",
+        "more than 65,536 steps",
+        "no room for the next piece",
+        "no format that a vet can count",
+        "more than 1,024 kinds, an unknown one, or a longest above 4,096",
+    };
+    if (code == TILDE_MORE)
+        return "more to come";
+    return code < sizeof words / sizeof words[0] ? words[code] : "no code of tilde";
+}
 
 /* The tag of an entry in a table, and a kind given to a vet. */
 enum tilde_tag {
@@ -102,9 +132,6 @@ enum tilde_tag {
    No memory is taken, nothing is kept between calls, and calls from several threads do not disturb each other. */
 uint32_t tilde_format(const uint8_t *format, size_t format_length, const uint8_t *table, size_t table_length,
                       uint8_t *buffer, size_t buffer_length, size_t *position, size_t *steps, size_t *written);
-
-/* What a call of tilde_resume answers instead of a tilde_code until the end. No tilde_code has this value. */
-#define TILDE_MORE 256
 
 /* Where a line stands between two windows. All zeros is a fresh one: `tilde_state state = {0};`. The numbers serve the
    next call alone, with the same build of the library. A state holds no pointer: it may be copied, kept, and gone on
