@@ -100,7 +100,7 @@ static void arrives(uint32_t code)
     size_t position, steps, written;
     int status, says;
 
-    struct block given = table_block(table.entries, 0);
+    struct block given = copy_of(table.bytes, table_length(), 0);
     uint32_t answered = tilde_format((const uint8_t *)format, strlen(format), given.bytes, table_length(), buffer, PLENTY,
                                      &position, &steps, &written);
     give_back(given);
