@@ -179,8 +179,8 @@ static inline void tilde_table_settle(const tilde_table *table, size_t i, uint32
     }
 }
 
-/* For tilde_table_end alone: the place of entry i in the table instead of what tilde_table_add put there. */
-static inline void tilde_table_place(const tilde_table *table, size_t i)
+/* For tilde_table_end alone: the number that entry i is to have, instead of what tilde_table_add put there. */
+static inline void tilde_table_number(const tilde_table *table, size_t i)
 {
     uint8_t *entry = tilde_table_entry(table, i);
     const uint32_t word = tilde_table_get(entry), list = word >> 12 & 0xfff, elsewhere = word & 0xfff;
@@ -188,13 +188,13 @@ static inline void tilde_table_place(const tilde_table *table, size_t i)
     tilde_table_put(entry, (uint32_t)entry[0] << 24 | (first + (uint32_t)i - elsewhere));
 }
 
-/* For tilde_table_end alone: entries change places until the one that belongs there stands at i. */
+/* For tilde_table_end alone: entry i is exchanged for others until it is the one that is to have this number. */
 static inline void tilde_table_bring(const tilde_table *table, size_t i)
 {
     uint8_t *entry = tilde_table_entry(table, i), *there, other[TILDE_ENTRY_BYTES];
-    size_t place;
-    while ((place = tilde_table_get(entry) & 0xffffff) != i) {
-        there = tilde_table_entry(table, place);
+    size_t number;
+    while ((number = tilde_table_get(entry) & 0xffffff) != i) {
+        there = tilde_table_entry(table, number);
         memcpy(other, there, TILDE_ENTRY_BYTES);
         memcpy(there, entry, TILDE_ENTRY_BYTES);
         memcpy(entry, other, TILDE_ENTRY_BYTES);
@@ -216,10 +216,10 @@ static inline size_t tilde_table_end(tilde_table *table)
         return 0;
     for (i = 0; i < table->entries; i++)
         tilde_table_settle(table, i, &next);
-    /* without values in lists each stands in its place */
+    /* without values in lists each has its number already */
     if (table->arguments < table->entries) {
         for (i = 0; i < table->entries; i++)
-            tilde_table_place(table, i);
+            tilde_table_number(table, i);
         for (i = 0; i < table->entries; i++)
             tilde_table_bring(table, i);
     }
