@@ -4,8 +4,6 @@
 #include "rows.h"
 #include "running.h"
 
-#include <errno.h>
-#include <inttypes.h>
 #include <stdlib.h>
 #include <string.h>
 
@@ -27,9 +25,7 @@ enum step { GOES_ON, STOPS, FAILS };
 
 static enum step fail(struct work *work, const char *what)
 {
-    const char *const cause = strerror(errno);
-    report_clear(&work->report);
-    fprintf(work->io->err, "tilde lines: cannot %s: %s; stopped at row %" PRIu64 "\n", what, cause, work->report.rows);
+    report_failure(&work->report, what);
     return FAILS;
 }
 
@@ -57,7 +53,7 @@ static enum step refuse(struct work *work, const struct fault *fault, const stru
         fprintf(err, ": refused (%u): %s, at byte %zu\n", (unsigned)ending->code, tilde_words(ending->code),
                 ending->position);
     else
-        fprintf(err, ": a row has at most %zu bytes, and this one has more\n", work->rows.longest);
+        counts_print(err, ": a row has at most ~:d bytes, and this one has more~%", (uint64_t[]){work->rows.longest}, 1);
     return work->job->strict ? STOPS : GOES_ON;
 }
 

@@ -17,20 +17,23 @@ struct report {
     size_t columns;
 };
 
+/* Prints a format over at most four counts, and answers how many bytes that are. */
+size_t counts_print(FILE *to, const char *format, const uint64_t *counts, size_t count);
+
 /* Progress is shown where standard error is a terminal to which no lines go. */
 void report_begin(struct report *report, const struct streams *io, int all);
 
 /* Call it for every row: it shows how far it has come where it is time for that. */
 void report_row(struct report *report);
 
-/* Makes way for a message. */
-void report_clear(struct report *report);
-
 /* Whether another refused row is told. */
 int report_tells(const struct report *report);
 
 /* Refuses the row in hand. Answers whether that is told: then its number is printed, and the caller prints why. */
 int report_refuse(struct report *report);
+
+/* Says what cannot be done, and the cause that errno has. */
+void report_failure(struct report *report, const char *what);
 
 /* Prints the summary where rows were refused; to a person, also that the last line lacks a newline. */
 void report_end(struct report *report, int stopped, int unended);
