@@ -88,9 +88,9 @@ TOOLS := $(patsubst tools/%.c,build/tools/%.o,$(wildcard tools/*.c))
 
 $(PROVED): build/proved/%.o: target/staticlib/lib%.a | build/proved
 	$(AR) p $< $*.o >$@ && test -s $@
-build/tools/exports.o: private CFLAGS += -fPIC
+build/tools/exports.o: private PLACED := -fPIC
 $(TOOLS): build/tools/%.o: tools/%.c Makefile | build/tools
-	$(CC) -std=c11 -Wall -Wextra -Iinclude $(CPPFLAGS) $(CFLAGS) -MMD -MP -c -o $@ $<
+	$(CC) -std=c11 -Wall -Wextra -Iinclude $(CPPFLAGS) $(CFLAGS) $(PLACED) -MMD -MP -c -o $@ $<
 -include $(TOOLS:.o=.d)
 build/proved build/tools build/man:
 	mkdir -p $@
@@ -135,6 +135,7 @@ checked = $(foreach name,DESTDIR $(FOLDERS),$(foreach byte," ' ` \ | & $$ $(hash
 put = install -d "$(DESTDIR)$2" && install -m $1 $3 "$(DESTDIR)$2"
 take = rm -f $(foreach file,$2,"$(DESTDIR)$1/$(notdir $(file))")
 section = $(filter %.$1,$(MANUAL))
+PC = "$(DESTDIR)$(LIBDIR)/pkgconfig/tilde.pc"
 in_pc = $(subst $(space),\\$(space),$1)
 
 install: $(BUILT) $(BINDINGS) tilde.pc.in
@@ -147,22 +148,25 @@ install: $(BUILT) $(BINDINGS) tilde.pc.in
 	$(call put,644,$(MANDIR)/man3,$(call section,3))
 	$(call put,644,$(MANDIR)/man7,$(call section,7))
 	$(call put,644,$(DATADIR)/tilde,$(BINDINGS))
-	$(call put,644,$(LIBDIR)/pkgconfig,tilde.pc.in)
-	cd "$(DESTDIR)$(LIBDIR)/pkgconfig" && sed -e 's|@PREFIX@|$(call in_pc,$(PREFIX))|' \
-	    -e 's|@LIBDIR@|$(call in_pc,$(LIBDIR))|' -e 's|@INCLUDEDIR@|$(call in_pc,$(INCLUDEDIR))|' \
-	    -e 's|@DATADIR@|$(call in_pc,$(DATADIR))|' -e 's|@VERSION@|$(VERSION)|' tilde.pc.in >tilde.pc && rm tilde.pc.in
+	install -d "$(DESTDIR)$(LIBDIR)/pkgconfig"
+	sed -e 's|@PREFIX@|$(call in_pc,$(PREFIX))|' -e 's|@LIBDIR@|$(call in_pc,$(LIBDIR))|' \
+	    -e 's|@INCLUDEDIR@|$(call in_pc,$(INCLUDEDIR))|' -e 's|@DATADIR@|$(call in_pc,$(DATADIR))|' \
+	    -e 's|@VERSION@|$(VERSION)|' tilde.pc.in >$(PC)
+	chmod 644 $(PC)
 	@echo 'tilde $(VERSION) is installed; the bindings for Python and Fortran are in $(DATADIR)/tilde.'
 	@echo 'Where programs do not find $(SONAME): run ldconfig as root, or set LD_LIBRARY_PATH to $(LIBDIR).'
 
 uninstall:
 	$(checked)
 	$(call take,$(BINDIR),$(PROGRAMS))
-	$(call take,$(LIBDIR),$(LIBRARIES) $(LINKS) pkgconfig/tilde.pc)
+	$(call take,$(LIBDIR),$(LIBRARIES) $(LINKS))
+	rm -f $(PC)
 	$(call take,$(INCLUDEDIR),$(HEADERS))
 	$(call take,$(MANDIR)/man1,$(call section,1))
 	$(call take,$(MANDIR)/man3,$(call section,3))
 	$(call take,$(MANDIR)/man7,$(call section,7))
 	$(call take,$(DATADIR)/tilde,$(BINDINGS))
+	rmdir "$(DESTDIR)$(DATADIR)/tilde" 2>/dev/null || true
 
 clean:
 	rm -rf build
