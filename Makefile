@@ -34,6 +34,8 @@ MANDIR ?= $(DATADIR)/man
 VERSION := $(shell sed -n 's/^.define TILDE_VERSION "\(.*\)"$$/\1/p' include/tilde.h)
 SONAME := libtilde.so.$(firstword $(subst ., ,$(VERSION)))
 SHARED := libtilde.so.$(VERSION)
+# When the manual was last changed.
+DATE := 2026-11-16
 
 # What is installed. A manual page of section 3 has a link for each other name in its NAME.
 PROGRAMS := build/tilde build/tilde-jobs
@@ -108,13 +110,13 @@ build/tilde: $(filter-out build/tools/exports.o,$(TOOLS)) build/libtilde.a
 build/tilde-jobs: target/bin/jobs
 	cp $< $@
 
-$(PAGES): build/man/%: man/% include/tilde.h | build/man
-	sed 's/@VERSION@/$(VERSION)/' $< >$@
+$(PAGES): build/man/%: man/% include/tilde.h Makefile | build/man
+	sed 's/@VERSION@/$(VERSION)/; s/@DATE@/$(DATE)/' $< >$@
 $(MORE_PAGES): build/man/%.3: $(wildcard man/*.3) | build/man
 	page=$$(grep -lE '^(.*, )?$*(,| \\-)' man/*.3) && echo ".so man3/$${page#man/}" >$@
-build/man/tilde-format.7: docs/FORMATS.md man/from-markdown include/tilde.h | build/man
-	man/from-markdown tilde-format 7 'tilde $(VERSION)' 'format strings of tilde' \
-	    'tilde(1), tilde_format(3), tilde_vet(3)' $< >$@
+build/man/tilde-format.7: docs/FORMATS.md man/from-markdown include/tilde.h Makefile | build/man
+	man/from-markdown name=tilde-format section=7 date=$(DATE) source='tilde $(VERSION)' purpose='format strings of tilde' \
+	    also='tilde(1), tilde_format(3), tilde_vet(3)' $< >$@
 
 check:
 	tests/run
