@@ -1,5 +1,5 @@
-# Builds tilde into build/ and installs it; `make help` says how. GNU make on x86-64 Linux, with gcc or clang. The proved
-# archives come from rt, which is called only where they are older than their sources.
+# Builds tilde into build/ and installs it; `make help` says how. GNU make on x86-64 Linux, with gcc or clang. The
+# proved archives come from rt, which is called only where they are older than their sources.
 
 define HELP
 make             the libraries, the programs and the man pages, in build/; proves what is not proved
@@ -68,7 +68,8 @@ $(error this is $(shell uname -m): the archives of rt link into x86-64 programs 
 endif
 endif
 
-# The proved archives and the program. One rt at a time: they share target/. It may leave a file that is right as it was.
+# The proved archives and the program. One rt at a time: they share target/. It may leave a file that was right as it
+# was, hence touch.
 PROVED_FROM := crates.txt $(shell find crates \( -name edits -o -name must-fail \) -prune -o -type f -print)
 rt = @command -v rt >/dev/null || { echo 'make: $@ is missing or older than crates/, and rt, which builds it, is not \
 there: install the Rattle kit and put its rt on the PATH' >&2; exit 1; }
@@ -115,8 +116,8 @@ $(PAGES): build/man/%: man/% include/tilde.h Makefile | build/man
 $(MORE_PAGES): build/man/%.3: $(wildcard man/*.3) | build/man
 	page=$$(grep -lE '^(.*, )?$*(,| \\-)' man/*.3) && echo ".so man3/$${page#man/}" >$@
 build/man/tilde-format.7: docs/FORMATS.md man/from-markdown include/tilde.h Makefile | build/man
-	man/from-markdown name=tilde-format section=7 date=$(DATE) source='tilde $(VERSION)' purpose='format strings of tilde' \
-	    also='tilde(1), tilde_format(3), tilde_vet(3)' $< >$@
+	man/from-markdown name=tilde-format section=7 date=$(DATE) source='tilde $(VERSION)' \
+	    purpose='format strings of tilde' also='tilde(1), tilde_format(3), tilde_vet(3)' $< >$@
 
 check:
 	tests/run
@@ -127,10 +128,12 @@ quick: all
 empty :=
 space := $(empty) $(empty)
 hash := \#
+FOREIGN := " ' ` \ | & $$ $(hash)
 FOLDERS := PREFIX BINDIR LIBDIR INCLUDEDIR DATADIR MANDIR
-checked = $(foreach name,DESTDIR $(FOLDERS),$(foreach byte," ' ` \ | & $$ $(hash),$(if $(findstring $(byte),$($(name))),\
-    $(error $(name) has a $(byte) in its name, which make install cannot handle: $($(name))))))$(foreach name,$(FOLDERS),\
-    $(if $(filter /%,$(subst $(space),_,$($(name)))),,$(error $(name) has to begin with /: $($(name)))))
+without = $(if $(findstring $2,$($1)),$(error $1 has a $2 in its name, which make install cannot handle: $($1)))
+absolute = $(if $(filter /%,$(subst $(space),_,$($1))),,$(error $1 has to begin with /: $($1)))
+checked = $(foreach name,$(FOLDERS) DESTDIR,$(foreach byte,$(FOREIGN),$(call without,$(name),$(byte))))$(foreach \
+    name,$(FOLDERS),$(call absolute,$(name)))
 
 # $(call put,MODE,FOLDER,FILES) and $(call take,FOLDER,FILES) are the commands that install files in a folder, and that
 # remove them from it.
