@@ -1,5 +1,13 @@
 # The manual: clean, found by every name, true to the headers, with programs that compile.
 
+# Lines in which roff may set another glyph than the byte: a ~ or ^ anywhere, and - or a quote in an example. Some systems
+# set the byte all the same.
+not_pasted='
+    /^\.EX/ { example = 1 }
+    /^\.EE/ { example = 0 }
+    { text = $0; gsub(/\\-/, "", text) }
+    FNR > 1 && (text ~ /[~^`]/ || example && text ~ /[-\047]/) { print FILENAME ": " $0 }'
+
 check_manual() {
     local page found
     if ! there man || ! there groff; then
@@ -17,6 +25,7 @@ check_manual() {
         fi
     done
     there mandoc || skip "mandoc is not there: its lint"
+    same "no glyph that a reader could not paste" "" "$(cd build/man && awk "$not_pasted" tilde*)"
     check_values
     check_links
     for page in man/*.3; do check_example "$(basename "$page" .3)"; done
