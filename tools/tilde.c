@@ -11,6 +11,9 @@ static const struct verb {
     int (*run)(int argc, char **argv, const struct streams *io);
 } verbs[] = {
     {"try", "the line that a format makes of values, or what is wrong", try_help, verb_try},
+    {"vet", "how long a line can get, for arguments of given kinds", vet_help, verb_vet},
+    {"explain", "what a code means, with a wrong format and its correction", explain_help, verb_explain},
+    {"directives", "what each directive takes, with an example", directives_help, verb_directives},
     {"lines", "a line for each row of values on standard input", lines_help, verb_lines},
 };
 
@@ -64,10 +67,20 @@ static int complain_verb(const char *name, FILE *err)
             nearest = i;
     fputs("tilde: ", err);
     show_word(err, name, strlen(name));
-    if (distance(name, verbs[nearest].name) <= 2)
+    if (name[0] == '-') {
+        fputs(" is no option; there are --help and --version, and those of a verb, which stand behind it\n", err);
+    } else if (strchr(name, '~') != NULL) {
+        fputs(" is no verb; to see the line of a format type tilde try ", err);
+        show_word(err, name, strlen(name));
+        fputs(" VALUE..\n", err);
+    } else if (distance(name, verbs[nearest].name) <= 2) {
         fprintf(err, " is no verb; did you mean tilde %s?\n", verbs[nearest].name);
-    else
-        fputs(" is no verb; type tilde --help for those that there are\n", err);
+    } else {
+        fputs(" is no verb; there are", err);
+        for (size_t i = 0; i < VERBS; i++)
+            fprintf(err, " %s", verbs[i].name);
+        fputs(", and tilde --help shows them\n", err);
+    }
     return STATUS_USAGE;
 }
 
