@@ -11,9 +11,9 @@ static int wrong(struct fault *fault, const char *what)
     return 0;
 }
 
-static int add_value(tilde_table *table, struct fault *fault, const char *what)
+static int add_value(tilde_table *table, struct fault *fault)
 {
-    fault->wrong = what;
+    fault->wrong = "cannot be read";
     return value_read(table, (const char *)fault->bytes, fault->length, &fault->complaint);
 }
 
@@ -49,11 +49,10 @@ static int add_boolean(tilde_table *table, struct fault *fault)
 
 static int add_character(tilde_table *table, struct fault *fault)
 {
-    static const char what[] = "is no character, which is one byte of 0 to 127 or is written #\\x and two digits, as #\\x41";
     if (begins(fault, "#\\"))
-        return add_value(table, fault, what);
+        return add_value(table, fault);
     if (fault->length != 1 || fault->bytes[0] > 127)
-        return wrong(fault, what);
+        return wrong(fault, "is no character; type one byte of 0 to 127, or its number as #\\x41");
     return tilde_table_character(table, fault->bytes[0]) || no_room(fault);
 }
 
@@ -70,8 +69,7 @@ static int add_field(tilde_table *table, struct fault *fault)
     case TILDE_CHARACTER:
         return add_character(table, fault);
     default:
-        return begins(fault, "(") ? add_value(table, fault, "is no list")
-                                  : wrong(fault, "is no list, which is written as (1 \"a\" (2))");
+        return begins(fault, "(") ? add_value(table, fault) : wrong(fault, "is no list; type it as (1 \"a\" (2))");
     }
 }
 

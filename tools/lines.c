@@ -2,35 +2,41 @@
 #include "lines_run.h"
 #include "options.h"
 #include "refusal.h"
+#include "wording.h"
 
 #include <string.h>
 
 const char lines_help[] =
     "usage: tilde lines [--strict] [--all] FORMAT KIND..\n"
     "\n"
-    "Reads rows of fields from standard input, with a tab between two fields, and writes the line that the format makes\n"
-    "of each row. There is one KIND for each field, a word or its first letter:\n"
+    "Reads rows of fields from standard input, with a tab between two fields, and\n"
+    "writes the line that the format makes of each row. There is one KIND for each\n"
+    "field, a word or its first letter:\n"
     "\n"
     "  integer    a whole number of 64 bits, as -850\n"
     "  string     the bytes of the field as they stand; quotes are bytes of it\n"
     "  boolean    #t or #f\n"
-    "  character  one byte of 0 to 127, or #\\x and two hexadecimal digits, as #\\x09 for a tab\n"
-    "  list       values in brackets, as (1 \"a\" (2)); in it a string has quotes, as for tilde try\n"
+    "  character  one byte of 0 to 127, or its number as #\\x41\n"
+    "  list       values in brackets, as for tilde try: (1 \"a\" (2))\n"
     "\n"
     "  tilde lines '~8a ~3d ~a~%' string integer string <stations >report\n"
     "\n"
-    "Nothing is added to what the format writes: with ~% at its end each line stands on its own, and without it the\n"
-    "lines are joined.\n"
-    "A row ends with a newline, which the last one may lack. A return at the end of a row is dropped, so that rows of\n"
-    "files with \\r\\n are read like others. A row has at most 524,288 bytes, and its values at most 65,536 bytes of\n"
-    "strings and 1,024 values, those in lists too.\n"
-    "A row with a bad field, or one that the format refuses, gives no line: its number is told on standard error, and\n"
-    "the other rows go on. The first 20 such rows are told, and a summary at the end has the number of all.\n"
+    "Nothing is added to what the format writes. With ~% at its end each line stands\n"
+    "on its own, and without that the lines are joined.\n"
+    "\n"
+    "A row ends with a newline, which the last one may lack. A return at the end of a\n"
+    "row is dropped, so that files with \\r\\n are read like others. A row has at most\n"
+    "524,288 bytes, with 65,536 bytes of strings and 1,024 values, those in lists too.\n"
+    "\n"
+    "A row with a bad field, or one that the format refuses, gives no line: it is told\n"
+    "on standard error with its number, and the other rows go on. The first 20 such\n"
+    "rows are told, and a summary at the end says how many there were.\n"
     "  --strict  stops at the first such row\n"
-    "  --all     tells every such row\n"
+    "  --all     tells all of them\n"
     "  --        ends the options\n"
     "\n"
-    "Status: 0 done, 1 refused: the format, or at least one row, 2 wrong usage, or an input or output that failed.\n";
+    "Status: 0 done, 1 refused (the format, or at least one row), 2 wrong usage, or an\n"
+    "input or output that failed.\n";
 
 /* The longest row has room for all that a table holds, with each byte of a string as an escape of four. */
 static const struct lines_sizes usual = {.longest = 524288, .chunk = 65536, .held = 131072};
@@ -38,13 +44,13 @@ static const struct lines_sizes usual = {.longest = 524288, .chunk = 65536, .hel
 /* Sets the kinds from their words; 0 after a complaint. */
 static int read_kinds(struct kinds *kinds, int argc, char **argv, FILE *err)
 {
-    if (argc == 0 || argc > TILDE_MOST_KINDS) {
-        fprintf(err, argc == 0 ? "tilde lines: the kinds of the fields are missing; type one for each: "
-                                 "tilde lines FORMAT KIND..\n"
-                               : "tilde lines: these are %d kinds; a row has at most %d fields\n",
-                argc, TILDE_MOST_KINDS);
+    if (argc == 0)
+        fputs("tilde lines: the kinds of the fields are missing; type tilde lines FORMAT KIND.., a kind for each\n", err);
+    if (argc > TILDE_MOST_KINDS)
+        print_numbers(err, "tilde lines: there are ~:d kinds, and a row has at most ~:d fields~%",
+                     (uint64_t[]){(uint64_t)argc, TILDE_MOST_KINDS}, 2);
+    if (argc == 0 || argc > TILDE_MOST_KINDS)
         return 0;
-    }
     for (kinds->count = 0; kinds->count < (size_t)argc; kinds->count++)
         if (!kind_read(argv[kinds->count], &kinds->tags[kinds->count])) {
             kind_complain(err, argv[kinds->count]);
@@ -53,20 +59,18 @@ static int read_kinds(struct kinds *kinds, int argc, char **argv, FILE *err)
     return 1;
 }
 
-/* Whether no row can have a line: the text is wrong, or it is plain and wrong for the kinds. With a conditional the vet
-   judges clauses that no row may pick. */
+/* Whether no row can have a line, which is told: the text is wrong, or it is plain and wrong for the kinds. Of a format
+   with a conditional the vet judges clauses that no row may pick. */
 static int refuses_all(const struct lines_job *job, FILE *err)
 {
-    static const uint8_t no_arguments[TILDE_HEADER_BYTES] = {0};
+    const struct question question = {job->format, job->format_length, job->kinds.tags, job->kinds.count, 0};
     size_t position, count;
-    const uint32_t code = tilde_vet(job->format, job->format_length, job->kinds.tags, job->kinds.count, 0, &position,
-                                    &count);
-    if (code < TILDE_LONG_FORMAT || code > TILDE_OUT_OF_RANGE)
+    const uint32_t code = tilde_vet(question.format, question.format_length, question.kinds, question.kinds_length,
+                                    question.longest, &position, &count);
+    const int conditional = memchr(job->format, '[', job->format_length) != NULL;
+    if (code < TILDE_LONG_FORMAT || code > (conditional ? TILDE_BAD_PARAMETER : TILDE_OUT_OF_RANGE))
         return 0;
-    if (code > TILDE_BAD_PARAMETER && memchr(job->format, '[', job->format_length) != NULL)
-        return 0;
-    const struct call call = {job->format, job->format_length, no_arguments, sizeof no_arguments};
-    refusal_print(err, &call, code, position);
+    refusal_print_vet(err, &question, code, position);
     return 1;
 }
 

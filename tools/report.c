@@ -1,9 +1,11 @@
 #define _POSIX_C_SOURCE 200809L
 #include "report.h"
 
+#include "wording.h"
+
+#include <errno.h>
 #include <inttypes.h>
 #include <string.h>
-#include <tilde_table.h>
 #include <time.h>
 #include <unistd.h>
 
@@ -20,28 +22,17 @@ static int64_t now(void)
     return (int64_t)time.tv_sec * 1000 + time.tv_nsec / 1000000;
 }
 
-/* Prints a format over counts, and answers how many bytes it wrote. */
-static size_t print_counts(FILE *to, const char *format, const uint64_t *counts, size_t count)
-{
-    uint8_t room[TILDE_HEADER_BYTES + 4 * TILDE_ENTRY_BYTES], text[256];
-    size_t position, steps, written;
-    tilde_table table;
-    tilde_table_begin(&table, room, sizeof room);
-    for (size_t i = 0; i < count; i++)
-        tilde_table_integer(&table, (int64_t)counts[i]);
-    tilde_format((const uint8_t *)format, strlen(format), room, tilde_table_end(&table), text, sizeof text, &position,
-                 &steps, &written);
-    return fwrite(text, 1, written, to);
-}
-
 void report_begin(struct report *report, const struct streams *io, int all)
 {
     *report = (struct report){.err = io->err, .most_told = all ? UINT64_MAX : TOLD, .seen = isatty(fileno(io->err))};
     report->followed = report->seen && !isatty(fileno(io->out));
     report->next = now() + PATIENCE;
+    if (report->seen && isatty(fileno(io->in)))
+        fputs("tilde lines: type rows, with a tab between two fields; Ctrl-D ends them\n", io->err);
 }
 
-void report_clear(struct report *report)
+/* Makes way for a message. */
+static void clear_progress(struct report *report)
 {
     if (report->columns > 0)
         fprintf(report->err, "\r%*s\r", (int)report->columns, "");
@@ -55,7 +46,7 @@ void report_row(struct report *report)
         return;
     const uint64_t counts[] = {report->rows, report->refused};
     fputc('\r', report->err);
-    report->columns = print_counts(report->err, "~:d row~:p, ~:d refused", counts, 2);
+    report->columns = print_numbers(report->err, "~:d row~:p, ~:d refused", counts, 2);
     fflush(report->err);
     report->next = now() + PAUSE;
 }
@@ -71,24 +62,32 @@ int report_refuse(struct report *report)
     report->refused++;
     if (!told)
         return 0;
-    report_clear(report);
+    clear_progress(report);
     fprintf(report->err, "row %" PRIu64, report->rows);
     return 1;
+}
+
+void report_failure(struct report *report, const char *what)
+{
+    const char *const cause = strerror(errno);
+    clear_progress(report);
+    fprintf(report->err, "tilde lines: cannot %s: %s; stopped after ", what, cause);
+    print_numbers(report->err, "~:d row~:p~%", &report->rows, 1);
 }
 
 static void print_summary(struct report *report, int stopped)
 {
     const uint64_t untold = report->refused > report->most_told ? report->refused - report->most_told : 0;
     const uint64_t counts[] = {report->rows, report->rows - report->refused, report->refused, untold};
-    print_counts(report->err, "~:d row~:p: ~:d line~:p, ~:d refused", counts, 3);
+    print_numbers(report->err, "~:d row~:p: ~:d line~:p, ~:d refused", counts, 3);
     if (untold > 0)
-        print_counts(report->err, "; ~3*~:d of them not told, --all tells them", counts, 4);
+        print_numbers(report->err, "; ~3*~:d of them not told, --all tells them", counts, 4);
     fputs(stopped ? "; stopped there, as --strict says\n" : "\n", report->err);
 }
 
 void report_end(struct report *report, int stopped, int unended)
 {
-    report_clear(report);
+    clear_progress(report);
     if (report->seen && unended)
         fprintf(report->err, "%stilde lines: the last line has no newline at its end, and none is added; ~%% writes one\n",
                 report->followed ? "" : "\n");

@@ -23,14 +23,14 @@ void report_begin(struct report *report, const struct streams *io, int all);
 /* Call it for every row: it shows how far it has come where it is time for that. */
 void report_row(struct report *report);
 
-/* Makes way for a message. */
-void report_clear(struct report *report);
-
 /* Whether another refused row is told. */
 int report_tells(const struct report *report);
 
 /* Refuses the row in hand. Answers whether that is told: then its number is printed, and the caller prints why. */
 int report_refuse(struct report *report);
+
+/* Says what cannot be done, and the cause that errno has. */
+void report_failure(struct report *report, const char *what);
 
 /* Prints the summary where rows were refused; to a person, also that the last line lacks a newline. */
 void report_end(struct report *report, int stopped, int unended);

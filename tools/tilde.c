@@ -122,7 +122,8 @@ int tilde_command(int argc, char **argv, FILE *in, FILE *out, FILE *err)
     const struct streams io = {in, out, err};
     const int status = run(argc, argv, &io);
     errno = 0;
-    if (fflush(out) != 0 || ferror(out)) {
+    /* a verb that answers STATUS_USAGE has told why */
+    if ((fflush(out) != 0 || ferror(out)) && status != STATUS_USAGE) {
         fprintf(err, "tilde: cannot write the output: %s\n", errno != 0 ? strerror(errno) : "a write failed");
         return STATUS_USAGE;
     }
