@@ -1,0 +1,61 @@
+# Programs that others build with the installed headers and libraries.
+
+warnings=(-Wall -Wextra -Wpedantic -Wconversion -Wshadow -Werror)
+
+# flags WORD..: what pkg-config answers about the installation in $1 with those words, as words of a shell.
+flags() {
+    local from=$1
+    shift
+    PKG_CONFIG_PATH="$from/lib/pkgconfig" pkg-config "$@" tilde
+}
+
+# built COMPILER STANDARD HOW FROM SOURCE..: builds a program against the installation in FROM, shared or static, runs it
+# and keeps what it prints in $room/printed.
+built() {
+    local compiler=$1 standard=$2 how=$3 from=$4 language=c
+    local needs
+    shift 4
+    [[ $standard != c++* ]] || language=c++
+    rm -f "$room/program"
+    if [ "$how" = static ]; then
+        eval "words=(-static $(flags "$from" --static --cflags --libs))"
+    else
+        eval "words=($(flags "$from" --cflags --libs))"
+    fi
+    check "$compiler -std=$standard, $how: $*" "$compiler" -std="$standard" "${warnings[@]}" -o "$room/program" \
+        -x "$language" "$@" -x none "${words[@]}"
+    needs=$(readelf -dW "$room/program" | grep -c 'NEEDED.*libtilde\.so\.0' || true)
+    same "$how means so" "$([ "$how" = static ] && echo 0 || echo 1)" "$needs"
+    LD_LIBRARY_PATH="$from/lib" "$room/program" >"$room/printed" || fail "$*, built by $compiler, ends with status $?"
+}
+
+check_programs() {
+    local compiler standard how line='Harlingen     1013 hPa, 3 gusts'
+    for compiler in gcc g++ clang clang++; do
+        there "$compiler" || { skip "$compiler is not there"; continue; }
+        standard=c99
+        [[ $compiler != *++ ]] || standard=c++17
+        for how in shared static; do
+            built "$compiler" $standard $how "$prefix" examples/first.c
+            same "what examples/first.c prints" "$line" "$(cat "$room/printed")"
+            built "$compiler" $standard $how "$prefix" tests/install/unit.c tests/install/other_unit.c
+            same "what two units with both headers print" "3 values, 3 values, tilde $version" "$(cat "$room/printed")"
+        done
+    done
+    check_space
+    same "the installed tilde" "$version" "$("$prefix/bin/tilde" --version | awk '{ print $NF }')"
+    same "the line of the installed tilde" "$line" \
+        "$("$prefix/bin/tilde" try '~12a ~5d hPa, ~d gust~:p' '"Harlingen"' 1013 3)"
+    check "the installed tilde is that of build/" cmp build/tilde "$prefix/bin/tilde"
+    check "the installed tilde-jobs is that of target/" cmp target/bin/jobs "$prefix/bin/tilde-jobs"
+}
+
+# A prefix with a space works, for those who let the shell read what pkg-config says.
+check_space() {
+    local prefix="$room/with space"
+    check "make install with a space" make install "PREFIX=$prefix"
+    built gcc c99 shared "$prefix" examples/first.c
+    built gcc c99 static "$prefix" examples/first.c
+    check "make uninstall with a space" make uninstall "PREFIX=$prefix"
+    same "no file is left" "" "$(files_of "$prefix")"
+}
