@@ -1,5 +1,5 @@
-/* Formats and vets tilde format strings over byte slices, into one buffer or small windows. Link with libtilde.a,
-   and for tilde_resume and tilde_window with libtilde_windows.a before it. */
+/* Formats and vets tilde format strings over byte slices, into one buffer or small windows. Link with -ltilde: the
+   libtilde.a or libtilde.so that make builds. */
 #ifndef TILDE_H
 #define TILDE_H
 
@@ -12,6 +12,9 @@
 #ifdef __cplusplus
 extern "C" {
 #endif
+
+/* The version of the library that a program was linked with or has loaded, in the form of TILDE_VERSION. */
+const char *tilde_version(void);
 
 /* What the calls answer. A position is an offset in the format, for TILDE_BAD_TABLE in the table. */
 enum tilde_code {
