@@ -77,9 +77,13 @@ module tilde_c
       integer(c_int32_t), value, intent(in) :: code
     end function tilde_c_words
 
-    integer(c_size_t) function tilde_c_length(words) bind(c, name='strlen')
+    type(c_ptr) function tilde_c_version() bind(c, name='tilde_version')
+      import :: c_ptr
+    end function tilde_c_version
+
+    integer(c_size_t) function tilde_c_length(text) bind(c, name='strlen')
       import :: c_ptr, c_size_t
-      type(c_ptr), value, intent(in) :: words
+      type(c_ptr), value, intent(in) :: text
     end function tilde_c_length
 
     integer(c_int) function tilde_c_begin(table, room, size) bind(c, name='tilde_table_begin')
@@ -137,7 +141,7 @@ module tilde
   use tilde_c
   implicit none
   private
-  public :: tilde_format, tilde_format_into, tilde_window, tilde_vet, tilde_words
+  public :: tilde_format, tilde_format_into, tilde_window, tilde_vet, tilde_words, tilde_version
 
   ! The codes.
   integer, parameter, public :: tilde_done = 0, tilde_bad_table = 1, tilde_long_format = 2, tilde_unknown_code = 3, &
@@ -425,12 +429,23 @@ contains
   function tilde_words(code) result(words)
     integer, intent(in) :: code
     character(len=:), allocatable :: words
-    character(kind=c_char), pointer :: bytes(:)
-    type(c_ptr) :: from
-    from = tilde_c_words(int(code, c_int32_t))
-    call c_f_pointer(from, bytes, [tilde_c_length(from)])
-    words = repeat(' ', size(bytes))
-    words = transfer(bytes, words)
+    words = text_at(tilde_c_words(int(code, c_int32_t)))
   end function tilde_words
+
+  ! The version of the library.
+  function tilde_version() result(version)
+    character(len=:), allocatable :: version
+    version = text_at(tilde_c_version())
+  end function tilde_version
+
+  ! What stands at a pointer of C, up to its zero byte.
+  function text_at(from) result(text)
+    type(c_ptr), intent(in) :: from
+    character(len=:), allocatable :: text
+    character(kind=c_char), pointer :: bytes(:)
+    call c_f_pointer(from, bytes, [tilde_c_length(from)])
+    text = repeat(' ', size(bytes))
+    text = transfer(bytes, text)
+  end function text_at
 
 end module tilde

@@ -39,9 +39,9 @@ import os
 from ctypes import POINTER, byref, c_char, c_char_p, c_int, c_int64, c_size_t, c_uint, c_uint32, c_void_p, sizeof
 from typing import Any, Callable, Iterable, Iterator, List, NamedTuple, Union
 
-__all__ = ["Answer", "Char", "Code", "Kind", "Line", "Refused", "format", "format_table", "table", "vet", "windows",
-           "words", "MORE", "HEADER_BYTES", "ENTRY_BYTES", "MOST_ENTRIES", "MOST_POOL", "MOST_FORMAT", "MOST_STEPS",
-           "MOST_KINDS", "MOST_LONGEST"]
+__all__ = ["Answer", "Char", "Code", "Kind", "Line", "Refused", "format", "format_table", "table", "version", "vet",
+           "windows", "words", "MORE", "HEADER_BYTES", "ENTRY_BYTES", "MOST_ENTRIES", "MOST_POOL", "MOST_FORMAT",
+           "MOST_STEPS", "MOST_KINDS", "MOST_LONGEST"]
 
 Text = Union[str, bytes, bytearray, memoryview]
 _TEXTS = (str, bytes, bytearray, memoryview)
@@ -79,7 +79,7 @@ def _load() -> ctypes.CDLL:
     try:
         return ctypes.CDLL(path)
     except OSError as error:
-        raise ImportError(f"no library can be loaded from {path} ({error}): install libtilde, or {_SET}",
+        raise ImportError(f"libtilde is not there ({error}): install it, or {_SET}",
                           name=__name__, path=path) from None
 
 
@@ -99,6 +99,7 @@ def _function(name: str, answer: Any, *arguments: Any) -> Callable[..., Any]:
 _BYTES = (c_char_p, c_size_t)
 _RESULT = POINTER(c_size_t)
 _TABLE = POINTER(_Table)
+_version = _function("tilde_version", c_char_p)
 _words = _function("tilde_words", c_char_p, c_uint32)
 _format = _function("tilde_format", c_uint32, *_BYTES, *_BYTES, *_BYTES, _RESULT, _RESULT, _RESULT)
 _window = _function("tilde_window", c_uint32, POINTER(_State), *_BYTES, *_BYTES, *_BYTES, _RESULT, _RESULT, _RESULT)
@@ -111,6 +112,11 @@ _string = _function("tilde_table_string", c_int, _TABLE, *_BYTES)
 _list_begin = _function("tilde_table_list_begin", c_int, _TABLE)
 _list_end = _function("tilde_table_list_end", c_int, _TABLE)
 _end = _function("tilde_table_end", c_size_t, _TABLE)
+
+
+def version() -> str:
+    """The version of the library that was loaded."""
+    return _version().decode("ascii")
 
 
 def words(code: int) -> str:
