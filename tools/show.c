@@ -1,0 +1,175 @@
+#include "show.h"
+
+#include "entries.h"
+
+#include <inttypes.h>
+#include <string.h>
+#include <tilde.h>
+
+/* A shortened string shows about so many bytes, a shortened list so many values. */
+#define SHORT_STRING ((size_t)32)
+#define SHORT_LIST ((size_t)4)
+
+size_t utf8_length(const uint8_t *bytes, size_t length)
+{
+    const uint8_t lead = bytes[0];
+    const size_t wanted = lead < 0x80 ? 1 : lead < 0xc2 ? 0 : lead < 0xe0 ? 2 : lead < 0xf0 ? 3 : lead < 0xf5 ? 4 : 0;
+    if (wanted > length)
+        return 0;
+    for (size_t i = 1; i < wanted; i++)
+        if ((bytes[i] & 0xc0) != 0x80)
+            return 0;
+    /* too long a form, a surrogate, or above 0x10ffff */
+    if ((lead == 0xe0 && bytes[1] < 0xa0) || (lead == 0xed && bytes[1] >= 0xa0) || (lead == 0xf0 && bytes[1] < 0x90) ||
+        (lead == 0xf4 && bytes[1] >= 0x90))
+        return 0;
+    return wanted;
+}
+
+int is_text(const uint8_t *bytes, size_t taken)
+{
+    if (taken == 1)
+        return (bytes[0] >= 32 && bytes[0] < 127) || bytes[0] == '\n' || bytes[0] == '\t';
+    /* the controls 0x80 to 0x9f */
+    return taken > 1 && !(bytes[0] == 0xc2 && bytes[1] < 0xa0);
+}
+
+struct shown show_next(const uint8_t *bytes, size_t length)
+{
+    static const char controls[] = "\n\t\r\\", letters[] = "ntr\\";
+    struct shown shown = {.bytes = utf8_length(bytes, length), .columns = 1};
+    const char *control = bytes[0] == 0 ? NULL : strchr(controls, bytes[0]);
+    if (control != NULL) {
+        shown.text[0] = '\\';
+        shown.text[1] = letters[control - controls];
+        shown.columns = 2;
+    } else if (is_text(bytes, shown.bytes)) {
+        memcpy(shown.text, bytes, shown.bytes);
+    } else {
+        snprintf(shown.text, sizeof shown.text, "\\x%02x", (unsigned)bytes[0]);
+        shown.bytes = 1;
+        shown.columns = 4;
+    }
+    return shown;
+}
+
+void show_bytes(FILE *to, const uint8_t *bytes, size_t length)
+{
+    while (length > 0) {
+        const struct shown shown = show_next(bytes, length);
+        fputs(bytes[0] == '"' ? "\\x22" : shown.text, to);
+        bytes += shown.bytes;
+        length -= shown.bytes;
+    }
+}
+
+/* Whether a byte goes on with a character that began before it. */
+static int goes_on(uint8_t byte)
+{
+    return (byte & 0xc0) == 0x80;
+}
+
+void show_string(FILE *to, const uint8_t *bytes, size_t length)
+{
+    size_t some = length;
+    if (length > SHORT_STRING + 8) {
+        some = SHORT_STRING;
+        while (some > SHORT_STRING - 4 && goes_on(bytes[some]))
+            some--;
+    }
+    fputc('"', to);
+    show_bytes(to, bytes, some);
+    fputs(some < length ? "..\"" : "\"", to);
+}
+
+void show_end(FILE *to, const uint8_t *bytes, size_t length, int more)
+{
+    size_t from = 0;
+    if (length > SHORT_STRING + 8) {
+        from = length - SHORT_STRING;
+        while (from < length - SHORT_STRING + 4 && goes_on(bytes[from]))
+            from++;
+    }
+    fputs(from > 0 || more ? "\".." : "\"", to);
+    show_bytes(to, bytes + from, length - from);
+    fputc('"', to);
+}
+
+static void show_character(FILE *to, int64_t character)
+{
+    if (character > 32 && character < 127)
+        fprintf(to, "#\\%c", (char)character);
+    else
+        fprintf(to, "#\\x%02x", (unsigned)character);
+}
+
+/* Prints an entry; of a list inside a list only that it is one. */
+static void show_member(FILE *to, const uint8_t *table, size_t i)
+{
+    const struct entry entry = entry_at(table, i);
+    switch (entry.tag) {
+    case TILDE_BOOLEAN:
+        fputs(entry.number ? "#t" : "#f", to);
+        break;
+    case TILDE_INTEGER:
+        fprintf(to, "%" PRId64, entry.number);
+        break;
+    case TILDE_CHARACTER:
+        show_character(to, entry.number);
+        break;
+    case TILDE_STRING:
+        show_string(to, entry.bytes, entry.length);
+        break;
+    default:
+        fputs(entry.length > 0 ? "(..)" : "()", to);
+    }
+}
+
+void show_value(FILE *to, const uint8_t *table, size_t i)
+{
+    const struct entry entry = entry_at(table, i);
+    if (entry.tag != TILDE_LIST) {
+        show_member(to, table, i);
+        return;
+    }
+    fputc('(', to);
+    for (size_t j = 0; j < entry.length && j < SHORT_LIST; j++) {
+        fputs(j > 0 ? " " : "", to);
+        show_member(to, table, entry.first + j);
+    }
+    fputs(entry.length > SHORT_LIST ? " ..)" : ")", to);
+}
+
+/* A byte that a shell takes as it stands, alone or inside a word. */
+static int is_plain(char byte)
+{
+    return (byte >= 'a' && byte <= 'z') || (byte >= 'A' && byte <= 'Z') || (byte >= '0' && byte <= '9') ||
+           (byte != '\0' && strchr("-_.,/:@%+=", byte) != NULL);
+}
+
+/* A byte that has a meaning between double quotes. */
+static int is_special(char byte)
+{
+    return byte == '\0' || strchr("$`\\\"!", byte) != NULL;
+}
+
+void show_word(FILE *to, const char *text, size_t length)
+{
+    int plain = length > 0, single = 0, special = 0;
+    for (size_t i = 0; i < length; i++) {
+        plain = plain && is_plain(text[i]);
+        single = single || text[i] == '\'';
+        special = special || is_special(text[i]);
+    }
+    const char *quote = plain ? "" : single && !special ? "\"" : "'";
+    fputs(quote, to);
+    for (size_t i = 0; i < length;) {
+        const struct shown shown = show_next((const uint8_t *)text + i, length - i);
+        if (text[i] == '\'' && quote[0] == '\'')
+            fputs("'\\''", to);
+        else
+            fputs(text[i] == '\\' ? "\\" : shown.text, to);
+        i += shown.bytes;
+    }
+    fputs(quote, to);
+}

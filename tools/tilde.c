@@ -1,0 +1,117 @@
+#include "options.h"
+#include "show.h"
+#include "verbs.h"
+
+#include <errno.h>
+#include <string.h>
+#include <tilde.h>
+
+static const struct verb {
+    const char *name, *summary, *help;
+    int (*run)(int argc, char **argv, const struct streams *io);
+} verbs[] = {
+    {"try", "the line that a format makes of values, or what is wrong", try_help, verb_try},
+    {"lines", "a line for each row of values on standard input", lines_help, verb_lines},
+};
+
+#define VERBS (sizeof verbs / sizeof verbs[0])
+
+static const struct verb *verb_named(const char *name)
+{
+    for (size_t i = 0; i < VERBS; i++)
+        if (strcmp(verbs[i].name, name) == 0)
+            return verbs + i;
+    return NULL;
+}
+
+static void print_overview(FILE *to)
+{
+    fputs("usage: tilde VERB ..\n\n", to);
+    for (size_t i = 0; i < VERBS; i++)
+        fprintf(to, "  tilde %-11s %s\n", verbs[i].name, verbs[i].summary);
+    fputs("  tilde help VERB   what to type behind a verb\n"
+          "  tilde --version   the version\n\n"
+          "Status: 0 done, 1 refused, 2 wrong usage or an output that could not be written.\n", to);
+}
+
+/* How many bytes have to be put in, taken out or exchanged to make one word of the other; long words count as far. */
+static size_t distance(const char *one, const char *other)
+{
+    enum { MOST = 16 };
+    size_t row[MOST + 1];
+    const size_t length = strlen(other);
+    if (length > MOST || strlen(one) > MOST)
+        return MOST;
+    for (size_t j = 0; j <= length; j++)
+        row[j] = j;
+    for (size_t i = 0; one[i] != '\0'; i++) {
+        size_t corner = row[0]++;
+        for (size_t j = 1; j <= length; j++) {
+            const size_t exchanged = corner + (one[i] != other[j - 1]);
+            const size_t shorter = row[j] < row[j - 1] ? row[j] + 1 : row[j - 1] + 1;
+            corner = row[j];
+            row[j] = exchanged < shorter ? exchanged : shorter;
+        }
+    }
+    return row[length];
+}
+
+static int complain_verb(const char *name, FILE *err)
+{
+    size_t nearest = 0;
+    for (size_t i = 1; i < VERBS; i++)
+        if (distance(name, verbs[i].name) < distance(name, verbs[nearest].name))
+            nearest = i;
+    fputs("tilde: ", err);
+    show_word(err, name, strlen(name));
+    if (distance(name, verbs[nearest].name) <= 2)
+        fprintf(err, " is no verb; did you mean tilde %s?\n", verbs[nearest].name);
+    else
+        fputs(" is no verb; type tilde --help for those that there are\n", err);
+    return STATUS_USAGE;
+}
+
+static int help(const char *name, const struct streams *io)
+{
+    const struct verb *verb = name == NULL ? NULL : verb_named(name);
+    if (name != NULL && verb == NULL)
+        return complain_verb(name, io->err);
+    if (verb == NULL)
+        print_overview(io->out);
+    else
+        fputs(verb->help, io->out);
+    return STATUS_DONE;
+}
+
+static int run(int argc, char **argv, const struct streams *io)
+{
+    const char *name = argc > 1 ? argv[1] : NULL;
+    if (name == NULL) {
+        print_overview(io->err);
+        return STATUS_USAGE;
+    }
+    if (strcmp(name, "--help") == 0 || strcmp(name, "-h") == 0 || strcmp(name, "help") == 0)
+        return help(argc > 2 ? argv[2] : NULL, io);
+    if (strcmp(name, "--version") == 0) {
+        fprintf(io->out, "tilde %s\n", TILDE_VERSION);
+        return STATUS_DONE;
+    }
+    const struct verb *verb = verb_named(name);
+    if (verb == NULL)
+        return complain_verb(name, io->err);
+    if (options_ask_help(argc - 2, argv + 2))
+        return help(name, io);
+    return verb->run(argc - 2, argv + 2, io);
+}
+
+int tilde_command(int argc, char **argv, FILE *in, FILE *out, FILE *err)
+{
+    const struct streams io = {in, out, err};
+    const int status = run(argc, argv, &io);
+    errno = 0;
+    if (fflush(out) != 0 || ferror(out)) {
+        fprintf(err, "tilde: cannot write the output: %s\n", errno != 0 ? strerror(errno) : "a write failed");
+        return STATUS_USAGE;
+    }
+    return fflush(err) != 0 || ferror(err) ? STATUS_USAGE : status;
+}

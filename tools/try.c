@@ -1,0 +1,81 @@
+#include "options.h"
+#include "refusal.h"
+#include "running.h"
+#include "values.h"
+#include "verbs.h"
+
+const char try_help[] =
+    "usage: tilde try [--raw] FORMAT [VALUE]...\n"
+    "\n"
+    "Prints the line that a format makes of the values, and a newline where the line has none at its end.\n"
+    "\n"
+    "Values: 850 a whole number of 64 bits, \"wind\" a string, #\\A or #\\x41 a character, #t and #f booleans,\n"
+    "(1 \"a\" (2)) a list. In a string \\n \\t \\r \\\\ \\s \\h are newline, tab, return, backslash, space and #,\n"
+    "\\xHH is any byte (a quote is \\x22), and \\*80(-) is 80 times -.\n"
+    "A shell takes quotes, #, brackets and a tilde for itself: put each word in single quotes, or in double quotes\n"
+    "where the word has a single one.\n"
+    "\n"
+    "  tilde try '~a: ~d hPa' '\"wind\"' 850\n"
+    "  tilde try \"~5,'0d\" 42\n"
+    "\n"
+    "A line with bytes that a terminal does not show as text is shown in that notation, with a note.\n"
+    "  --raw   writes the bytes as they are, and adds no newline\n"
+    "  --      ends the options; a negative number is a value anyway\n"
+    "\n"
+    "Status: 0 done, 1 refused, 2 wrong usage or an output that could not be written.\n";
+
+/* Adds the values to a table; answers its length, 0 after a complaint. */
+static size_t read_values(int argc, char **argv, uint8_t *room, size_t size, FILE *err)
+{
+    tilde_table table;
+    tilde_table_begin(&table, room, size);
+    for (int i = 0; i < argc; i++) {
+        struct complaint complaint;
+        if (!value_read(&table, argv[i], strlen(argv[i]), &complaint)) {
+            value_complain(err, (size_t)i + 1, argv[i], strlen(argv[i]), &complaint);
+            return 0;
+        }
+    }
+    return tilde_table_end(&table);
+}
+
+static void print_line(const struct call *call, const struct learned *learned, const struct streams *io)
+{
+    if (!learned->is_text) {
+        line_show(call, io->out);
+        fputc('\n', io->out);
+        fputs("tilde: the line has bytes that are no text for a terminal, so it is shown escaped; "
+              "--raw writes it as it is\n", io->err);
+        return;
+    }
+    line_write(call, io->out);
+    if (learned->tail_length == 0 || learned->tail[learned->tail_length - 1] != '\n')
+        fputc('\n', io->out);
+}
+
+int verb_try(int argc, char **argv, const struct streams *io)
+{
+    uint8_t table[TILDE_HEADER_BYTES + TILDE_ENTRY_BYTES * TILDE_MOST_ENTRIES + TILDE_MOST_POOL];
+    int raw = 0;
+    const struct option options[] = {{"--raw", &raw, NULL}};
+    argc = options_take("try", argc, argv, options, 1, io->err);
+    if (argc < 1) {
+        if (argc == 0)
+            fputs("tilde try: the format is missing; type tilde try FORMAT VALUE..\n", io->err);
+        return STATUS_USAGE;
+    }
+    const size_t length = read_values(argc - 1, argv + 1, table, sizeof table, io->err);
+    if (length == 0)
+        return STATUS_USAGE;
+    const struct call call = {(const uint8_t *)argv[0], strlen(argv[0]), table, length};
+    const struct learned learned = line_learn(&call);
+    if (learned.ending.code != TILDE_DONE) {
+        refusal_print(io->err, &call, learned.ending.code, learned.ending.position);
+        return STATUS_REFUSED;
+    }
+    if (raw)
+        line_write(&call, io->out);
+    else
+        print_line(&call, &learned, io);
+    return STATUS_DONE;
+}
