@@ -14,21 +14,8 @@
 #include <stdlib.h>
 #include <string.h>
 #include <sys/wait.h>
-#include <tilde.h>
+#include <tilde_table.h>
 #include <unistd.h>
-
-static const char *const words[] = {
-    [TILDE_DONE] = "done",
-    [TILDE_BAD_TABLE] = "too many arguments, or too long ones",
-    [TILDE_LONG_FORMAT] = "the format is too long",
-    [TILDE_UNKNOWN_CODE] = "unknown directive, or the format ends inside one",
-    [TILDE_BAD_BLOCK] = "a block is not closed, or not made as it should be",
-    [TILDE_BAD_PARAMETER] = "wrong parameter or modifier",
-    [TILDE_NO_ARGUMENT] = "no such argument",
-    [TILDE_WRONG_KIND] = "wrong kind of argument",
-    [TILDE_OUT_OF_RANGE] = "a parameter from an argument is out of range",
-    [TILDE_STEP_LIMIT] = "too many steps",
-};
 
 /* A pipe may take a part of what it is given, and a signal may come first. */
 static int write_all(int to, const uint8_t *bytes, size_t length)
@@ -61,53 +48,22 @@ static int send_line(int to, const char *format, const uint8_t *table, size_t ta
         }
     } while (code == TILDE_MORE);
     if (code != TILDE_DONE) {
-        fprintf(stderr, "pipe: %s, at byte %zu of the %s\n", words[code], position,
-                code == TILDE_BAD_TABLE ? "table" : "format");
+        fprintf(stderr, "pipe: %s, at byte %zu of the format\n", tilde_words(code), position);
         return -1;
     }
     return 0;
 }
 
-static void big_endian(uint8_t *out, uint64_t number, size_t bytes)
+/* A word as a value of the table. Whether it fits is asked at the end. */
+static void add_value(tilde_table *table, const char *given)
 {
-    while (bytes-- > 0) {
-        out[bytes] = (uint8_t)number;
-        number >>= 8;
-    }
-}
-
-/* The argument table: a header, an entry for each word, and the pool of the strings. */
-static uint8_t *table_of(char **given, size_t count, size_t *length)
-{
-    size_t pool = TILDE_HEADER_BYTES + TILDE_ENTRY_BYTES * count, used = 0;
-    *length = pool;
-    for (size_t i = 0; i < count; i++)
-        *length += strlen(given[i]);
-    uint8_t *table = calloc(*length, 1);
-    if (table == NULL)
-        return NULL;
-    for (size_t i = 0; i < count; i++) {
-        uint8_t *entry = table + TILDE_HEADER_BYTES + TILDE_ENTRY_BYTES * i;
-        size_t size = strlen(given[i]);
-        char *end;
-        errno = 0;
-        long long number = strtoll(given[i], &end, 10);
-        if (size > 0 && *end == '\0' && errno == 0) {
-            entry[0] = TILDE_INTEGER;
-            big_endian(entry + 4, (uint64_t)number, 8);
-        } else {
-            entry[0] = TILDE_STRING;
-            big_endian(entry + 4, used, 4);
-            big_endian(entry + 8, size, 4);
-            memcpy(table + pool + used, given[i], size);
-            used += size;
-        }
-    }
-    *length = pool + used;
-    big_endian(table, count, 2);
-    big_endian(table + 2, count, 2);
-    big_endian(table + 4, used, 4);
-    return table;
+    char *end;
+    errno = 0;
+    const long long number = strtoll(given, &end, 10);
+    if (end != given && *end == '\0' && errno == 0)
+        tilde_table_integer(table, number);
+    else
+        tilde_table_string(table, given, strlen(given));
 }
 
 /* Starts cat at the other end of a pipe; the end to write to, or -1. */
@@ -117,36 +73,45 @@ static int start_reader(pid_t *reader)
     if (pipe(ends) != 0 || (*reader = fork()) < 0)
         return -1;
     if (*reader == 0) {
-        dup2(ends[0], STDIN_FILENO);
-        close(ends[0]);
-        close(ends[1]);
-        execlp("cat", "cat", (char *)NULL);
+        if (dup2(ends[0], STDIN_FILENO) >= 0 && close(ends[0]) == 0 && close(ends[1]) == 0)
+            execlp("cat", "cat", (char *)NULL);
+        perror("pipe: cat");
         _exit(127);
     }
-    close(ends[0]);
-    return ends[1];
+    return close(ends[0]) == 0 ? ends[1] : -1;
 }
 
 int main(int argc, char **argv)
 {
-    size_t length;
+    static uint8_t room[TILDE_MOST_TABLE];
+    tilde_table table;
     pid_t reader;
     int status = -1;
     if (argc < 2) {
         fputs("usage: pipe FORMAT [ARGUMENT]...\n", stderr);
         return 2;
     }
-    uint8_t *table = table_of(argv + 2, (size_t)argc - 2, &length);
-    int to = table == NULL ? -1 : start_reader(&reader);
+    tilde_table_begin(&table, room, sizeof room);
+    for (int i = 2; i < argc; i++)
+        add_value(&table, argv[i]);
+    size_t length = tilde_table_end(&table);
+    if (length == 0) {
+        fprintf(stderr, "pipe: more than %d arguments, or strings of more than %d bytes together\n", TILDE_MOST_ENTRIES,
+                TILDE_MOST_POOL);
+        return 2;
+    }
+    int to = start_reader(&reader);
     if (to < 0) {
         perror("pipe");
         return 2;
     }
     /* a reader that is gone is an error of write, not a signal */
     signal(SIGPIPE, SIG_IGN);
-    int sent = send_line(to, argv[1], table, length);
-    close(to);
-    free(table);
+    int sent = send_line(to, argv[1], room, length);
+    if (close(to) != 0) {
+        perror("pipe: close");
+        sent = -1;
+    }
     while (waitpid(reader, &status, 0) < 0 && errno == EINTR)
         ;
     return sent == 0 && WIFEXITED(status) && WEXITSTATUS(status) == 0 ? 0 : 1;

@@ -2,7 +2,9 @@
 #ifndef TOOLS_RUNNING_H
 #define TOOLS_RUNNING_H
 
-#include "refusal.h"
+#include "call.h"
+
+#include <stdio.h>
 
 /* How a line ends. */
 struct ending {

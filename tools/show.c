@@ -140,36 +140,45 @@ void show_value(FILE *to, const uint8_t *table, size_t i)
     fputs(entry.length > SHORT_LIST ? " ..)" : ")", to);
 }
 
-/* A byte that a shell takes as it stands, alone or inside a word. */
+/* A byte that a shell takes as it stands, wherever it is in a word. */
 static int is_plain(char byte)
 {
     return (byte >= 'a' && byte <= 'z') || (byte >= 'A' && byte <= 'Z') || (byte >= '0' && byte <= '9') ||
            (byte != '\0' && strchr("-_.,/:@%+=", byte) != NULL);
 }
 
-/* A byte that has a meaning between double quotes. */
-static int is_special(char byte)
+/* What a word needs, the least first: no quotes, single ones, double ones, or those in which bytes can be escaped. */
+enum quotes { QUOTES_NONE, QUOTES_SINGLE, QUOTES_DOUBLE, QUOTES_ESCAPING };
+
+/* The quotes for a word with a single quote in it are double, if nothing in it has a meaning there. */
+static enum quotes quotes_for(const char *text, size_t length)
 {
-    return byte == '\0' || strchr("$`\\\"!", byte) != NULL;
+    int plain = length > 0, single = 0, special = 0, escaped = 0;
+    for (size_t i = 0; i < length;) {
+        const struct shown shown = show_next((const uint8_t *)text + i, length - i);
+        plain = plain && is_plain(text[i]);
+        single = single || text[i] == '\'';
+        special = special || (text[i] != '\0' && strchr("$`\\\"!", text[i]) != NULL);
+        escaped = escaped || (shown.columns > 1 && text[i] != '\\');
+        i += shown.bytes;
+    }
+    if (escaped || (single && special))
+        return QUOTES_ESCAPING;
+    return plain ? QUOTES_NONE : single ? QUOTES_DOUBLE : QUOTES_SINGLE;
 }
 
 void show_word(FILE *to, const char *text, size_t length)
 {
-    int plain = length > 0, single = 0, special = 0;
-    for (size_t i = 0; i < length; i++) {
-        plain = plain && is_plain(text[i]);
-        single = single || text[i] == '\'';
-        special = special || is_special(text[i]);
-    }
-    const char *quote = plain ? "" : single && !special ? "\"" : "'";
-    fputs(quote, to);
+    static const char *const begins[] = {"", "'", "\"", "$'"}, *const ends[] = {"", "'", "\"", "'"};
+    const enum quotes quotes = quotes_for(text, length);
+    fputs(begins[quotes], to);
     for (size_t i = 0; i < length;) {
         const struct shown shown = show_next((const uint8_t *)text + i, length - i);
-        if (text[i] == '\'' && quote[0] == '\'')
-            fputs("'\\''", to);
+        if (quotes == QUOTES_ESCAPING)
+            fputs(text[i] == '\'' ? "\\'" : shown.text, to);
         else
-            fputs(text[i] == '\\' ? "\\" : shown.text, to);
+            fwrite(text + i, 1, shown.bytes, to);
         i += shown.bytes;
     }
-    fputs(quote, to);
+    fputs(ends[quotes], to);
 }

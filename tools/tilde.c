@@ -11,6 +11,9 @@ static const struct verb {
     int (*run)(int argc, char **argv, const struct streams *io);
 } verbs[] = {
     {"try", "the line that a format makes of values, or what is wrong", try_help, verb_try},
+    {"vet", "how long a line can get, for arguments of given kinds", vet_help, verb_vet},
+    {"explain", "what a code means, with a wrong format and its correction", explain_help, verb_explain},
+    {"directives", "what each directive takes, with an example", directives_help, verb_directives},
     {"lines", "a line for each row of values on standard input", lines_help, verb_lines},
 };
 
@@ -109,7 +112,8 @@ int tilde_command(int argc, char **argv, FILE *in, FILE *out, FILE *err)
     const struct streams io = {in, out, err};
     const int status = run(argc, argv, &io);
     errno = 0;
-    if (fflush(out) != 0 || ferror(out)) {
+    /* a verb that answers STATUS_USAGE has told why */
+    if ((fflush(out) != 0 || ferror(out)) && status != STATUS_USAGE) {
         fprintf(err, "tilde: cannot write the output: %s\n", errno != 0 ? strerror(errno) : "a write failed");
         return STATUS_USAGE;
     }

@@ -17,8 +17,14 @@ int tilde_command(int argc, char **argv, FILE *in, FILE *out, FILE *err);
 
 /* The verbs, with what stands after the verb, and their help. */
 int verb_try(int argc, char **argv, const struct streams *io);
+int verb_vet(int argc, char **argv, const struct streams *io);
+int verb_explain(int argc, char **argv, const struct streams *io);
+int verb_directives(int argc, char **argv, const struct streams *io);
 int verb_lines(int argc, char **argv, const struct streams *io);
 extern const char try_help[];
+extern const char vet_help[];
+extern const char explain_help[];
+extern const char directives_help[];
 extern const char lines_help[];
 
 #endif

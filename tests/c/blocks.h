@@ -1,27 +1,14 @@
-/* What the tests in C share: counted checks, and blocks of exactly their size. A heap block lets valgrind see a byte
-   read or written outside it; one that ends where a page without access begins stops the program there without valgrind
-   too. Define _GNU_SOURCE before the first include. */
+/* What the tests in C share: counted checks, and blocks of exactly their size. A heap block lets valgrind or a sanitizer
+   see a byte read or written outside it; one that ends where a page without access begins stops the program there without
+   them too. Define _GNU_SOURCE before the first include. */
 #ifndef BLOCKS_H
 #define BLOCKS_H
 
-#include <stddef.h>
+#include "expect.h"
 #include <stdint.h>
-#include <stdio.h>
-#include <stdlib.h>
 #include <string.h>
 #include <sys/mman.h>
 #include <unistd.h>
-
-static size_t checks = 0;
-
-static void expect(int holds, const char *what, size_t of)
-{
-    checks++;
-    if (!holds) {
-        fprintf(stderr, "%s: %s (case %zu)\n", __BASE_FILE__, what, of);
-        exit(1);
-    }
-}
 
 /* A block of exactly size bytes, on the heap or before a page without access; no bytes are a null pointer. */
 struct block {
@@ -30,7 +17,7 @@ struct block {
     size_t mapped;
 };
 
-static struct block take(size_t size, int fenced)
+static inline struct block take(size_t size, int fenced)
 {
     struct block block = {NULL, NULL, 0};
     if (size == 0)
@@ -51,12 +38,21 @@ static struct block take(size_t size, int fenced)
     return block;
 }
 
-static void give_back(struct block block)
+static inline void give_back(struct block block)
 {
     if (block.pages != NULL)
         munmap(block.pages, block.mapped);
     else
         free(block.bytes);
+}
+
+/* A copy of these bytes in a block of its own. */
+static inline struct block copy_of(const void *from, size_t length, int fenced)
+{
+    struct block block = take(length, fenced);
+    if (length > 0)
+        memcpy(block.bytes, from, length);
+    return block;
 }
 
 /* What stands in lent room before a call: a byte that no text of the cases has, so that an untouched one is known. */

@@ -14,6 +14,14 @@ static char *command[MOST_WORDS + 1];
 static size_t own_words, all_words;
 static size_t lines = 0;
 
+static void add_word(const char *word)
+{
+    expect(all_words < MOST_WORDS, "room for words", lines);
+    command[all_words] = strdup(word);
+    expect(command[all_words] != NULL, "memory for a word", lines);
+    command[++all_words] = NULL;
+}
+
 /* The table in hand gets the arguments, and the command the words for them. */
 static void open_line(const char *format)
 {
@@ -21,15 +29,8 @@ static void open_line(const char *format)
         free(command[i]);
     begin();
     lines++;
-    command[own_words] = strdup(format);
-    all_words = own_words + 1;
-}
-
-static void add_word(const char *word)
-{
-    expect(all_words < MOST_WORDS, "room for words", lines);
-    command[all_words++] = strdup(word);
-    command[all_words] = NULL;
+    all_words = own_words;
+    add_word(format);
 }
 
 static void add_string(const char *text)
@@ -62,53 +63,77 @@ static size_t read_all(int from, uint8_t *into)
     }
 }
 
-/* Runs the command: what it prints, its status, and whether it says why on standard error. */
-static size_t run(uint8_t *printed, int *status, int *says)
+/* What the command prints, what it says on standard error, and its status. */
+struct run {
+    uint8_t printed[PLENTY];
+    char says[PLENTY];
+    size_t length;
+    int status;
+};
+
+static void run(struct run *run)
 {
     int ends[2];
     FILE *said = tmpfile();
-    command[all_words] = NULL;
     if (said == NULL || pipe(ends) != 0)
         exit(2);
     pid_t child = fork();
     if (child < 0)
         exit(2);
     if (child == 0) {
-        dup2(ends[1], STDOUT_FILENO);
-        dup2(fileno(said), STDERR_FILENO);
-        close(ends[0]);
-        close(ends[1]);
-        execvp(command[0], command);
+        if (dup2(ends[1], STDOUT_FILENO) >= 0 && dup2(fileno(said), STDERR_FILENO) >= 0 && close(ends[0]) == 0 &&
+            close(ends[1]) == 0)
+            execvp(command[0], command);
         _exit(127);
     }
     close(ends[1]);
-    size_t length = read_all(ends[0], printed);
+    run->length = read_all(ends[0], run->printed);
     close(ends[0]);
-    while (waitpid(child, status, 0) < 0)
+    while (waitpid(child, &run->status, 0) < 0)
         expect(errno == EINTR, "a child", lines);
-    fseek(said, 0, SEEK_END);
-    *says = ftell(said) > 0;
+    rewind(said);
+    run->says[fread(run->says, 1, sizeof run->says - 1, said)] = '\0';
     fclose(said);
-    return length;
 }
 
 /* The line in hand: what arrives is what one call writes, and a refusal is told and is no success. */
 static void arrives(uint32_t code)
 {
-    static uint8_t printed[PLENTY], buffer[PLENTY];
+    static struct run ran;
+    static uint8_t buffer[PLENTY];
     const char *format = command[own_words];
+    char told[200] = "";
     size_t position, steps, written;
-    int status, says;
 
-    struct block given = table_block(table.entries, 0);
+    struct block given = copy_of(table.bytes, table_length(), 0);
     uint32_t answered = tilde_format((const uint8_t *)format, strlen(format), given.bytes, table_length(), buffer, PLENTY,
                                      &position, &steps, &written);
     give_back(given);
     expect(answered == code, "code of one call", lines);
-    size_t length = run(printed, &status, &says);
-    expect(length == written && memcmp(printed, buffer, written) == 0, "what arrives is what one call writes", lines);
-    expect(WIFEXITED(status) && WEXITSTATUS(status) == (code == TILDE_DONE ? 0 : 1), "status of the example", lines);
-    expect(says == (code != TILDE_DONE), "a refusal is told", lines);
+    if (code != TILDE_DONE)
+        snprintf(told, sizeof told, "pipe: %s, at byte %zu of the format\n", tilde_words(code), position);
+    run(&ran);
+    expect(ran.length == written && same(ran.printed, buffer, written), "what arrives is what one call writes", lines);
+    expect(WIFEXITED(ran.status) && WEXITSTATUS(ran.status) == (code == TILDE_DONE ? 0 : 1), "status of the example",
+           lines);
+    expect(strcmp(ran.says, told) == 0, "a refusal is told", lines);
+}
+
+/* Arguments that no table holds: nothing is sent, and the limits are told. */
+static void no_table(void)
+{
+    static struct run ran;
+    static char wide[TILDE_MOST_POOL + 1];
+
+    memset(wide, 'x', sizeof wide - 1);
+    open_line("never");
+    add_string(wide);
+    add_word("y");
+    run(&ran);
+    expect(ran.length == 0, "nothing is sent without a table", lines);
+    expect(WIFEXITED(ran.status) && WEXITSTATUS(ran.status) == 2, "status without a table", lines);
+    expect(strcmp(ran.says, "pipe: more than 1024 arguments, or strings of more than 65536 bytes together\n") == 0,
+           "the limits are told", lines);
 }
 
 static void whole_lines(void)
@@ -167,6 +192,7 @@ int main(int argc, char **argv)
     all_words = own_words;
     whole_lines();
     refused_lines();
+    no_table();
     for (size_t i = own_words; i < all_words; i++)
         free(command[i]);
     printf("%zu checks\n", checks);

@@ -1,6 +1,7 @@
 /* How much stack a call takes. No call goes deeper than TILDE_STACK_BYTES, and the deepest of those tried runs on a stack
    that has no byte more. */
 #define _GNU_SOURCE
+#include "drawing.h"
 #include "painted.h"
 #include "tables.h"
 #include <stdarg.h>
@@ -83,31 +84,34 @@ static void measure(int vets, const uint8_t *given, size_t given_length, size_t 
    first argument is the next list, and entry n is argument n - k of the list at depth k. */
 enum { ZERO = LEVELS, ONE, LEAST, MANY, QUOTES, LONG, ODD, STAR, FALSE, TRUE, EMPTY, ENTRIES };
 
-static struct block arguments;
-static uint8_t argument_kinds[ENTRIES];
+static uint8_t kinds_given[TILDE_MOST_KINDS];
 
 static void fill_arguments(void)
 {
     static uint8_t pool[TILDE_MOST_POOL];
+    const size_t quotes = 10;
 
     memset(pool, '"', sizeof pool);
     begin();
-    for (size_t i = 0; i < LEVELS; i++)
-        list(i + 1, ENTRIES - i - 1);
+    for (size_t i = 0; i < LEVELS; i++) {
+        list_begin();
+        list_end();
+    }
     integer(0);
     integer(1);
     integer(INT64_MIN);
     integer(1234567);
-    entry(TILDE_STRING, 10);
-    bytes(pool, sizeof pool);
+    bytes(pool, quotes);
+    bytes(pool + quotes, sizeof pool - quotes);
     character(8);
     character('*');
     boolean(0);
     boolean(1);
-    list(ENTRIES, 0);
-    arguments = table_block(ENTRIES, 0);
-    for (size_t i = 0; i < ENTRIES; i++)
-        argument_kinds[i] = table.entry[i][0];
+    list_begin();
+    list_end();
+    for (uint8_t i = 0; i < LEVELS; i++)
+        share(i, (uint8_t)(i + 1), (uint8_t)(ENTRIES - i - 1));
+    expect(argument_kinds(kinds_given) == ENTRIES, "an argument for each name", ENTRIES);
 }
 
 /* A format as it grows. */
@@ -197,8 +201,8 @@ static void measure_nest(const size_t *chosen, size_t levels, struct piece piece
 {
     job.format_length = 0;
     put_nest(chosen, levels, piece);
-    measure(0, arguments.bytes, table_length(), room);
-    measure(1, argument_kinds, ENTRIES, 0);
+    measure(0, table.bytes, table_length(), room);
+    measure(1, kinds_given, ENTRIES, 0);
 }
 
 /* Nests of two sorts of block by turns, with each piece and each refusal inside; and a ninth level. */
@@ -215,16 +219,6 @@ static void regular_nests(void)
                 measure_nest(chosen, LEVELS, refusals[i], 5000);
             measure_nest(chosen, LEVELS + 1, pieces[0], ROOM);
         }
-}
-
-/* The generator splitmix64. */
-static size_t below(size_t limit)
-{
-    static uint64_t state = 5;
-    uint64_t z = state += 0x9e3779b97f4a7c15;
-    z = (z ^ z >> 30) * 0xbf58476d1ce4e5b9;
-    z = (z ^ z >> 27) * 0x94d049bb133111eb;
-    return (size_t)((z ^ z >> 31) % limit);
 }
 
 static void random_nests(void)
@@ -248,7 +242,7 @@ static void long_formats(void)
         size_t length = strlen(pieces[i].text);
         for (job.format_length = 0; job.format_length + length <= TILDE_MOST_FORMAT;)
             put("%s", pieces[i].text);
-        measure(0, arguments.bytes, table_length(), ROOM);
+        measure(0, table.bytes, table_length(), ROOM);
         for (uint8_t tag = TILDE_BOOLEAN; tag <= TILDE_LIST; tag++) {
             memset(kinds[tag], tag, TILDE_MOST_KINDS);
             measure(1, kinds[tag], TILDE_MOST_KINDS, 0);
@@ -283,7 +277,7 @@ static void vet_nest(size_t one, size_t other, struct piece piece)
     put("%s", piece.text);
     for (size_t i = LEVELS; i-- > 0;)
         put("%s", conditionals[i % 2 ? other : one].closes);
-    kinds[taken] = kinds[taken + 1] = argument_kinds[piece.entry];
+    kinds[taken] = kinds[taken + 1] = kinds_given[piece.entry];
     measure(1, kinds, taken + 2, 0);
     measure(1, booleans, taken + 2, 0);
 }
@@ -311,7 +305,7 @@ static void endless_nests(void)
         put("~2@*~s");
         for (size_t level = 0; level < LEVELS; level++)
             put("~}");
-        measure(0, arguments.bytes, table_length(), ROOM);
+        measure(0, table.bytes, table_length(), ROOM);
     }
 }
 
@@ -327,6 +321,7 @@ static void on_no_more(void)
 
 int main(void)
 {
+    seed = 5;
     ample = stack_of(AMPLE);
     fill_arguments();
     regular_nests();
@@ -337,6 +332,5 @@ int main(void)
     on_no_more();
     show_deepest(stdout);
     printf("%zu checks\n", checks);
-    give_back(arguments);
     return 0;
 }

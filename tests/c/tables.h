@@ -1,84 +1,80 @@
-/* A table of arguments as it grows, for the tests of tilde.h, not all of which have arguments of every kind. Define
-   _GNU_SOURCE before the first include. */
+/* The table in hand, for the tests of tilde.h, not all of which have arguments of every kind: the builder of tilde_table.h
+   with one table, every call of which is checked. Define _GNU_SOURCE before the first include. */
 #ifndef TABLES_H
 #define TABLES_H
 
 #include "blocks.h"
-#include <tilde.h>
+#include <tilde_table.h>
 
-/* A table as it grows: entries in order, and the pool of its strings. */
-struct table {
-    size_t entries;
-    size_t pool_length;
-    uint8_t entry[TILDE_MOST_ENTRIES][TILDE_ENTRY_BYTES];
-    uint8_t pool[TILDE_MOST_POOL];
-};
-
-static struct table table;
-
-static void big_endian(uint8_t *out, uint64_t number, size_t bytes)
-{
-    for (size_t i = 0; i < bytes; i++)
-        out[i] = (uint8_t)(number >> 8 * (bytes - 1 - i));
-}
+/* The table in hand, its room, and its length once it is ended. */
+static struct {
+    tilde_table made;
+    uint8_t bytes[TILDE_MOST_TABLE];
+    size_t length;
+} table;
 
 static void begin(void)
 {
-    table.entries = 0;
-    table.pool_length = 0;
-}
-
-static void entry(uint8_t tag, uint64_t value)
-{
-    uint8_t *out = table.entry[table.entries++];
-    big_endian(out, (uint64_t)tag << 24, 4);
-    big_endian(out + 4, value, 8);
+    table.length = 0;
+    expect(tilde_table_begin(&table.made, table.bytes, sizeof table.bytes), "a table begins", checks);
 }
 
 static inline void integer(int64_t number)
 {
-    entry(TILDE_INTEGER, (uint64_t)number);
+    expect(tilde_table_integer(&table.made, number), "an integer fits", checks);
 }
 
 static inline void character(uint8_t code)
 {
-    entry(TILDE_CHARACTER, code);
+    expect(tilde_table_character(&table.made, code), "a character fits", checks);
 }
 
 static inline void boolean(int truth)
 {
-    entry(TILDE_BOOLEAN, truth ? 1 : 0);
+    expect(tilde_table_boolean(&table.made, truth), "a boolean fits", checks);
 }
 
 static inline void bytes(const void *from, size_t length)
 {
-    if (length > 0)
-        memcpy(table.pool + table.pool_length, from, length);
-    entry(TILDE_STRING, (uint64_t)table.pool_length << 32 | length);
-    table.pool_length += length;
+    expect(tilde_table_string(&table.made, from, length), "a string fits", checks);
 }
 
-static inline void list(size_t first, size_t count)
+static inline void list_begin(void)
 {
-    entry(TILDE_LIST, (uint64_t)first << 32 | count);
+    expect(tilde_table_list_begin(&table.made), "a list fits", checks);
 }
 
+static inline void list_end(void)
+{
+    expect(tilde_table_list_end(&table.made), "a list ends", checks);
+}
+
+/* Ends the table in hand where it is not ended yet. */
 static size_t table_length(void)
 {
-    return TILDE_HEADER_BYTES + TILDE_ENTRY_BYTES * table.entries + table.pool_length;
+    if (table.length == 0)
+        table.length = tilde_table_end(&table.made);
+    expect(table.length > 0, "a table ends", checks);
+    return table.length;
 }
 
-/* The table in hand in a block of exactly its size; its first entries are the arguments. */
-static struct block table_block(size_t arguments, int fenced)
+/* The kinds of the arguments of the table in hand. */
+static inline size_t argument_kinds(uint8_t *kinds)
 {
-    struct block block = take(table_length(), fenced);
-    uint8_t *pool = block.bytes + TILDE_HEADER_BYTES + TILDE_ENTRY_BYTES * table.entries;
-    big_endian(block.bytes, table.entries, 2);
-    big_endian(block.bytes + 2, arguments, 2);
-    big_endian(block.bytes + 4, table.pool_length, 4);
-    memcpy(block.bytes + TILDE_HEADER_BYTES, table.entry, TILDE_ENTRY_BYTES * table.entries);
-    memcpy(pool, table.pool, table.pool_length);
-    return block;
+    size_t ended = table_length(), count = (size_t)table.bytes[2] << 8 | table.bytes[3];
+    expect(count <= ended / TILDE_ENTRY_BYTES, "arguments of a table", count);
+    for (size_t i = 0; i < count; i++)
+        kinds[i] = table.bytes[TILDE_HEADER_BYTES + TILDE_ENTRY_BYTES * i];
+    return count;
+}
+
+/* Gives the list at an entry of the ended table other entries, below 256. The builder makes no lists that share them. */
+static inline void share(size_t entry, uint8_t first, uint8_t count)
+{
+    uint8_t *list = table.bytes + TILDE_HEADER_BYTES + TILDE_ENTRY_BYTES * entry;
+    expect(table_length() > 0 && list[0] == TILDE_LIST, "a list that can share", entry);
+    list[7] = first;
+    list[11] = count;
 }
 
 #endif

@@ -31,14 +31,6 @@ static void integers(int64_t from, int64_t to)
         integer(i);
 }
 
-static struct block copy_of(const void *from, size_t length, int fenced)
-{
-    struct block block = take(length, fenced);
-    if (length > 0)
-        memcpy(block.bytes, from, length);
-    return block;
-}
-
 /* One call on blocks that are already there. */
 static void call(struct block format, size_t format_length, struct block given, size_t given_length, size_t room,
                  int fenced, const struct answer *want)
@@ -76,11 +68,9 @@ static void raw_case(const void *format, size_t format_length, const void *given
 }
 
 /* A format over the table in hand. */
-static void format_case(const char *format, size_t arguments, size_t room, struct answer want)
+static void format_case(const char *format, size_t room, struct answer want)
 {
-    struct block given = table_block(arguments, 0);
-    raw_case(format, strlen(format), given.bytes, table_length(), room, want);
-    give_back(given);
+    raw_case(format, strlen(format), table.bytes, table_length(), room, want);
 }
 
 static struct answer answer(uint32_t code, size_t position, size_t steps, const char *text)
@@ -89,29 +79,23 @@ static struct answer answer(uint32_t code, size_t position, size_t steps, const 
 }
 
 /* The text comes out in exactly its room and in more. */
-static void yields_over(size_t arguments, const char *format, size_t steps, const char *text)
-{
-    format_case(format, arguments, strlen(text), answer(TILDE_DONE, 0, steps, text));
-    format_case(format, arguments, strlen(text) + 9, answer(TILDE_DONE, 0, steps, text));
-}
-
-/* The same where every entry is an argument. */
 static void yields(const char *format, size_t steps, const char *text)
 {
-    yields_over(table.entries, format, steps, text);
+    format_case(format, strlen(text), answer(TILDE_DONE, 0, steps, text));
+    format_case(format, strlen(text) + 9, answer(TILDE_DONE, 0, steps, text));
 }
 
 /* The same for a text of one piece: one byte too few, and nothing is written. */
 static void piece(const char *format, const char *text)
 {
     yields(format, 1, text);
-    format_case(format, table.entries, strlen(text) - 1, answer(TILDE_NO_ROOM, 0, 1, ""));
+    format_case(format, strlen(text) - 1, answer(TILDE_NO_ROOM, 0, 1, ""));
 }
 
 /* Refused with these bytes kept, in plenty of room. */
 static void refuses(const char *format, uint32_t code, size_t position, size_t steps, const char *kept)
 {
-    format_case(format, table.entries, PLENTY, answer(code, position, steps, kept));
+    format_case(format, PLENTY, answer(code, position, steps, kept));
 }
 
 /* 01's frame, byte by byte, and the same table as it is built here. */
@@ -122,13 +106,11 @@ static void whole_case(void)
     raw_case("~a!", 3, frame, sizeof frame, PLENTY, answer(TILDE_DONE, 0, 2, "abc!"));
     begin();
     string("abc");
-    struct block built = table_block(1, 0);
-    expect(table_length() == sizeof frame && same(built.bytes, frame, sizeof frame), "a table as 01 writes it", 0);
-    give_back(built);
+    expect(table_length() == sizeof frame && same(table.bytes, frame, sizeof frame), "a table as 01 writes it", 0);
     yields("~a!", 2, "abc!");
-    format_case("~a!", 1, 3, answer(TILDE_NO_ROOM, 2, 2, "abc"));
-    format_case("~a!", 1, 2, answer(TILDE_NO_ROOM, 0, 1, ""));
-    format_case("~a!", 1, 0, answer(TILDE_NO_ROOM, 0, 1, ""));
+    format_case("~a!", 3, answer(TILDE_NO_ROOM, 2, 2, "abc"));
+    format_case("~a!", 2, answer(TILDE_NO_ROOM, 0, 1, ""));
+    format_case("~a!", 0, answer(TILDE_NO_ROOM, 0, 1, ""));
 }
 
 static void lines_of_strings(void)
@@ -185,24 +167,26 @@ static void lines_of_integers(void)
     piece("~x", "-8000000000000000");
 }
 
-/* Arguments, and behind them the entries of their lists. */
 static void lines_of_lists(void)
 {
     begin();
-    list(1, 4);
+    list_begin();
     integers(1, 4);
-    yields_over(1, "~2{~d~}", 5, "12");
-    yields_over(1, "~{~d~^/~}", 16, "1/2/3/4");
+    list_end();
+    yields("~2{~d~}", 5, "12");
+    yields("~{~d~^/~}", 16, "1/2/3/4");
     begin();
-    list(3, 2);
-    list(5, 3);
-    boolean(0);
+    list_begin();
     integers(1, 2);
+    list_end();
+    list_begin();
     string("x");
     character('y');
     boolean(1);
-    yields_over(3, "~{~d~}~{~s~}~:[no~;yes~]", 15, "12\"x\"#\\y#tno");
-    format_case("~{~d~}~{~s~}", 3, 4, answer(TILDE_NO_ROOM, 8, 8, "12"));
+    list_end();
+    boolean(0);
+    yields("~{~d~}~{~s~}~:[no~;yes~]", 15, "12\"x\"#\\y#tno");
+    format_case("~{~d~}~{~s~}", 4, answer(TILDE_NO_ROOM, 8, 8, "12"));
 }
 
 /* 01's lines about limits. */
@@ -213,21 +197,20 @@ static void lines_of_limits(void)
         exit(2);
     begin();
     memset(many, '\n', TILDE_MOST_FORMAT);
-    format_case("~4096%", 0, 4096, (struct answer){TILDE_DONE, 0, 1, 4096, many});
-    format_case("~4096%", 0, 4095, answer(TILDE_NO_ROOM, 0, 1, ""));
+    format_case("~4096%", 4096, (struct answer){TILDE_DONE, 0, 1, 4096, many});
+    format_case("~4096%", 4095, answer(TILDE_NO_ROOM, 0, 1, ""));
     refuses("~4097%", TILDE_BAD_PARAMETER, 0, 0, "");
+    begin();
     integer(1);
     memset(many, 'x', TILDE_MOST_STEPS);
-    format_case("~@{x~}", 1, 65536, (struct answer){TILDE_STEP_LIMIT, 3, TILDE_MOST_STEPS, 32767, many});
-    format_case("~@{x~}", 1, 32767, (struct answer){TILDE_STEP_LIMIT, 3, TILDE_MOST_STEPS, 32767, many});
-    format_case("~@{x~}", 1, 32766, (struct answer){TILDE_NO_ROOM, 3, 65535, 32766, many});
-    struct block given = table_block(1, 0);
+    format_case("~@{x~}", 65536, (struct answer){TILDE_STEP_LIMIT, 3, TILDE_MOST_STEPS, 32767, many});
+    format_case("~@{x~}", 32767, (struct answer){TILDE_STEP_LIMIT, 3, TILDE_MOST_STEPS, 32767, many});
+    format_case("~@{x~}", 32766, (struct answer){TILDE_NO_ROOM, 3, 65535, 32766, many});
     struct answer longest = {TILDE_DONE, 0, TILDE_MOST_FORMAT, TILDE_MOST_FORMAT, many};
-    raw_case(many, TILDE_MOST_FORMAT, given.bytes, table_length(), TILDE_MOST_FORMAT, longest);
-    raw_case(many, TILDE_MOST_FORMAT + 1, given.bytes, table_length(), PLENTY, answer(TILDE_LONG_FORMAT, 4096, 0, ""));
+    raw_case(many, TILDE_MOST_FORMAT, table.bytes, table_length(), TILDE_MOST_FORMAT, longest);
+    raw_case(many, TILDE_MOST_FORMAT + 1, table.bytes, table_length(), PLENTY, answer(TILDE_LONG_FORMAT, 4096, 0, ""));
     /* a bad table comes first */
-    raw_case(many, TILDE_MOST_FORMAT + 1, given.bytes, table_length() - 1, PLENTY, answer(TILDE_BAD_TABLE, 4, 0, ""));
-    give_back(given);
+    raw_case(many, TILDE_MOST_FORMAT + 1, table.bytes, table_length() - 1, PLENTY, answer(TILDE_BAD_TABLE, 4, 0, ""));
     free(many);
 }
 
@@ -243,17 +226,16 @@ static void bad_tables(void)
     begin();
     integer(7);
     string("abc");
-    struct block given = table_block(2, 0);
+    size_t whole = table_length();
     for (size_t i = 0; i < sizeof faults / sizeof *faults; i++) {
-        uint8_t was = given.bytes[faults[i].at];
-        given.bytes[faults[i].at] = faults[i].byte;
-        raw_case("x~d", 3, given.bytes, table_length(), PLENTY, answer(TILDE_BAD_TABLE, faults[i].position, 0, ""));
-        given.bytes[faults[i].at] = was;
+        uint8_t was = table.bytes[faults[i].at];
+        table.bytes[faults[i].at] = faults[i].byte;
+        raw_case("x~d", 3, table.bytes, whole, PLENTY, answer(TILDE_BAD_TABLE, faults[i].position, 0, ""));
+        table.bytes[faults[i].at] = was;
     }
-    for (size_t length = 0; length < table_length(); length++)
-        raw_case("x~d", 3, given.bytes, length, PLENTY, answer(TILDE_BAD_TABLE, length < 8 ? 0 : 4, 0, ""));
-    raw_case("x~d", 3, given.bytes, table_length(), PLENTY, answer(TILDE_DONE, 0, 2, "x7"));
-    give_back(given);
+    for (size_t length = 0; length < whole; length++)
+        raw_case("x~d", 3, table.bytes, length, PLENTY, answer(TILDE_BAD_TABLE, length < 8 ? 0 : 4, 0, ""));
+    raw_case("x~d", 3, table.bytes, whole, PLENTY, answer(TILDE_DONE, 0, 2, "x7"));
 }
 
 static void refusals(void)
@@ -270,8 +252,8 @@ static void refusals(void)
     refuses("~a ~d!~a", TILDE_NO_ARGUMENT, 6, 5, "abc 5000!");
     refuses("x~d", TILDE_WRONG_KIND, 1, 2, "x");
     refuses("~a ~v%", TILDE_OUT_OF_RANGE, 3, 3, "abc ");
-    format_case("~a ~d", 2, 7, answer(TILDE_NO_ROOM, 3, 3, "abc "));
-    format_case("~a ~d", 2, 8, answer(TILDE_DONE, 0, 3, "abc 5000"));
+    format_case("~a ~d", 7, answer(TILDE_NO_ROOM, 3, 3, "abc "));
+    format_case("~a ~d", 8, answer(TILDE_DONE, 0, 3, "abc 5000"));
 }
 
 /* Null pointers go with length 0. */
@@ -280,9 +262,10 @@ static void nothing(void)
     begin();
     raw_case(NULL, 0, NULL, 0, 0, answer(TILDE_BAD_TABLE, 0, 0, ""));
     raw_case("~a", 2, NULL, 0, 5, answer(TILDE_BAD_TABLE, 0, 0, ""));
-    format_case("", 0, 0, answer(TILDE_DONE, 0, 0, ""));
-    format_case("", 0, 5, answer(TILDE_DONE, 0, 0, ""));
-    format_case("a", 0, 0, answer(TILDE_NO_ROOM, 0, 1, ""));
+    format_case("", 0, answer(TILDE_DONE, 0, 0, ""));
+    format_case("", 5, answer(TILDE_DONE, 0, 0, ""));
+    format_case("a", 0, answer(TILDE_NO_ROOM, 0, 1, ""));
+    begin();
     string("");
     yields("~a", 1, "");
 }
@@ -292,7 +275,7 @@ static void shared(void)
 {
     begin();
     string("<~a>");
-    struct block given = table_block(1, 0);
+    struct block given = copy_of(table.bytes, table_length(), 0);
     struct block format = {given.bytes + TILDE_HEADER_BYTES + TILDE_ENTRY_BYTES, NULL, 0};
     struct answer want = answer(TILDE_DONE, 0, 3, "<<~a>>");
     cases++;
@@ -303,22 +286,20 @@ static void shared(void)
 /* As many entries, and as long a pool, as there may be. */
 static void large_tables(void)
 {
-    struct answer all = {TILDE_DONE, 0, TILDE_MOST_ENTRIES, TILDE_MOST_POOL, table.pool};
-    char *format = malloc(2 * TILDE_MOST_ENTRIES + 1);
-    if (format == NULL)
-        exit(2);
+    static uint8_t text[TILDE_MOST_POOL];
+    static char format[2 * TILDE_MOST_ENTRIES + 1];
+    const size_t part = TILDE_MOST_POOL / TILDE_MOST_ENTRIES;
+
+    for (size_t i = 0; i < sizeof text; i++)
+        text[i] = (uint8_t)('A' + (i / part + 3 * (i % part)) % 64);
     begin();
     for (size_t i = 0; i < TILDE_MOST_ENTRIES; i++) {
-        uint8_t part[TILDE_MOST_POOL / TILDE_MOST_ENTRIES];
-        for (size_t j = 0; j < sizeof part; j++)
-            part[j] = (uint8_t)('A' + (i + 3 * j) % 64);
-        bytes(part, sizeof part);
+        bytes(text + part * i, part);
         memcpy(format + 2 * i, "~a", 3);
     }
-    format_case(format, TILDE_MOST_ENTRIES, TILDE_MOST_POOL, all);
-    format_case(format, TILDE_MOST_ENTRIES, TILDE_MOST_POOL - 1,
-                (struct answer){TILDE_NO_ROOM, 2046, TILDE_MOST_ENTRIES, TILDE_MOST_POOL - 64, table.pool});
-    free(format);
+    format_case(format, TILDE_MOST_POOL, (struct answer){TILDE_DONE, 0, TILDE_MOST_ENTRIES, TILDE_MOST_POOL, text});
+    format_case(format, TILDE_MOST_POOL - 1,
+                (struct answer){TILDE_NO_ROOM, 2046, TILDE_MOST_ENTRIES, TILDE_MOST_POOL - part, text});
 }
 
 /* A vet of a format of any bytes. */
@@ -342,20 +323,17 @@ static void raw_vet(const void *format, size_t format_length, const uint8_t *kin
     }
 }
 
-/* The kinds of the table in hand, all of whose entries are arguments. */
+/* The kinds of the table in hand. */
 static void vet_case(const char *format, size_t longest, uint32_t code, size_t position, size_t count)
 {
-    struct block kinds = take(table.entries, 0);
-    for (size_t i = 0; i < table.entries; i++)
-        kinds.bytes[i] = table.entry[i][0];
-    raw_vet(format, strlen(format), kinds.bytes, table.entries, longest, code, position, count);
-    give_back(kinds);
+    uint8_t kinds[TILDE_MOST_KINDS];
+    raw_vet(format, strlen(format), kinds, argument_kinds(kinds), longest, code, position, count);
 }
 
 /* The count is enough for the table in hand, which fills it: it is refused in every smaller buffer. */
 static void filled(const char *format, size_t longest, size_t steps, const char *text)
 {
-    struct block given = table_block(table.entries, 0);
+    struct block given = copy_of(table.bytes, table_length(), 0);
     vet_case(format, longest, TILDE_DONE, 0, strlen(text));
     yields(format, steps, text);
     for (size_t room = 0; room < strlen(text); room++) {
@@ -403,7 +381,8 @@ static void refused_vets(void)
 
     begin();
     integer(5);
-    list(2, 0);
+    list_begin();
+    list_end();
     vet_case("~d~*", 0, TILDE_NOT_PLAIN, 2, 0);
     vet_case("~c~vd", 0, TILDE_NOT_PLAIN, 2, 0);
     vet_case("~*~q", 0, TILDE_UNKNOWN_CODE, 2, 0);
@@ -438,7 +417,7 @@ static void conditional_vets(void)
     vet_case(line, 0, TILDE_NOT_PLAIN, 0, 0);
     line = "~[calm~;light~:;wind~] ~:[steady~;gusts~] ~d~@[ ~a~]";
     vet_case(line, 0, TILDE_DONE, 0, 5 + 1 + 6 + 1 + 20 + 3);
-    format_case(line, 4, 36, answer(TILDE_DONE, 0, 15, "calm gusts 5"));
+    format_case(line, 36, answer(TILDE_DONE, 0, 15, "calm gusts 5"));
     vet_case("~[a~]~*", 0, TILDE_NOT_PLAIN, 5, 0);
     vet_case("~d~@[x~]", 0, TILDE_NOT_PLAIN, 2, 0);
     vet_case("~@[~d~]", 0, TILDE_NOT_PLAIN, 0, 0);
@@ -452,11 +431,12 @@ static void refused_alike(void)
 {
     begin();
     integer(5);
-    list(2, 0);
+    list_begin();
+    list_end();
     refuses("x~p~p~p", TILDE_NO_ARGUMENT, 5, 4, "xss");
     refuses("~d ~a", TILDE_WRONG_KIND, 3, 3, "5 ");
     refuses("~p~p~,#a", TILDE_OUT_OF_RANGE, 4, 3, "ss");
-    format_case("~d ~a", 2, 1, answer(TILDE_NO_ROOM, 2, 2, "5"));
+    format_case("~d ~a", 1, answer(TILDE_NO_ROOM, 2, 2, "5"));
 }
 
 static void observation(const char *station, int64_t height, int64_t hour, int64_t minute, int64_t wind)
@@ -477,9 +457,9 @@ static void bulletin(void)
 
     observation("EGPA", 21, 9, 50, 17);
     vet_case(line, 4, TILDE_DONE, 0, count);
-    format_case(line, 5, count, answer(TILDE_DONE, 0, 21, "EGPA    21 09:50 wind 17 knots\n"));
+    format_case(line, count, answer(TILDE_DONE, 0, 21, "EGPA    21 09:50 wind 17 knots\n"));
     observation("LSZ", 1416, 12, 5, 1);
-    format_case(line, 5, count, answer(TILDE_DONE, 0, 21, "LSZ   1416 12:05 wind 1 knot\n"));
+    format_case(line, count, answer(TILDE_DONE, 0, 21, "LSZ   1416 12:05 wind 1 knot\n"));
     observation("EHAM", INT64_MIN, INT64_MIN, INT64_MIN, INT64_MIN);
     filled(line, 4, 21,
            "EHAM -9223372036854775808 -9223372036854775808:-9223372036854775808 wind -9223372036854775808 knots\n");

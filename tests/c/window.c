@@ -1,6 +1,7 @@
 /* Lines through small windows, through include/tilde.h alone: every call of tilde_resume and of tilde_window against what
    one call of tilde_format writes. Each window is a block of exactly its size. */
 #define _GNU_SOURCE
+#include "drawing.h"
 #include "tables.h"
 
 #define PLENTY ((size_t)70000)
@@ -117,14 +118,10 @@ static void drain_all_ways(int fenced)
 static void open_line(const void *format, size_t format_length, const void *given, size_t given_length, int fenced)
 {
     lines++;
-    line.format = take(format_length, fenced);
-    line.table = take(given_length, fenced);
+    line.format = copy_of(format, format_length, fenced);
+    line.table = copy_of(given, given_length, fenced);
     line.format_length = format_length;
     line.table_length = given_length;
-    if (format_length > 0)
-        memcpy(line.format.bytes, format, format_length);
-    if (given_length > 0)
-        memcpy(line.table.bytes, given, given_length);
     line.code = tilde_format(line.format.bytes, format_length, line.table.bytes, given_length, line.text, PLENTY,
                              &line.position, &line.steps, &line.written);
     expect(line.code != TILDE_NO_ROOM, "room enough", lines);
@@ -148,10 +145,9 @@ static void raw_line(const void *format, size_t format_length, const void *given
     }
 }
 
-/* The arguments of every line: an integer, a string, a character, a boolean, a list of lists, and the end. */
+/* The arguments of every line: an integer, a string, a character, a boolean, and a list of three lists, the first of
+   which has entries of its own and shares the last two of them with the second. */
 enum { INTEGER, STRING, CHARACTER, BOOLEAN, LISTS, ARGUMENTS };
-
-static struct block arguments;
 
 static void fill_arguments(void)
 {
@@ -160,14 +156,18 @@ static void fill_arguments(void)
     bytes("a \"quoted\\ name", 15);
     character(8);
     boolean(0);
-    list(ARGUMENTS, 3);
-    list(ARGUMENTS + 3, 3);
-    list(ARGUMENTS + 4, 2);
-    list(ARGUMENTS + 6, 0);
+    list_begin();
+    list_begin();
     integer(1);
     integer(20);
     integer(300);
-    arguments = table_block(ARGUMENTS, 0);
+    list_end();
+    list_begin();
+    list_end();
+    list_begin();
+    list_end();
+    list_end();
+    share(ARGUMENTS + 1, ARGUMENTS + 4, 2);
 }
 
 /* Each begins at the first argument. */
@@ -207,7 +207,7 @@ static const char *const formats[] = {
 static void lines_of_formats(void)
 {
     for (size_t i = 0; i < COUNT(formats); i++)
-        raw_line(formats[i], strlen(formats[i]), arguments.bytes, table_length());
+        raw_line(formats[i], strlen(formats[i]), table.bytes, table_length());
 }
 
 static void other_lines(void)
@@ -215,21 +215,11 @@ static void other_lines(void)
     static uint8_t many[TILDE_MOST_FORMAT + 1];
 
     memset(many, 'x', sizeof many);
-    raw_line(many, TILDE_MOST_FORMAT, arguments.bytes, table_length());
-    raw_line(many, TILDE_MOST_FORMAT + 1, arguments.bytes, table_length());
-    raw_line("~d", 2, arguments.bytes, table_length() - 1);
+    raw_line(many, TILDE_MOST_FORMAT, table.bytes, table_length());
+    raw_line(many, TILDE_MOST_FORMAT + 1, table.bytes, table_length());
+    raw_line("~d", 2, table.bytes, table_length() - 1);
     raw_line("~d", 2, NULL, 0);
     raw_line(NULL, 0, NULL, 0);
-}
-
-/* The generator splitmix64. */
-static uint64_t word(void)
-{
-    static uint64_t state = 11;
-    uint64_t z = state += 0x9e3779b97f4a7c15;
-    z = (z ^ z >> 30) * 0xbf58476d1ce4e5b9;
-    z = (z ^ z >> 27) * 0x94d049bb133111eb;
-    return z ^ z >> 31;
 }
 
 /* No piece of these lines is longer, and a run has at most one for each step. */
@@ -277,7 +267,7 @@ static void forged_states(void)
     for (size_t i = 0; i < FORGED; i++) {
         const char *format = formats[word() % COUNT(formats)];
         int fenced = word() % 2;
-        open_line(format, strlen(format), arguments.bytes, table_length(), fenced);
+        open_line(format, strlen(format), table.bytes, table_length(), fenced);
         memset(&state, 0xff, sizeof state);
         follow(state, fenced);
         state.stage = 1;
@@ -290,13 +280,13 @@ static void forged_states(void)
 
 int main(void)
 {
+    seed = 11;
     fill_arguments();
     lines_of_formats();
     other_lines();
     for (uint32_t code = TILDE_DONE; code < TILDE_NO_ROOM; code++)
         expect(met[code], "each code is met", code);
     forged_states();
-    give_back(arguments);
     printf("%zu checks\n", checks);
     return 0;
 }

@@ -1,0 +1,151 @@
+#include "correcting.h"
+
+#include "show.h"
+
+#include <string.h>
+#include <tilde.h>
+
+/* Whether the library finds no fault in the bytes, once they stand in the format. A vet of no kinds reads the whole text
+   first and runs nothing. */
+static int holds(const struct format *format, size_t start, size_t end, const struct spelling *instead)
+{
+    uint8_t bytes[TILDE_MOST_FORMAT];
+    const size_t length = format->length - (end - start) + instead->length, behind = format->length - end;
+    size_t position, count;
+    if (length > sizeof bytes)
+        return 0;
+    memcpy(bytes, format->bytes, start);
+    memcpy(bytes + start, instead->bytes, instead->length);
+    memcpy(bytes + start + instead->length, format->bytes + end, behind);
+    const uint32_t code = tilde_vet(bytes, length, NULL, 0, 0, &position, &count);
+    return code < TILDE_LONG_FORMAT || code > TILDE_BAD_PARAMETER || position < start ||
+           position >= start + instead->length;
+}
+
+int propose(FILE *to, const char *lead, const struct format *format, size_t start, size_t end,
+            const struct spelling *instead)
+{
+    if (!holds(format, start, end, instead))
+        return 0;
+    fprintf(to, "%s: ", lead);
+    for (size_t i = 0; i < instead->length;) {
+        const struct shown shown = show_next(instead->bytes + i, instead->length - i);
+        fputs(shown.text, to);
+        i += shown.bytes;
+    }
+    return 1;
+}
+
+int parameter_misfits(const struct parameter *parameter, const struct place *place)
+{
+    if (parameter->form == FORM_EMPTY || parameter->form == FORM_NEXT)
+        return 0;
+    return place->character != (parameter->form == FORM_BYTE);
+}
+
+/* A number as near as its place allows. */
+static void fit_number(struct parameter *parameter, const struct place *place)
+{
+    if (parameter->badness == SIGN_ALONE)
+        parameter->form = FORM_EMPTY;
+    else if (parameter->form == FORM_NUMBER && parameter->value < place->least)
+        parameter->value = place->least;
+    else if (parameter->form == FORM_NUMBER && parameter->value > place->most)
+        parameter->value = place->most;
+    parameter->badness = NUMBER_GOOD;
+}
+
+/* What may stand in a place for characters where a number was written: a digit is meant as a byte, and # too. */
+static struct parameter as_byte(const struct parameter *parameter)
+{
+    if (parameter->form == FORM_REMAINING)
+        return (struct parameter){.form = FORM_BYTE, .value = '#'};
+    if (parameter->value > 9 || parameter->badness != NUMBER_GOOD)
+        return (struct parameter){.form = FORM_EMPTY};
+    return (struct parameter){.form = FORM_BYTE, .value = '0' + parameter->value};
+}
+
+/* What may stand in a place for numbers where a byte was written and no place is for characters: the number of a
+   character, or a digit. */
+static struct parameter as_number(const struct parameter *parameter, const struct rule *rule)
+{
+    const unsigned value = parameter->value;
+    if (rule->letter == 'c' && value <= rule->places[0].most)
+        return (struct parameter){.form = FORM_NUMBER, .value = value};
+    if (value >= '0' && value <= '9')
+        return (struct parameter){.form = FORM_NUMBER, .value = value - '0'};
+    return (struct parameter){.form = FORM_EMPTY};
+}
+
+/* The first place for characters that nothing is written in; MOST_PLACES where there is none. */
+static size_t free_character(const struct directive *directive, const struct rule *rule)
+{
+    size_t i = 0;
+    while (i < places_of(rule) && !(rule->places[i].character && directive->parameters[i].form == FORM_EMPTY))
+        i++;
+    return i < places_of(rule) ? i : MOST_PLACES;
+}
+
+/* Makes the parameter in place i fit. A byte among numbers goes to the place for characters, and a number that stands
+   there comes back in exchange. */
+static void fit_place(struct directive *directive, const struct rule *rule, size_t i)
+{
+    struct parameter *parameter = directive->parameters + i;
+    if (!parameter_misfits(parameter, rule->places + i))
+        return;
+    if (rule->places[i].character) {
+        *parameter = as_byte(parameter);
+        return;
+    }
+    const struct parameter byte = *parameter;
+    size_t to = free_character(directive, rule);
+    *parameter = (struct parameter){.form = FORM_EMPTY};
+    if (i + 1 < places_of(rule) && parameter_misfits(parameter + 1, rule->places + i + 1)) {
+        to = i + 1;
+        *parameter = directive->parameters[to];
+    }
+    if (to < MOST_PLACES)
+        directive->parameters[to] = byte;
+    else
+        *parameter = as_number(&byte, rule);
+}
+
+/* The directive with its parameters made to fit the rule. */
+static struct directive fitted(const struct directive *directive, const struct rule *rule)
+{
+    struct directive made = *directive;
+    const size_t places = places_of(rule);
+    for (size_t i = places; i < MOST_PLACES; i++)
+        made.parameters[i] = (struct parameter){.form = FORM_EMPTY};
+    made.count = places;
+    for (size_t i = 0; i < places; i++)
+        fit_place(&made, rule, i);
+    for (size_t i = 0; i < places; i++)
+        if (!rule->places[i].character)
+            fit_number(made.parameters + i, rule->places + i);
+    return made;
+}
+
+/* Tries the directive with these modifiers. */
+static int propose_with(FILE *to, const struct format *format, const struct directive *directive, int colon, int at)
+{
+    struct directive made = *directive;
+    made.colon = colon;
+    made.at = at;
+    const struct rule *rule = directive_rule(&made);
+    if (rule == NULL)
+        return 0;
+    made = fitted(&made, rule);
+    const struct spelling spelling = directive_spell(&made);
+    return propose(to, "", format, directive->start, directive->end, &spelling);
+}
+
+int propose_fitting(FILE *to, const struct format *format, const struct directive *directive)
+{
+    const int colon = directive->colon, at = directive->at;
+    /* a jump by a number below 0 is one back */
+    if (directive->code == '*' && directive->parameters[0].badness == NUMBER_BELOW && !colon && !at)
+        return propose_with(to, format, directive, 1, 0);
+    return propose_with(to, format, directive, colon, at) || (at && propose_with(to, format, directive, 0, at)) ||
+           (colon && propose_with(to, format, directive, colon, 0)) || propose_with(to, format, directive, 0, 0);
+}

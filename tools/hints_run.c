@@ -1,0 +1,163 @@
+#include "hints.h"
+#include "judging.h"
+#include "wording.h"
+
+#include <inttypes.h>
+#include <tilde.h>
+
+/* Behind what takes an argument: that it is not there, and how many are. */
+static void print_missing(FILE *to, const struct hand *hand, size_t argument)
+{
+    if (hand->count == 0) {
+        fputs(" takes an argument, and none is given", to);
+        return;
+    }
+    fputs(" takes ", to);
+    hand_name(to, hand, argument);
+    fprintf(to, ", and there %s %zu", hand->count == 1 ? "is" : "are", hand->count);
+}
+
+/* Behind what takes an argument: of which kinds, and which one it met. */
+static void print_met(FILE *to, const struct hand *hand, size_t argument, unsigned kinds)
+{
+    fputs(" takes ", to);
+    print_kinds(to, kinds);
+    fputs(", and ", to);
+    hand_name(to, hand, argument);
+    fputs(" is ", to);
+    hand_show(to, hand, argument);
+}
+
+/* Which directive takes the kind that was met. */
+static void print_instead(FILE *to, const struct rule *rule, unsigned kind)
+{
+    if (kind == TILDE_LIST)
+        fputs("; ~{ goes over a list", to);
+    else if (rule->letter == '[')
+        fputs("; ~:[ tells #f from all else", to);
+    else if (rule->letter != '{')
+        fputs("; ~a shows it", to);
+    else
+        fputs("; ~@{ goes over the arguments themselves", to);
+}
+
+static void print_jump(FILE *to, const struct directive *directive, const struct hand *hand,
+                       const struct finding *finding)
+{
+    const struct spelling spelling = directive_spell(directive);
+    fprintf(to, "%.*s", (int)spelling.length, (const char *)spelling.bytes);
+    fprintf(to, " would go from argument %zu to %" PRId64 ", counted from 0, and there ", finding->argument, finding->value);
+    fprintf(to, "%s %zu", hand->count == 1 ? "is" : "are", hand->count);
+}
+
+/* What is wrong with the v or # of a place. */
+static void print_parameter(FILE *to, const struct place *place, const struct hand *hand, const struct finding *finding)
+{
+    if (finding->cause == REMAINING_RANGE || finding->cause == V_RANGE) {
+        fprintf(to, "its %s is ", place->name);
+        print_takes(to, place);
+        if (finding->cause == REMAINING_RANGE) {
+            fprintf(to, ", and # is %" PRId64 " here, the arguments that remain", finding->value);
+        } else {
+            fprintf(to, ", and v takes %" PRId64 " from ", finding->value);
+            hand_name(to, hand, finding->argument);
+        }
+        return;
+    }
+    fprintf(to, "the v of its %s", place->name);
+    if (finding->cause == V_MISSING)
+        print_missing(to, hand, finding->argument);
+    else
+        print_met(to, hand, finding->argument, 1u << (place->character ? TILDE_CHARACTER : TILDE_INTEGER));
+}
+
+static void print_finding(FILE *to, const struct directive *directive, const struct rule *rule, const struct hand *hand,
+                          const struct finding *finding)
+{
+    const enum cause cause = finding->cause;
+    if (cause == V_MISSING || cause == V_KIND || cause == V_RANGE || cause == REMAINING_RANGE) {
+        print_parameter(to, rule->places + finding->place, hand, finding);
+        return;
+    }
+    if (cause == JUMP_OUTSIDE) {
+        print_jump(to, directive, hand, finding);
+        return;
+    }
+    print_directive(to, rule->letter, modifiers_of(directive->colon, directive->at));
+    if (cause == NONE_BEFORE) {
+        fputs(" goes back to the argument before, and here none was taken", to);
+    } else if (cause == OWN_MISSING) {
+        print_missing(to, hand, finding->argument);
+    } else {
+        print_met(to, hand, finding->argument, rule->kinds);
+        print_instead(to, rule, hand_kind(hand, finding->argument));
+    }
+}
+
+/* What can be said without the arguments in hand. */
+static void print_less(FILE *to, const struct directive *directive, const struct rule *rule, uint32_t code)
+{
+    print_directive(to, rule->letter, modifiers_of(directive->colon, directive->at));
+    if (code == TILDE_NO_ARGUMENT) {
+        fputs(" finds no argument here", to);
+    } else if (code == TILDE_WRONG_KIND) {
+        fputs(" takes ", to);
+        print_kinds(to, rule->kinds);
+    } else {
+        fputs(" has a v or # that is outside its place's range", to);
+    }
+}
+
+void hint_argument(FILE *to, const struct directive *directive, uint32_t code, const struct hand *hand)
+{
+    const struct rule *rule = directive_rule(directive);
+    struct finding finding = {.cause = CAUSE_NONE};
+    if (rule == NULL)
+        return;
+    if (hand != NULL)
+        finding = directive_judge(directive, rule, hand);
+    if (cause_code(finding.cause) == code)
+        print_finding(to, directive, rule, hand, &finding);
+    else
+        print_less(to, directive, rule, code);
+}
+
+/* Whether nothing in the body of an iteration takes an argument or goes to another. */
+static int takes_nothing(struct walk *walk, const struct directive *opener)
+{
+    struct directive directive = *opener;
+    const size_t depth = walk->depth;
+    walk_past(walk, opener);
+    while (walk_find(walk, &directive) && walk->depth > depth) {
+        const struct rule *rule = directive_rule(&directive);
+        if (rule == NULL || rule->kinds != 0 || rule->letter == '*' || rule->letter == '{')
+            return 0;
+        for (size_t i = 0; i < MOST_PLACES; i++)
+            if (directive.parameters[i].form == FORM_NEXT)
+                return 0;
+        walk_past(walk, &directive);
+    }
+    return 1;
+}
+
+void hint_steps(FILE *to, const struct format *format, size_t position)
+{
+    struct walk walk = walk_to(format, position);
+    struct directive loop;
+    /* a pass is refused at its opener */
+    const int opens = walk_find(&walk, &loop) && loop.start == position && loop.code == '{';
+    while (!opens && walk.depth > 0 && walk.open[walk.depth - 1].opener.code != '{')
+        walk.depth--;
+    if (!opens && walk.depth == 0)
+        return;
+    if (!opens) {
+        loop = walk.open[--walk.depth].opener;
+        walk.next = loop.start;
+    }
+    fputs("in the loop ", to);
+    print_directive(to, '{', modifiers_of(loop.colon, loop.at));
+    fprintf(to, " at byte %zu; ", loop.start);
+    fputs(takes_nothing(&walk, &loop) ? "no pass of it takes an argument, so it never ends"
+                                      : "a loop ends when its passes have taken all arguments, and a byte of text, a "
+                                        "directive and a pass are a step each", to);
+}

@@ -1,0 +1,156 @@
+#include "hints.h"
+#include "show.h"
+#include "wording.h"
+
+/* The directive as it is written in messages. */
+static void print_read(FILE *to, const struct directive *directive)
+{
+    print_directive(to, directive->code, modifiers_of(directive->colon, directive->at));
+}
+
+static void hint_shape(FILE *to, const struct directive *directive)
+{
+    switch (directive->slip) {
+    case SLIP_MODIFIER:
+        fputs("a modifier, : or @, is written once", to);
+        break;
+    case SLIP_LATE:
+        fputs("parameters are written before the modifiers", to);
+        break;
+    default:
+        fputs("parameters are parted by commas", to);
+    }
+}
+
+/* The format ends inside the directive: a tilde alone may be meant as text, and parameters lack a letter. */
+static void hint_end(FILE *to, const struct format *format, const struct directive *directive)
+{
+    static const uint8_t letters[] = "adc";
+    struct directive made = *directive;
+    if (directive->end == directive->start + 1) {
+        const struct spelling tilde = {.bytes = "~~", .length = 2};
+        fputs("the format ends behind this tilde; to print a tilde, write it twice", to);
+        propose(to, "", format, directive->start, directive->end, &tilde);
+        return;
+    }
+    fputs("the format ends before the letter of this directive", to);
+    for (size_t i = 0; letters[i] != '\0'; i++) {
+        made.code = letters[i];
+        const struct spelling spelling = directive_spell(&made);
+        if (propose(to, "", format, directive->start, directive->end, &spelling))
+            return;
+    }
+}
+
+static void hint_letter(FILE *to, uint8_t code)
+{
+    const char *instead = guile_only(code);
+    if (instead != NULL) {
+        fprintf(to, "~%c is not supported: in Guile it is %s", code, instead);
+        return;
+    }
+    const struct shown shown = show_next(&code, 1);
+    if (code == ' ' || code == '\t' || code == '\r')
+        fprintf(to, "a %s is no directive", code == ' ' ? "space" : code == '\t' ? "tab" : "return");
+    else
+        fprintf(to, "~%s is no directive", shown.text);
+    fputs("; there are ", to);
+    print_all_directives(to);
+    fputs(", and ~~ prints a tilde", to);
+}
+
+void hint_unknown(FILE *to, const struct format *format, const struct directive *directive)
+{
+    if (directive->slip == SLIP_END) {
+        hint_end(to, format, directive);
+    } else if (directive->slip == SLIP_NONE || directive->slip == SLIP_NUMBER) {
+        hint_letter(to, directive->code);
+    } else {
+        hint_shape(to, directive);
+        propose_fitting(to, format, directive);
+    }
+}
+
+/* A separator that may not stand here. */
+static void hint_separator(FILE *to, const struct format *format, const struct directive *directive,
+                           const struct block *inside)
+{
+    const struct spelling plain = {.bytes = "~;", .length = 2};
+    if (inside == NULL || inside->opener.code != '[') {
+        fputs("~; parts the clauses of a ~[, and ", to);
+        if (inside == NULL)
+            fputs("no block is open here", to);
+        else
+            fprintf(to, "the block open here is the ~{ at byte %zu", inside->opener.start);
+    } else if (inside->last > 0) {
+        fprintf(to, "the clause behind ~:; is the last one, and that stands at byte %zu", inside->last - 1);
+    } else {
+        fputs("~:; belongs to a ~[ that picks by number, and ", to);
+        print_read(to, &inside->opener);
+        fputs(inside->opener.colon ? " parts its two clauses by a plain one" : " has one clause", to);
+        if (inside->opener.colon)
+            propose(to, "", format, directive->start, directive->end, &plain);
+    }
+}
+
+static void hint_closer(FILE *to, const struct format *format, const struct directive *directive,
+                        const struct block *inside)
+{
+    if (inside == NULL) {
+        fprintf(to, "~%c closes a block, and none is open here", directive->code);
+        return;
+    }
+    const struct spelling closer = {.bytes = {'~', closer_of(inside->opener.code)}, .length = 2};
+    fputs("the block open here is the ", to);
+    print_read(to, &inside->opener);
+    fprintf(to, " at byte %zu, which ~%c closes", inside->opener.start, closer.bytes[1]);
+    propose(to, "", format, directive->start, directive->end, &closer);
+}
+
+/* A conditional with a number of clauses that it does not have: another one has that number. */
+static void hint_clauses(FILE *to, const struct format *format, const struct directive *opener, size_t clauses)
+{
+    struct directive other = *opener;
+    other.colon = clauses == 2;
+    other.at = clauses == 1;
+    const struct spelling spelling = directive_spell(&other);
+    print_read(to, opener);
+    fprintf(to, " has %s, and here ", opener->colon ? "two clauses, for #f and for all else" : "one clause, for all but #f");
+    fprintf(to, clauses == 1 ? "is %zu" : "are %zu", clauses);
+    propose(to, clauses == 1   ? "; one for all but #f is begun by"
+                : clauses == 2 ? "; two for #f and all else are begun by"
+                               : "; more of them, picked by number, are begun by",
+            format, opener->start, opener->end, &spelling);
+}
+
+static void hint_opener(FILE *to, const struct format *format, const struct directive *opener, struct walk *walk)
+{
+    const struct spelling body = {.bytes = "~{~a~}", .length = 6};
+    struct directive closer;
+    size_t separators;
+    if (walk->depth == MOST_LEVELS) {
+        fprintf(to, "blocks nest at most %d deep, and this is one more: open are those at bytes", MOST_LEVELS);
+        for (size_t i = 0; i < walk->depth; i++)
+            fprintf(to, "%s %zu", i > 0 ? "," : "", walk->open[i].opener.start);
+    } else if (!walk_to_closer(walk, opener, &closer, &separators)) {
+        print_read(to, opener);
+        fprintf(to, " is not closed; write ~%c where it ends", closer_of(opener->code));
+    } else if (opener->code == '[') {
+        hint_clauses(to, format, opener, separators + 1);
+    } else {
+        fputs("nothing stands between ~{ and ~}; write there what each pass does", to);
+        if (opener->count == 0 && !opener->at)
+            propose(to, "", format, opener->start, closer.end, &body);
+    }
+}
+
+void hint_block(FILE *to, const struct format *format, const struct directive *directive)
+{
+    struct walk walk = walk_to(format, directive->start);
+    if (directive->code == ';')
+        hint_separator(to, format, directive, walk_inside(&walk));
+    else if (closer_of(directive->code) == 0)
+        hint_closer(to, format, directive, walk_inside(&walk));
+    else
+        hint_opener(to, format, directive, &walk);
+}

@@ -1,0 +1,67 @@
+#include "hints.h"
+#include "wording.h"
+
+/* The most clauses whose ends a hint names. */
+#define MOST_CLAUSES ((size_t)5)
+
+static int has_v(const struct directive *directive, size_t *place)
+{
+    for (*place = 0; *place < MOST_PLACES; ++*place)
+        if (directive->parameters[*place].form == FORM_NEXT)
+            return 1;
+    return 0;
+}
+
+/* How many arguments each way through a conditional takes. */
+static void print_ways(FILE *to, struct walk *walk, const struct directive *opener)
+{
+    const size_t depth = walk->depth;
+    size_t clauses = 0, last = 0, begins;
+    struct directive directive = *opener;
+    walk_past(walk, opener);
+    begins = walk->taken;
+    while (walk_find(walk, &directive) && walk->depth > depth) {
+        const int ends = walk->depth == depth + 1 && (directive.code == ';' || directive.code == ']');
+        if (ends && clauses++ < MOST_CLAUSES) {
+            fputs(clauses > 1 ? ", the " : "the ", to);
+            print_ordinal(to, clauses);
+            fprintf(to, " clause takes %zu", walk->taken - begins);
+        }
+        last = walk->open[depth].last;
+        walk_past(walk, &directive);
+    }
+    if (clauses > MOST_CLAUSES)
+        fputs(", and so on", to);
+    if (last == 0 && !opener->colon && !opener->at)
+        fputs(", and no clause takes 0: a last clause behind ~:; is needed where they take more", to);
+}
+
+static void hint_conditional(FILE *to, const struct format *format, const struct directive *directive)
+{
+    struct walk walk = walk_to(format, directive->start);
+    if (directive->at) {
+        fputs("a vet takes ~@[ for a boolean alone, and its clause has to take that one argument: ", to);
+    } else {
+        print_directive(to, directive->code, modifiers_of(directive->colon, 0));
+        fputs(" has to take as many arguments whichever way it goes: ", to);
+    }
+    print_ways(to, &walk, directive);
+}
+
+void hint_not_plain(FILE *to, const struct format *format, const struct directive *directive)
+{
+    const struct rule *rule = directive_rule(directive);
+    size_t place;
+    if (rule == NULL)
+        return;
+    if (has_v(directive, &place)) {
+        fprintf(to, "the v of its %s takes a value that a vet does not know; write a number or a character there",
+                rule->places[place].name);
+    } else if (rule->letter == '[') {
+        hint_conditional(to, format, directive);
+    } else {
+        print_directive(to, rule->letter, modifiers_of(directive->colon, directive->at));
+        fprintf(to, " %s, so a vet cannot count the line; tilde try shows it for one row of values",
+                rule->letter == '*' ? "jumps" : rule->letter == '{' ? "repeats" : "may end it early");
+    }
+}

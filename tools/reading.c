@@ -1,0 +1,179 @@
+#include "reading.h"
+
+/* The format, and how far the directive is read. */
+struct source {
+    const uint8_t *format;
+    size_t length, next;
+};
+
+/* The byte that comes next; 0 at the end, which begins no parameter and is no modifier. */
+static uint8_t peek(const struct source *source)
+{
+    return source->next < source->length ? source->format[source->next] : 0;
+}
+
+static int is_digit(uint8_t byte)
+{
+    return byte >= '0' && byte <= '9';
+}
+
+static int is_modifier(uint8_t byte)
+{
+    return byte == ':' || byte == '@';
+}
+
+static int begins_parameter(uint8_t byte)
+{
+    return is_digit(byte) || byte == '+' || byte == '-' || byte == '\'' || byte == 'v' || byte == 'V' || byte == '#';
+}
+
+static void slip(struct directive *directive, enum slip slip)
+{
+    if (directive->slip == SLIP_NONE)
+        directive->slip = slip;
+}
+
+static struct parameter read_number(struct source *source)
+{
+    struct parameter number = {.form = FORM_NUMBER};
+    const int negative = peek(source) == '-';
+    source->next += is_digit(peek(source)) ? 0 : 1;
+    if (!is_digit(peek(source)))
+        number.badness = SIGN_ALONE;
+    for (; is_digit(peek(source)); source->next++)
+        if (number.value <= MOST_NUMBER)
+            number.value = 10 * number.value + peek(source) - '0';
+    if (number.value > MOST_NUMBER)
+        number.value = MOST_NUMBER + 1;
+    if (number.value > 0 && negative)
+        number.badness = NUMBER_BELOW;
+    else if (number.value > MOST_NUMBER)
+        number.badness = NUMBER_ABOVE;
+    return number;
+}
+
+/* The parameter that begins here. A quote at the end of the format is left for the end to be met. */
+static struct parameter read_parameter(struct source *source)
+{
+    const uint8_t byte = peek(source);
+    if (is_digit(byte) || byte == '+' || byte == '-')
+        return read_number(source);
+    source->next++;
+    if (byte == '\'')
+        return (struct parameter){.form = FORM_BYTE, .value = source->next < source->length ? source->format[source->next++] : 0};
+    return (struct parameter){.form = byte == '#' ? FORM_REMAINING : FORM_NEXT};
+}
+
+/* Puts a parameter into the place in hand, and says what is wrong with where it stands. */
+static void take_parameter(struct directive *directive, struct source *source, int filled)
+{
+    if (directive->colon || directive->at)
+        slip(directive, SLIP_LATE);
+    else if (filled)
+        slip(directive, SLIP_COMMA);
+    const struct parameter parameter = read_parameter(source);
+    if (parameter.badness != NUMBER_GOOD)
+        slip(directive, SLIP_NUMBER);
+    if (directive->count == 0 || filled)
+        directive->count++;
+    if (directive->count <= MOST_PLACES)
+        directive->parameters[directive->count - 1] = parameter;
+}
+
+static void take_comma(struct directive *directive, struct source *source)
+{
+    if (directive->colon || directive->at)
+        slip(directive, SLIP_LATE);
+    directive->count += directive->count == 0 ? 2 : 1;
+    source->next++;
+}
+
+static void take_modifier(struct directive *directive, struct source *source)
+{
+    int *modifier = source->format[source->next++] == ':' ? &directive->colon : &directive->at;
+    if (*modifier)
+        slip(directive, SLIP_MODIFIER);
+    *modifier = 1;
+}
+
+struct directive directive_read(const uint8_t *format, size_t length, size_t start)
+{
+    struct directive directive = {.start = start};
+    struct source source = {format, length, start + 1};
+    /* whether the place in hand holds a parameter already */
+    int filled = 0;
+    for (;;) {
+        const uint8_t byte = peek(&source);
+        if (begins_parameter(byte)) {
+            take_parameter(&directive, &source, filled);
+            filled = 1;
+        } else if (byte == ',') {
+            take_comma(&directive, &source);
+            filled = 0;
+        } else if (is_modifier(byte)) {
+            take_modifier(&directive, &source);
+        } else {
+            break;
+        }
+    }
+    if (source.next < length)
+        directive.code = format[source.next++];
+    else
+        slip(&directive, SLIP_END);
+    directive.end = source.next;
+    return directive;
+}
+
+const struct rule *directive_rule(const struct directive *directive)
+{
+    return rule_for(directive->code, modifiers_of(directive->colon, directive->at));
+}
+
+int takes_argument(const struct directive *directive)
+{
+    const struct rule *rule = directive_rule(directive);
+    const int given = directive->count > 0 && directive->parameters[0].form != FORM_EMPTY;
+    return rule != NULL && rule->kinds != 0 && !(given && (rule->letter == 'c' || rule->letter == '['));
+}
+
+static void spell_parameter(struct spelling *spelling, const struct parameter *parameter)
+{
+    uint8_t *to = spelling->bytes + spelling->length;
+    const size_t room = sizeof spelling->bytes - spelling->length;
+    switch (parameter->form) {
+    case FORM_NUMBER:
+        spelling->length += (size_t)snprintf((char *)to, room, "%u", parameter->value);
+        break;
+    case FORM_BYTE:
+        to[0] = '\'';
+        to[1] = (uint8_t)parameter->value;
+        spelling->length += 2;
+        break;
+    case FORM_NEXT:
+    case FORM_REMAINING:
+        to[0] = parameter->form == FORM_NEXT ? 'v' : '#';
+        spelling->length++;
+        break;
+    case FORM_EMPTY:
+        break;
+    }
+}
+
+struct spelling directive_spell(const struct directive *directive)
+{
+    struct spelling spelling = {.bytes = {'~'}, .length = 1};
+    size_t count = directive->count < MOST_PLACES ? directive->count : MOST_PLACES;
+    while (count > 0 && directive->parameters[count - 1].form == FORM_EMPTY)
+        count--;
+    for (size_t i = 0; i < count; i++) {
+        if (i > 0)
+            spelling.bytes[spelling.length++] = ',';
+        spell_parameter(&spelling, directive->parameters + i);
+    }
+    if (directive->colon)
+        spelling.bytes[spelling.length++] = ':';
+    if (directive->at)
+        spelling.bytes[spelling.length++] = '@';
+    spelling.bytes[spelling.length++] = directive->code;
+    return spelling;
+}
