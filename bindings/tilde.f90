@@ -239,11 +239,9 @@ contains
     if (self%wrong == '') self%wrong = why
   end subroutine refuse
 
-  ! Looks at what a call that adds a value answered.
-  subroutine check(self, fits)
+  ! What was to be added did not fit.
+  subroutine overflow(self)
     class(tilde_table), intent(inout) :: self
-    integer(c_int), intent(in) :: fits
-    if (fits /= 0) return
     if (self%ended) then
       call refuse(self, 'a value came after the end: clear begins another table')
     else if (self%made%entries == tilde_most_entries) then
@@ -251,20 +249,20 @@ contains
     else
       call refuse(self, 'more than 65,536 bytes of strings')
     end if
-  end subroutine check
+  end subroutine overflow
 
   subroutine add_boolean(self, value)
     class(tilde_table), intent(inout) :: self
     logical, intent(in) :: value
     call prepare(self)
-    call check(self, tilde_c_boolean(self%made, merge(1_c_int, 0_c_int, value)))
+    if (tilde_c_boolean(self%made, merge(1_c_int, 0_c_int, value)) == 0) call overflow(self)
   end subroutine add_boolean
 
   subroutine add_int64(self, value)
     class(tilde_table), intent(inout) :: self
     integer(int64), intent(in) :: value
     call prepare(self)
-    call check(self, tilde_c_integer(self%made, value))
+    if (tilde_c_integer(self%made, value) == 0) call overflow(self)
   end subroutine add_int64
 
   subroutine add_int32(self, value)
@@ -277,7 +275,7 @@ contains
     class(tilde_table), intent(inout) :: self
     character(len=*), intent(in) :: value
     call prepare(self)
-    call check(self, tilde_c_string(self%made, value, len(value, kind=c_size_t)))
+    if (tilde_c_string(self%made, value, len(value, kind=c_size_t)) == 0) call overflow(self)
   end subroutine add_string
 
   subroutine add_character(self, value)
@@ -289,20 +287,20 @@ contains
     else if (iachar(value) > 127) then
       call refuse(self, 'a character above 127')
     else
-      call check(self, tilde_c_character(self%made, int(iachar(value), c_int)))
+      if (tilde_c_character(self%made, int(iachar(value), c_int)) == 0) call overflow(self)
     end if
   end subroutine add_character
 
   subroutine begin_list(self)
     class(tilde_table), intent(inout) :: self
     call prepare(self)
-    call check(self, tilde_c_list_begin(self%made))
+    if (tilde_c_list_begin(self%made) == 0) call overflow(self)
   end subroutine begin_list
 
   subroutine end_list(self)
     class(tilde_table), intent(inout) :: self
     call prepare(self)
-    if (tilde_c_list_end(self%made) == 0) call refuse(self, 'a list ends that none began')
+    if (tilde_c_list_end(self%made) == 0) call refuse(self, 'a list ends that is not open')
   end subroutine end_list
 
   subroutine finish(self)

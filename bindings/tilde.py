@@ -312,8 +312,9 @@ _KINDS = {bool: Kind.BOOLEAN, int: Kind.INTEGER, Char: Kind.CHARACTER, str: Kind
 def _tag(kind: Any) -> int:
     if isinstance(kind, type) and kind in _KINDS:
         return _KINDS[kind]
-    if isinstance(kind, int) and 0 <= kind <= 255:
-        return kind
+    if isinstance(kind, int):
+        # no kind has the tag 255
+        return kind if 0 <= kind <= 255 else 255
     raise TypeError(f"{kind!r} is no kind: give bool, int, tilde.Char, str, bytes, list or a tilde.Kind")
 
 

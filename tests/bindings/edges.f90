@@ -113,7 +113,7 @@ contains
     call expect(table%fault() == 'a character that is not one byte', 'no character is told')
     call table%clear()
     call table%end_list()
-    call expect(table%fault() == 'a list ends that none began', 'a list without a beginning is told')
+    call expect(table%fault() == 'a list ends that is not open', 'a list without a beginning is told')
     call table%add(1)
     call gives('~d', table, '', tilde_bad_table)
     call table%clear()
