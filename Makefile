@@ -71,8 +71,8 @@ endif
 # The proved archives and the program. One rt at a time: they share target/. It may leave a file that was right as it
 # was, hence touch.
 PROVED_FROM := crates.txt $(shell find crates \( -name edits -o -name must-fail \) -prune -o -type f -print)
-rt_there = @command -v rt >/dev/null || { echo 'make: $@ is missing or older than crates/, and rt, which builds it, is' \
-    'not there: install the Rattle kit and put its rt on the PATH' >&2; exit 1; }
+rt_there = @command -v rt >/dev/null || { echo 'make: $@ is missing or older than crates/, and rt, which' \
+    'builds it, is not there: install the Rattle kit and put its rt on the PATH' >&2; exit 1; }
 
 target/staticlib/libtilde.a target/staticlib/libtilde_windows.a: target/staticlib/lib%.a: $(PROVED_FROM)
 	$(rt_there)

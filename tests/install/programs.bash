@@ -2,15 +2,19 @@
 
 warnings=(-Wall -Wextra -Wpedantic -Wconversion -Wshadow -Werror)
 
-# flags WORD..: what pkg-config answers about the installation in $1 with those words, as words of a shell.
+# flags FROM WORD..: what pkg-config answers to these words about the installation in FROM, as words of a shell.
 flags() {
     local from=$1
     shift
-    PKG_CONFIG_PATH="$from/lib/pkgconfig" pkg-config "$@" tilde
+    if there pkg-config; then
+        PKG_CONFIG_PATH="$from/lib/pkgconfig" pkg-config "$@" tilde
+    else
+        printf '%q ' "-I$from/include" "-L$from/lib" -ltilde
+    fi
 }
 
-# built COMPILER STANDARD HOW FROM SOURCE..: builds a program against the installation in FROM, shared or static, runs it
-# and keeps what it prints in $room/printed.
+# built COMPILER STANDARD HOW FROM SOURCE..: builds a program against the installation in FROM, shared or static, runs
+# it and keeps what it prints in $room/printed.
 built() {
     local compiler=$1 standard=$2 how=$3 from=$4 language=c
     local needs
@@ -31,6 +35,7 @@ built() {
 
 check_programs() {
     local compiler standard how line='Harlingen     1013 hPa, 3 gusts'
+    there pkg-config || skip "pkg-config is not there: programs are built with the folders alone"
     for compiler in gcc g++ clang clang++; do
         there "$compiler" || { skip "$compiler is not there"; continue; }
         standard=c99
