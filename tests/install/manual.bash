@@ -64,13 +64,19 @@ check_links() {
 
 # Each number that a header names stands in the manual with its value.
 check_values() {
-    local value
-    sed -nE 's/^ *(TILDE_[A-Z_]+) = ([0-9]+),?$/\1 (\2)/p; s/^#define (TILDE_[A-Z_]+) ([0-9]+)$/\1 (\2)/p' \
-        include/tilde.h include/tilde_table.h >"$room/values"
-    check "the headers name numbers" test "$(wc -l <"$room/values")" -gt 20
+    local names name value
+    names=$(sed -nE 's/^ *(TILDE_[A-Z_]+) = .*/\1/p; s/^#define (TILDE_[A-Z_]+) .*/\1/p' include/tilde.h \
+        include/tilde_table.h | grep -vx TILDE_VERSION)
+    {
+        printf '#include <stdio.h>\n#include <tilde_table.h>\nint main(void)\n{\n'
+        for name in $names; do printf '    printf("%s (%%u)\\n", (unsigned)%s);\n' "$name" "$name"; done
+        printf '    return 0;\n}\n'
+    } >"$room/values.c"
+    built gcc c99 shared "$prefix" "$room/values.c"
+    check "the headers name numbers" test "$(wc -l <"$room/printed")" -gt 20
     while IFS= read -r value; do
         check "the manual has $value" grep -qF "$value" "$room"/text/*.3
-    done <"$room/values"
+    done <"$room/printed"
 }
 
 # The program in the EXAMPLES of a page compiles, and prints what the page says: the block behind "prints".
