@@ -72,7 +72,8 @@ check_values() {
         for name in $names; do printf '    printf("%s (%%u)\\n", (unsigned)%s);\n' "$name" "$name"; done
         printf '    return 0;\n}\n'
     } >"$room/values.c"
-    built gcc c99 shared "$prefix" "$room/values.c"
+    check "the numbers of the headers" gcc -I"$prefix/include" -o "$room/program" "$room/values.c"
+    "$room/program" >"$room/printed"
     check "the headers name numbers" test "$(wc -l <"$room/printed")" -gt 20
     while IFS= read -r value; do
         check "the manual has $value" grep -qF "$value" "$room"/text/*.3
