@@ -3,8 +3,8 @@
 
 define HELP
 make             the libraries, the programs and the man pages, in build/; proves what is not proved
-make check       tests/run: proves and tests all, in about 15 minutes
-make quick       the tests of what is in build/ alone
+make check       tests/run: proves all again and runs every test; CONTRIBUTING.md says how long that takes
+make quick       builds, and runs the tests of what is in build/ alone
 make install     installs it; as root for the folders below
 make uninstall   removes the files that make install put there; folders that others use stay
 make clean       removes build/; what is proved stays in target/
@@ -171,7 +171,8 @@ uninstall:
 	$(call take,$(MANDIR)/man3,$(call section,3))
 	$(call take,$(MANDIR)/man7,$(call section,7))
 	$(call take,$(DATADIR)/tilde,$(BINDINGS))
-	rmdir "$(DESTDIR)$(DATADIR)/tilde" 2>/dev/null || true
+	rm -f "$(DESTDIR)$(DATADIR)/tilde/__pycache__"/tilde.*.pyc # by Python, from tilde.py
+	rmdir "$(DESTDIR)$(DATADIR)/tilde/__pycache__" "$(DESTDIR)$(DATADIR)/tilde" 2>/dev/null || true
 
 clean:
 	rm -rf build

@@ -48,6 +48,7 @@ check_programs() {
         done
     done
     check_space
+    check_bindings
     same "the installed tilde" "$version" "$("$prefix/bin/tilde" --version | awk '{ print $NF }')"
     same "the line of the installed tilde" "$line" \
         "$("$prefix/bin/tilde" try '~12a ~5d hPa, ~d gust~:p' '"Harlingen"' 1013 3)"
@@ -63,4 +64,16 @@ check_space() {
     built gcc c99 static "$prefix" examples/first.c
     check "make uninstall with a space" make uninstall "PREFIX=$prefix"
     same "no file is left" "" "$(files_of "$prefix")"
+}
+
+# The bindings stand where tilde.pc says, and Python finds the library from there.
+check_bindings() {
+    local binding folder="$prefix/share/tilde"
+    check "the folder of the bindings in tilde.pc" grep -qx "bindings=$folder" "$prefix/lib/pkgconfig/tilde.pc"
+    for binding in tilde.py tilde.f90; do
+        check "the installed $binding is that of bindings/" cmp "bindings/$binding" "$folder/$binding"
+    done
+    there python3 || { skip "python3 is not there: the installed tilde.py"; return; }
+    same "a line by the installed tilde.py" "b'Harlingen: 3 gusts'" "$(env -u TILDE_LIBRARY PYTHONPATH="$folder" \
+        LD_LIBRARY_PATH="$prefix/lib" python3 -c 'import tilde; print(tilde.format("~a: ~d gust~:p", "Harlingen", 3))')"
 }
