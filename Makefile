@@ -16,8 +16,8 @@ Set on the command line, as in `make install PREFIX=$$HOME/tilde`; what holds no
   INCLUDEDIR  $(INCLUDEDIR): tilde.h, tilde_table.h
   MANDIR      $(MANDIR): man1, man3, man7
   DATADIR     $(DATADIR): tilde/tilde.py, tilde/tilde.f90
-  DESTDIR     $(DESTDIR): stands before all of these, for packages
-  CC, CPPFLAGS, CFLAGS, LDFLAGS   $(CC), $(CPPFLAGS), $(CFLAGS), $(LDFLAGS)
+  DESTDIR     stands before all of these, for packages: $(DESTDIR)
+  CC          $(CC); and CFLAGS, CPPFLAGS, LDFLAGS: $(CFLAGS) $(CPPFLAGS) $(LDFLAGS)
 endef
 
 ifeq ($(origin CC),default)
@@ -108,7 +108,7 @@ $(LINKS): build/$(SHARED)
 	ln -sf $(SHARED) $@
 build/tilde: $(filter-out build/tools/exports.o,$(TOOLS)) build/libtilde.a
 	$(CC) $(CFLAGS) $(LDFLAGS) -o $@ $^
-build/tilde-jobs: target/bin/jobs
+build/tilde-jobs: target/bin/jobs | build/tools
 	cp $< $@
 
 $(PAGES): build/man/%: man/% include/tilde.h Makefile | build/man

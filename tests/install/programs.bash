@@ -74,6 +74,8 @@ check_bindings() {
         check "the installed $binding is that of bindings/" cmp "bindings/$binding" "$folder/$binding"
     done
     there python3 || { skip "python3 is not there: the installed tilde.py"; return; }
-    same "a line by the installed tilde.py" "b'Harlingen: 3 gusts'" "$(env -u TILDE_LIBRARY PYTHONPATH="$folder" \
-        LD_LIBRARY_PATH="$prefix/lib" python3 -c 'import tilde; print(tilde.format("~a: ~d gust~:p", "Harlingen", 3))')"
+    same "a line by the installed tilde.py" "b'Harlingen: 3 gusts'" "$(env -u TILDE_LIBRARY \
+        -u PYTHONDONTWRITEBYTECODE -u PYTHONPYCACHEPREFIX PYTHONPATH="$folder" LD_LIBRARY_PATH="$prefix/lib" \
+        python3 -c 'import tilde; print(tilde.format("~a: ~d gust~:p", "Harlingen", 3))')"
+    check "Python keeps something for uninstall to remove" test -d "$folder/__pycache__"
 }
