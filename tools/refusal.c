@@ -112,7 +112,7 @@ void refusal_print_vet(FILE *err, const struct question *question, uint32_t code
     if (code <= TILDE_BAD_PARAMETER)
         print_text_hint(err, &format, code, &directive);
     else if (code == TILDE_NOT_PLAIN)
-        hint_not_plain(err, &format, &directive);
+        hint_not_plain(err, &format, &directive, &hand);
     else
         hint_argument(err, &directive, code, &hand);
     fputc('\n', err);
