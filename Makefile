@@ -3,8 +3,8 @@
 
 define HELP
 make             the libraries, the programs and the man pages, in build/; proves what is not proved
-make check       tests/run: proves and tests all, in about 15 minutes
-make quick       the tests of what is in build/ alone
+make check       tests/run: proves all again and runs every test; CONTRIBUTING.md says how long that takes
+make quick       builds, and runs the tests of what is in build/ alone
 make install     installs it; as root for the folders below
 make uninstall   removes the files that make install put there; folders that others use stay
 make clean       removes build/; what is proved stays in target/
@@ -16,8 +16,8 @@ Set on the command line, as in `make install PREFIX=$$HOME/tilde`; what holds no
   INCLUDEDIR  $(INCLUDEDIR): tilde.h, tilde_table.h
   MANDIR      $(MANDIR): man1, man3, man7
   DATADIR     $(DATADIR): tilde/tilde.py, tilde/tilde.f90
-  DESTDIR     $(DESTDIR): stands before all of these, for packages
-  CC, CPPFLAGS, CFLAGS, LDFLAGS   $(CC), $(CPPFLAGS), $(CFLAGS), $(LDFLAGS)
+  DESTDIR     stands before all of these, for packages: $(DESTDIR)
+  CC          $(CC); and CFLAGS, CPPFLAGS, LDFLAGS: $(CFLAGS) $(CPPFLAGS) $(LDFLAGS)
 endef
 
 ifeq ($(origin CC),default)
@@ -71,8 +71,8 @@ endif
 # The proved archives and the program. One rt at a time: they share target/. It may leave a file that was right as it
 # was, hence touch.
 PROVED_FROM := crates.txt $(shell find crates \( -name edits -o -name must-fail \) -prune -o -type f -print)
-rt_there = @command -v rt >/dev/null || { echo 'make: $@ is missing or older than crates/, and rt, which builds it, is' \
-    'not there: install the Rattle kit and put its rt on the PATH' >&2; exit 1; }
+rt_there = @command -v rt >/dev/null || { echo 'make: $@ is missing or older than crates/, and rt, which' \
+    'builds it, is not there: install the Rattle kit and put its rt on the PATH' >&2; exit 1; }
 
 target/staticlib/libtilde.a target/staticlib/libtilde_windows.a: target/staticlib/lib%.a: $(PROVED_FROM)
 	$(rt_there)
@@ -108,7 +108,7 @@ $(LINKS): build/$(SHARED)
 	ln -sf $(SHARED) $@
 build/tilde: $(filter-out build/tools/exports.o,$(TOOLS)) build/libtilde.a
 	$(CC) $(CFLAGS) $(LDFLAGS) -o $@ $^
-build/tilde-jobs: target/bin/jobs
+build/tilde-jobs: target/bin/jobs | build/tools
 	cp $< $@
 
 $(PAGES): build/man/%: man/% include/tilde.h Makefile | build/man
@@ -171,7 +171,8 @@ uninstall:
 	$(call take,$(MANDIR)/man3,$(call section,3))
 	$(call take,$(MANDIR)/man7,$(call section,7))
 	$(call take,$(DATADIR)/tilde,$(BINDINGS))
-	rmdir "$(DESTDIR)$(DATADIR)/tilde" 2>/dev/null || true
+	rm -f "$(DESTDIR)$(DATADIR)/tilde/__pycache__"/tilde.*.pyc # by Python, from tilde.py
+	rmdir "$(DESTDIR)$(DATADIR)/tilde/__pycache__" "$(DESTDIR)$(DATADIR)/tilde" 2>/dev/null || true
 
 clean:
 	rm -rf build

@@ -15,8 +15,8 @@ check_folders() {
         "MANDIR=$room/other/man"
     same "the files with other folders" "$(sed 's,^lib/,lib64/,; s,^share/man/,man/,' <<<"$expected" | sort)" \
         "$(files_of "$room/other")"
-    same "LIBDIR in tilde.pc" "$room/other/lib64" \
-        "$(PKG_CONFIG_PATH="$room/other/lib64/pkgconfig" pkg-config --variable=libdir tilde)"
+    check "LIBDIR in tilde.pc" grep -qx "libdir=$room/other/lib64" "$room/other/lib64/pkgconfig/tilde.pc"
+    check "the version in tilde.pc" grep -qx "Version: $version" "$room/other/lib64/pkgconfig/tilde.pc"
 }
 
 # refused WHAT WORDS ARGUMENT..: make says these words, and does nothing.

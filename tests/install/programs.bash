@@ -2,15 +2,19 @@
 
 warnings=(-Wall -Wextra -Wpedantic -Wconversion -Wshadow -Werror)
 
-# flags WORD..: what pkg-config answers about the installation in $1 with those words, as words of a shell.
+# flags FROM WORD..: what pkg-config answers to these words about the installation in FROM, as words of a shell.
 flags() {
     local from=$1
     shift
-    PKG_CONFIG_PATH="$from/lib/pkgconfig" pkg-config "$@" tilde
+    if there pkg-config; then
+        PKG_CONFIG_PATH="$from/lib/pkgconfig" pkg-config "$@" tilde
+    else
+        printf '%q ' "-I$from/include" "-L$from/lib" -ltilde
+    fi
 }
 
-# built COMPILER STANDARD HOW FROM SOURCE..: builds a program against the installation in FROM, shared or static, runs it
-# and keeps what it prints in $room/printed.
+# built COMPILER STANDARD HOW FROM SOURCE..: builds a program against the installation in FROM, shared or static, runs
+# it and keeps what it prints in $room/printed.
 built() {
     local compiler=$1 standard=$2 how=$3 from=$4 language=c
     local needs
@@ -31,6 +35,7 @@ built() {
 
 check_programs() {
     local compiler standard how line='Harlingen     1013 hPa, 3 gusts'
+    there pkg-config || skip "pkg-config is not there: programs are built with the folders alone"
     for compiler in gcc g++ clang clang++; do
         there "$compiler" || { skip "$compiler is not there"; continue; }
         standard=c99
@@ -43,6 +48,7 @@ check_programs() {
         done
     done
     check_space
+    check_bindings
     same "the installed tilde" "$version" "$("$prefix/bin/tilde" --version | awk '{ print $NF }')"
     same "the line of the installed tilde" "$line" \
         "$("$prefix/bin/tilde" try '~12a ~5d hPa, ~d gust~:p' '"Harlingen"' 1013 3)"
@@ -58,4 +64,18 @@ check_space() {
     built gcc c99 static "$prefix" examples/first.c
     check "make uninstall with a space" make uninstall "PREFIX=$prefix"
     same "no file is left" "" "$(files_of "$prefix")"
+}
+
+# The bindings stand where tilde.pc says, and Python finds the library from there.
+check_bindings() {
+    local binding folder="$prefix/share/tilde"
+    check "the folder of the bindings in tilde.pc" grep -qx "bindings=$folder" "$prefix/lib/pkgconfig/tilde.pc"
+    for binding in tilde.py tilde.f90; do
+        check "the installed $binding is that of bindings/" cmp "bindings/$binding" "$folder/$binding"
+    done
+    there python3 || { skip "python3 is not there: the installed tilde.py"; return; }
+    same "a line by the installed tilde.py" "b'Harlingen: 3 gusts'" "$(env -u TILDE_LIBRARY \
+        -u PYTHONDONTWRITEBYTECODE -u PYTHONPYCACHEPREFIX PYTHONPATH="$folder" LD_LIBRARY_PATH="$prefix/lib" \
+        python3 -c 'import tilde; print(tilde.format("~a: ~d gust~:p", "Harlingen", 3))')"
+    check "Python keeps something for uninstall to remove" test -d "$folder/__pycache__"
 }
