@@ -1,6 +1,7 @@
 /* What tilde lines shows a person: progress, and notes, on a terminal that is the other end of a pseudo-terminal. */
 #define _XOPEN_SOURCE 700
-#include "lines_run.h"
+#include "../../tools/lines_run.h"
+#include "../c/expect.h"
 
 #include <errno.h>
 #include <fcntl.h>
@@ -14,15 +15,11 @@
 #define UNENDED "tilde lines: the last line has no newline at its end, and none is added; ~% writes one\n"
 #define SLOWLY 1100
 
-static size_t checks;
-
-static void expect(int holds, const char *what, const char *shown)
+static void check(int holds, const char *what, const char *shown)
 {
-    checks++;
-    if (!holds) {
-        fprintf(stderr, "lines_terminal: %s\nshown: %s\n", what, shown);
-        exit(1);
-    }
+    if (!holds)
+        fprintf(stderr, "shown: %s\n", shown);
+    expect(holds, what, checks);
 }
 
 static void need(int holds, const char *what)
@@ -110,12 +107,12 @@ static void check_progress(void)
     struct terminal terminal = terminal_open();
     FILE *in = rows_from("1\n2\n3\n", SLOWLY, "4\nx\n5\n"), *out = tmpfile();
     need(out != NULL, "tmpfile");
-    expect(run("~d~%", in, out, terminal.command) == STATUS_REFUSED, "the status of a bad row", "");
+    check(run("~d~%", in, out, terminal.command) == STATUS_REFUSED, "the status of a bad row", "");
     terminal_close(terminal, shown, sizeof shown);
-    expect(strncmp(shown, "\r4 rows, 0 refused\r", 19) == 0, "progress after a second", shown);
+    check(strncmp(shown, "\r4 rows, 0 refused\r", 19) == 0, "progress after a second", shown);
     const char *message = strstr(shown, "row 5, field 1 (integer): \"x\" is no whole number\n6 rows: 5 lines, 1 refused\n");
-    expect(message != NULL && message - shown >= 37, "a message behind the progress", shown);
-    expect(memcmp(message - 19, "\r                 \r", 19) == 0, "a cleared line before the message", shown);
+    check(message != NULL && message - shown >= 37, "a message behind the progress", shown);
+    check(memcmp(message - 19, "\r                 \r", 19) == 0, "a cleared line before the message", shown);
     fclose(in);
     fclose(out);
 }
@@ -126,9 +123,9 @@ static void check_lines_shown(void)
     char shown[1000];
     struct terminal terminal = terminal_open();
     FILE *in = rows_from("1\n2\n", SLOWLY, "3\n");
-    expect(run("~d~%", in, terminal.command, terminal.command) == STATUS_DONE, "the status of lines", "");
+    check(run("~d~%", in, terminal.command, terminal.command) == STATUS_DONE, "the status of lines", "");
     terminal_close(terminal, shown, sizeof shown);
-    expect(strcmp(shown, "1\n2\n3\n") == 0, "no progress between lines", shown);
+    check(strcmp(shown, "1\n2\n3\n") == 0, "no progress between lines", shown);
     fclose(in);
 }
 
@@ -138,9 +135,9 @@ static void check_quiet(void)
     struct terminal terminal = terminal_open();
     FILE *in = rows_from("1\n2\n", 0, "3\n"), *out = tmpfile();
     need(out != NULL, "tmpfile");
-    expect(run("~d~%", in, out, terminal.command) == STATUS_DONE, "the status of lines", "");
+    check(run("~d~%", in, out, terminal.command) == STATUS_DONE, "the status of lines", "");
     terminal_close(terminal, shown, sizeof shown);
-    expect(strcmp(shown, "") == 0, "nothing is said", shown);
+    check(strcmp(shown, "") == 0, "nothing is said", shown);
     fclose(in);
     fclose(out);
 }
@@ -151,11 +148,11 @@ static void check_unended(int both)
     struct terminal terminal = terminal_open();
     FILE *in = rows_from("1\n2\n", 0, "3\n"), *out = both ? terminal.command : tmpfile();
     need(out != NULL, "tmpfile");
-    expect(run("~d,", in, out, terminal.command) == STATUS_DONE, "the status of lines", "");
+    check(run("~d,", in, out, terminal.command) == STATUS_DONE, "the status of lines", "");
     if (!both)
         fclose(out);
     terminal_close(terminal, shown, sizeof shown);
-    expect(strcmp(shown, both ? "1,2,3,\n" UNENDED : UNENDED) == 0, "a note of the newline", shown);
+    check(strcmp(shown, both ? "1,2,3,\n" UNENDED : UNENDED) == 0, "a note of the newline", shown);
     fclose(in);
 }
 
@@ -165,9 +162,9 @@ static void check_typed(void)
     char shown[1000];
     struct terminal terminal = terminal_open();
     write_text(terminal.person, "7\n8\n\4");
-    expect(run("~d~%", terminal.command, terminal.command, terminal.command) == STATUS_DONE, "the status of lines", "");
+    check(run("~d~%", terminal.command, terminal.command, terminal.command) == STATUS_DONE, "the status of lines", "");
     terminal_close(terminal, shown, sizeof shown);
-    expect(strcmp(shown, "tilde lines: type rows, with a tab between two fields; Ctrl-D ends them\n7\n8\n") == 0,
+    check(strcmp(shown, "tilde lines: type rows, with a tab between two fields; Ctrl-D ends them\n7\n8\n") == 0,
            "a word to who types rows", shown);
 }
 

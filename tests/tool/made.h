@@ -3,7 +3,8 @@
 #ifndef MADE_H
 #define MADE_H
 
-#include "lines_run.h"
+#include "../../tools/lines_run.h"
+#include "../c/drawing.h"
 
 #include <inttypes.h>
 #include <stdio.h>
@@ -13,21 +14,6 @@
 /* In what is expected on standard error: the rest of the line may be any text. */
 #define ANY_REST '\1'
 #define LONGEST_LINE ((size_t)4 << 20)
-
-static uint64_t seed = 88172645463325252u;
-
-static uint64_t word(void)
-{
-    seed ^= seed << 13;
-    seed ^= seed >> 7;
-    seed ^= seed << 17;
-    return seed;
-}
-
-static size_t below(size_t limit)
-{
-    return (size_t)(word() % limit);
-}
 
 static int once_in(size_t times)
 {
