@@ -1,0 +1,127 @@
+/* The pack that is written: a new file, which takes the place of the old one when it is whole. */
+#define _POSIX_C_SOURCE 200809L
+#include "pack.h"
+
+#include <errno.h>
+#include <fcntl.h>
+#include <libgen.h>
+#include <stdlib.h>
+#include <sys/stat.h>
+#include <unistd.h>
+
+/* The path of the pack and its folder, the new file, and whether that one has to be removed. */
+static struct {
+    const char *path;
+    int folder;
+    char *new_path;
+    FILE *file;
+    uint32_t offset;
+    int unfinished;
+} out;
+
+static void remove_unfinished(void)
+{
+    if (!out.unfinished)
+        return;
+    if (unlink(out.new_path) != 0)
+        complain(NULL, "cannot remove %s: %s", out.new_path, strerror(errno));
+    complain(NULL, "%s is as it was", out.path);
+}
+
+static void name_new(void)
+{
+    char *const copy = strdup(out.path);
+    out.new_path = malloc(strlen(out.path) + sizeof ".new");
+    if (copy == NULL || out.new_path == NULL)
+        cannot("write", out.path);
+    strcat(strcpy(out.new_path, out.path), ".new");
+    out.folder = open(dirname(copy), O_RDONLY | O_DIRECTORY | O_CLOEXEC);
+    if (out.folder < 0)
+        cannot("write", out.path);
+    free(copy);
+}
+
+/* All runs use one name for the new file, so that what a killed one left is written over and nothing piles up. A lock,
+   which goes when its process does, keeps two runs from writing there at a time; a file that another run has put in
+   place between open and lock is not this run's to write on. */
+static void open_new(void)
+{
+    struct flock all = {.l_type = F_WRLCK, .l_whence = SEEK_SET};
+    struct stat opened, named;
+    const int file = open(out.new_path, O_RDWR | O_CREAT | O_NOFOLLOW | O_CLOEXEC, 0666);
+    if (file < 0)
+        cannot("write", out.new_path);
+    if (fcntl(file, F_SETLK, &all) != 0 || fstat(file, &opened) != 0 || lstat(out.new_path, &named) != 0 ||
+        opened.st_dev != named.st_dev || opened.st_ino != named.st_ino)
+        stop(FAILED, NULL, "cannot lock %s: try again when no other run writes it", out.new_path);
+    out.unfinished = 1;
+    out.file = fdopen(file, "wb");
+    if (out.file == NULL || ftruncate(file, 0) != 0 || atexit(remove_unfinished) != 0)
+        cannot("write", out.new_path);
+}
+
+void output_begin(const char *path, int source)
+{
+    struct stat to, from, old;
+    if (path[0] == '\0')
+        stop(FAILED, NULL, "the pack has no name: type one");
+    out.path = path;
+    name_new();
+    if (fstat(out.folder, &to) != 0 || fstat(source, &from) != 0)
+        cannot("write", path);
+    /* the pack would be a member of the next one */
+    if (to.st_dev == from.st_dev && to.st_ino == from.st_ino)
+        stop(FAILED, NULL, "%s would lie in the folder that is packed: name a pack in another", path);
+    if (lstat(path, &old) == 0 && !S_ISREG(old.st_mode))
+        stop(FAILED, NULL, "%s is there and no regular file: name another pack", path);
+    open_new();
+}
+
+uint32_t output_offset(void)
+{
+    return out.offset;
+}
+
+void output_need(uint64_t length)
+{
+    if (length > PACK_MOST - out.offset)
+        stop(REFUSED, NULL, "the pack would have 4 GiB or more, which its offsets cannot say: pack fewer files");
+}
+
+void output_put(const void *bytes, size_t length)
+{
+    output_need(length);
+    if (fwrite(bytes, 1, length, out.file) != length)
+        cannot("write", out.new_path);
+    out.offset += (uint32_t)length;
+}
+
+void output_go(uint32_t offset)
+{
+    if (fseeko(out.file, (off_t)offset, SEEK_SET) != 0)
+        cannot("write", out.new_path);
+    out.offset = offset;
+}
+
+int output_flush(void)
+{
+    if (fflush(out.file) != 0)
+        cannot("write", out.new_path);
+    return fileno(out.file);
+}
+
+/* The new pack takes the place of the old one when all its bytes are on the disk: whenever a run is killed or the machine
+   stops, one of the two stands there, whole. */
+void output_end(uint32_t end)
+{
+    const int file = output_flush();
+    if (ftruncate(file, (off_t)end) != 0 || fsync(file) != 0)
+        cannot("write", out.new_path);
+    if (rename(out.new_path, out.path) != 0)
+        cannot("replace", out.path);
+    out.unfinished = 0;
+    if (fsync(out.folder) != 0 || fclose(out.file) != 0)
+        stop(FAILED, NULL, "%s is new and whole, but may not be on the disk: %s", out.path, strerror(errno));
+    close(out.folder);
+    free(out.new_path);
+}
