@@ -18,6 +18,6 @@ void hint_argument(FILE *to, const struct directive *directive, uint32_t code, c
 void hint_steps(FILE *to, const struct format *format, size_t position);
 
 /* Code 11 of a vet. */
-void hint_not_plain(FILE *to, const struct format *format, const struct directive *directive);
+void hint_not_plain(FILE *to, const struct format *format, const struct directive *directive, const struct hand *hand);
 
 #endif

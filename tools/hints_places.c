@@ -105,8 +105,8 @@ void hint_parameter(FILE *to, const struct format *format, const struct directiv
         if (wrong == places_of(rule))
             return;
         hint_place(to, directive->parameters + wrong, rule, wrong);
-        /* the nearest number in a smaller range is another character */
-        if (rule->places[wrong].most != MOST_NUMBER && !rule->places[wrong].character)
+        /* the nearest charnum is another character, and of no use */
+        if (rule->letter == 'c' && directive->parameters[0].form == FORM_NUMBER)
             return;
     }
     propose_fitting(to, format, directive);

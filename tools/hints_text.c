@@ -79,11 +79,11 @@ static void hint_separator(FILE *to, const struct format *format, const struct d
     if (inside == NULL || inside->opener.code != '[') {
         fputs("~; parts the clauses of a ~[, and ", to);
         if (inside == NULL)
-            fputs("no block is open here", to);
+            fputs("no block is open here; take it away", to);
         else
-            fprintf(to, "the block open here is the ~{ at byte %zu", inside->opener.start);
+            fprintf(to, "the block open here is the ~{ at byte %zu; take it away", inside->opener.start);
     } else if (inside->last > 0) {
-        fprintf(to, "the clause behind ~:; is the last one, and that stands at byte %zu", inside->last - 1);
+        fprintf(to, "the clause behind the ~:; at byte %zu is the last; put this one before it", inside->last - 1);
     } else {
         fputs("~:; belongs to a ~[ that picks by number, and ", to);
         print_read(to, &inside->opener);
@@ -97,7 +97,8 @@ static void hint_closer(FILE *to, const struct format *format, const struct dire
                         const struct block *inside)
 {
     if (inside == NULL) {
-        fprintf(to, "~%c closes a block, and none is open here", directive->code);
+        fprintf(to, "~%c closes a block that ~%c opens, and none is open here", directive->code,
+                directive->code == ']' ? '[' : '{');
         return;
     }
     const struct spelling closer = {.bytes = {'~', closer_of(inside->opener.code)}, .length = 2};
@@ -129,7 +130,7 @@ static void hint_opener(FILE *to, const struct format *format, const struct dire
     struct directive closer;
     size_t separators;
     if (walk->depth == MOST_LEVELS) {
-        fprintf(to, "blocks nest at most %d deep, and this is one more: open are those at bytes", MOST_LEVELS);
+        fprintf(to, "blocks nest at most %d deep, and this is one more; open are those at bytes", MOST_LEVELS);
         for (size_t i = 0; i < walk->depth; i++)
             fprintf(to, "%s %zu", i > 0 ? "," : "", walk->open[i].opener.start);
     } else if (!walk_to_closer(walk, opener, &closer, &separators)) {

@@ -1,6 +1,8 @@
 #include "hints.h"
 #include "wording.h"
 
+#include <tilde.h>
+
 /* The most clauses whose ends a hint names. */
 #define MOST_CLAUSES ((size_t)5)
 
@@ -16,10 +18,10 @@ static int has_v(const struct directive *directive, size_t *place)
 static void print_ways(FILE *to, struct walk *walk, const struct directive *opener)
 {
     const size_t depth = walk->depth;
-    size_t clauses = 0, last = 0, begins;
-    struct directive directive = *opener;
+    size_t clauses = 0, last = 0;
+    struct directive directive;
     walk_past(walk, opener);
-    begins = walk->taken;
+    const size_t begins = walk->taken;
     while (walk_find(walk, &directive) && walk->depth > depth) {
         const int ends = walk->depth == depth + 1 && (directive.code == ';' || directive.code == ']');
         if (ends && clauses++ < MOST_CLAUSES) {
@@ -33,14 +35,22 @@ static void print_ways(FILE *to, struct walk *walk, const struct directive *open
     if (clauses > MOST_CLAUSES)
         fputs(", and so on", to);
     if (last == 0 && !opener->colon && !opener->at)
-        fputs(", and no clause takes 0: a last clause behind ~:; is needed where they take more", to);
+        fputs(", and to run none, as there is no ~:;, takes 0", to);
 }
 
-static void hint_conditional(FILE *to, const struct format *format, const struct directive *directive)
+static void hint_conditional(FILE *to, const struct format *format, const struct directive *directive,
+                             const struct hand *hand)
 {
     struct walk walk = walk_to(format, directive->start);
+    if (directive->at && hand->next < hand->count && hand_kind(hand, hand->next) != TILDE_BOOLEAN) {
+        fputs("a vet takes ~@[ for a boolean alone, and ", to);
+        hand_name(to, hand, hand->next);
+        fputs(" is ", to);
+        hand_show(to, hand, hand->next);
+        return;
+    }
     if (directive->at) {
-        fputs("a vet takes ~@[ for a boolean alone, and its clause has to take that one argument: ", to);
+        fputs("~@[ takes one argument for #f, and its clause has to take one as well: ", to);
     } else {
         print_directive(to, directive->code, modifiers_of(directive->colon, 0));
         fputs(" has to take as many arguments whichever way it goes: ", to);
@@ -48,17 +58,17 @@ static void hint_conditional(FILE *to, const struct format *format, const struct
     print_ways(to, &walk, directive);
 }
 
-void hint_not_plain(FILE *to, const struct format *format, const struct directive *directive)
+void hint_not_plain(FILE *to, const struct format *format, const struct directive *directive, const struct hand *hand)
 {
     const struct rule *rule = directive_rule(directive);
     size_t place;
     if (rule == NULL)
         return;
     if (has_v(directive, &place)) {
-        fprintf(to, "the v of its %s takes a value that a vet does not know; write a number or a character there",
-                rule->places[place].name);
+        fprintf(to, "the v of its %s takes a value that a vet does not know; write a %s there", rule->places[place].name,
+                rule->places[place].character ? "character" : "number");
     } else if (rule->letter == '[') {
-        hint_conditional(to, format, directive);
+        hint_conditional(to, format, directive, hand);
     } else {
         print_directive(to, rule->letter, modifiers_of(directive->colon, directive->at));
         fprintf(to, " %s, so a vet cannot count the line; tilde try shows it for one row of values",

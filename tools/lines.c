@@ -2,7 +2,7 @@
 #include "lines_run.h"
 #include "options.h"
 #include "refusal.h"
-#include "report.h"
+#include "wording.h"
 
 #include <string.h>
 
@@ -47,7 +47,7 @@ static int read_kinds(struct kinds *kinds, int argc, char **argv, FILE *err)
     if (argc == 0)
         fputs("tilde lines: the kinds of the fields are missing; type tilde lines FORMAT KIND.., a kind for each\n", err);
     if (argc > TILDE_MOST_KINDS)
-        counts_print(err, "tilde lines: there are ~:d kinds, and a row has at most ~:d fields~%",
+        print_numbers(err, "tilde lines: there are ~:d kinds, and a row has at most ~:d fields~%",
                      (uint64_t[]){(uint64_t)argc, TILDE_MOST_KINDS}, 2);
     if (argc == 0 || argc > TILDE_MOST_KINDS)
         return 0;
@@ -59,20 +59,18 @@ static int read_kinds(struct kinds *kinds, int argc, char **argv, FILE *err)
     return 1;
 }
 
-/* Whether no row can have a line: the text is wrong, or it is plain and wrong for the kinds. With a conditional the vet
-   judges clauses that no row may pick. */
+/* Whether no row can have a line, which is told: the text is wrong, or it is plain and wrong for the kinds. Of a format
+   with a conditional the vet judges clauses that no row may pick. */
 static int refuses_all(const struct lines_job *job, FILE *err)
 {
-    static const uint8_t no_arguments[TILDE_HEADER_BYTES] = {0};
+    const struct question question = {job->format, job->format_length, job->kinds.tags, job->kinds.count, 0};
     size_t position, count;
-    const uint32_t code = tilde_vet(job->format, job->format_length, job->kinds.tags, job->kinds.count, 0, &position,
-                                    &count);
-    if (code < TILDE_LONG_FORMAT || code > TILDE_OUT_OF_RANGE)
+    const uint32_t code = tilde_vet(question.format, question.format_length, question.kinds, question.kinds_length,
+                                    question.longest, &position, &count);
+    const int conditional = memchr(job->format, '[', job->format_length) != NULL;
+    if (code < TILDE_LONG_FORMAT || code > (conditional ? TILDE_BAD_PARAMETER : TILDE_OUT_OF_RANGE))
         return 0;
-    if (code > TILDE_BAD_PARAMETER && memchr(job->format, '[', job->format_length) != NULL)
-        return 0;
-    const struct call call = {job->format, job->format_length, no_arguments, sizeof no_arguments};
-    refusal_print(err, &call, code, position);
+    refusal_print_vet(err, &question, code, position);
     return 1;
 }
 

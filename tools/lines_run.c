@@ -1,8 +1,10 @@
 #include "lines_run.h"
 
+#include "refusal.h"
 #include "report.h"
 #include "rows.h"
 #include "running.h"
+#include "wording.h"
 
 #include <stdlib.h>
 #include <string.h>
@@ -45,15 +47,15 @@ static enum step refuse(struct work *work, const struct fault *fault, const stru
     /* the lines before it come before the message */
     if (report_tells(&work->report) && write_held(work) == FAILS)
         return FAILS;
-    if (!report_refuse(&work->report))
-        return work->job->strict ? STOPS : GOES_ON;
-    if (fault != NULL)
+    const int told = report_refuse(&work->report);
+    if (told && fault != NULL) {
         fault_print(err, fault);
-    else if (ending != NULL)
-        fprintf(err, ": refused (%u): %s, at byte %zu\n", (unsigned)ending->code, tilde_words(ending->code),
-                ending->position);
-    else
-        counts_print(err, ": a row has at most ~:d bytes, and this one has more~%", (uint64_t[]){work->rows.longest}, 1);
+    } else if (told && ending != NULL) {
+        fputs(": ", err);
+        refusal_print_head(err, ending->code, ending->position);
+    } else if (told) {
+        print_numbers(err, ": a row has at most ~:d bytes, and this one has more~%", &(uint64_t){work->rows.longest}, 1);
+    }
     return work->job->strict ? STOPS : GOES_ON;
 }
 

@@ -23,7 +23,7 @@ static size_t end_of(const struct format *format, uint32_t code, size_t position
     return directive->end;
 }
 
-static void print_head(FILE *err, uint32_t code, size_t position)
+void refusal_print_head(FILE *err, uint32_t code, size_t position)
 {
     fprintf(err, "refused (%u): %s, at byte %zu\n", (unsigned)code, tilde_words(code), position);
 }
@@ -62,7 +62,7 @@ void refusal_print(FILE *err, const struct call *call, uint32_t code, size_t pos
     const struct format format = {call->format, call->format_length};
     struct directive directive;
     struct hand hand;
-    print_head(err, code, position);
+    refusal_print_head(err, code, position);
     if (code == TILDE_BAD_TABLE) {
         fputs("  byte and refusal are of the table\n", err);
         return;
@@ -102,7 +102,7 @@ void refusal_print_vet(FILE *err, const struct question *question, uint32_t code
     const struct walk walk = walk_to(&format, position);
     const struct hand hand = {NULL, question->kinds, 0, question->kinds_length, walk.taken};
     struct directive directive;
-    print_head(err, code, position);
+    refusal_print_head(err, code, position);
     if (code == TILDE_BAD_KINDS) {
         print_question(err, question);
         return;
@@ -112,7 +112,7 @@ void refusal_print_vet(FILE *err, const struct question *question, uint32_t code
     if (code <= TILDE_BAD_PARAMETER)
         print_text_hint(err, &format, code, &directive);
     else if (code == TILDE_NOT_PLAIN)
-        hint_not_plain(err, &format, &directive);
+        hint_not_plain(err, &format, &directive, &hand);
     else
         hint_argument(err, &directive, code, &hand);
     fputc('\n', err);

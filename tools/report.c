@@ -1,14 +1,14 @@
 #define _POSIX_C_SOURCE 200809L
 #include "report.h"
 
+#include "wording.h"
+
 #include <errno.h>
 #include <inttypes.h>
 #include <string.h>
-#include <tilde_table.h>
 #include <time.h>
 #include <unistd.h>
 
-#define MOST_COUNTS 4
 #define TOLD ((uint64_t)20)
 /* Before progress is first shown, and between two times, in milliseconds. */
 #define PATIENCE 1000
@@ -20,19 +20,6 @@ static int64_t now(void)
     if (clock_gettime(CLOCK_MONOTONIC, &time) != 0)
         return 0;
     return (int64_t)time.tv_sec * 1000 + time.tv_nsec / 1000000;
-}
-
-size_t counts_print(FILE *to, const char *format, const uint64_t *counts, size_t count)
-{
-    uint8_t room[TILDE_HEADER_BYTES + MOST_COUNTS * TILDE_ENTRY_BYTES], text[256];
-    size_t position, steps, written;
-    tilde_table table;
-    tilde_table_begin(&table, room, sizeof room);
-    for (size_t i = 0; i < count; i++)
-        tilde_table_integer(&table, (int64_t)counts[i]);
-    tilde_format((const uint8_t *)format, strlen(format), room, tilde_table_end(&table), text, sizeof text, &position,
-                 &steps, &written);
-    return fwrite(text, 1, written, to);
 }
 
 void report_begin(struct report *report, const struct streams *io, int all)
@@ -59,7 +46,7 @@ void report_row(struct report *report)
         return;
     const uint64_t counts[] = {report->rows, report->refused};
     fputc('\r', report->err);
-    report->columns = counts_print(report->err, "~:d row~:p, ~:d refused", counts, 2);
+    report->columns = print_numbers(report->err, "~:d row~:p, ~:d refused", counts, 2);
     fflush(report->err);
     report->next = now() + PAUSE;
 }
@@ -85,16 +72,16 @@ void report_failure(struct report *report, const char *what)
     const char *const cause = strerror(errno);
     clear_progress(report);
     fprintf(report->err, "tilde lines: cannot %s: %s; stopped after ", what, cause);
-    counts_print(report->err, "~:d row~:p~%", &report->rows, 1);
+    print_numbers(report->err, "~:d row~:p~%", &report->rows, 1);
 }
 
 static void print_summary(struct report *report, int stopped)
 {
     const uint64_t untold = report->refused > report->most_told ? report->refused - report->most_told : 0;
     const uint64_t counts[] = {report->rows, report->rows - report->refused, report->refused, untold};
-    counts_print(report->err, "~:d row~:p: ~:d line~:p, ~:d refused", counts, 3);
+    print_numbers(report->err, "~:d row~:p: ~:d line~:p, ~:d refused", counts, 3);
     if (untold > 0)
-        counts_print(report->err, "; ~3*~:d of them not told, --all tells them", counts, 4);
+        print_numbers(report->err, "; ~3*~:d of them not told, --all tells them", counts, 4);
     fputs(stopped ? "; stopped there, as --strict says\n" : "\n", report->err);
 }
 

@@ -17,9 +17,6 @@ struct report {
     size_t columns;
 };
 
-/* Prints a format over at most four counts, and answers how many bytes that are. */
-size_t counts_print(FILE *to, const char *format, const uint64_t *counts, size_t count);
-
 /* Progress is shown where standard error is a terminal to which no lines go. */
 void report_begin(struct report *report, const struct streams *io, int all);
 

@@ -53,11 +53,17 @@ struct shown show_next(const uint8_t *bytes, size_t length)
     return shown;
 }
 
+struct shown show_quoted(const uint8_t *bytes, size_t length)
+{
+    static const struct shown quote = {"\\x22", 1, 4};
+    return bytes[0] == '"' ? quote : show_next(bytes, length);
+}
+
 void show_bytes(FILE *to, const uint8_t *bytes, size_t length)
 {
     while (length > 0) {
-        const struct shown shown = show_next(bytes, length);
-        fputs(bytes[0] == '"' ? "\\x22" : shown.text, to);
+        const struct shown shown = show_quoted(bytes, length);
+        fputs(shown.text, to);
         bytes += shown.bytes;
         length -= shown.bytes;
     }
@@ -181,4 +187,22 @@ void show_word(FILE *to, const char *text, size_t length)
         i += shown.bytes;
     }
     fputs(ends[quotes], to);
+}
+
+int show_string_word(FILE *to, const char *text, size_t length)
+{
+    char string[512] = "\"";
+    size_t used = 1;
+    for (size_t i = 0; i < length;) {
+        const struct shown shown = show_quoted((const uint8_t *)text + i, length - i);
+        const size_t size = strlen(shown.text);
+        if (used + size + 1 > sizeof string)
+            return 0;
+        memcpy(string + used, shown.text, size);
+        used += size;
+        i += shown.bytes;
+    }
+    string[used++] = '"';
+    show_word(to, string, used);
+    return 1;
 }

@@ -21,7 +21,10 @@ int is_text(const uint8_t *bytes, size_t taken);
 /* The first character of at least one byte: as it is, or escaped if it is a control, a backslash or no UTF-8. */
 struct shown show_next(const uint8_t *bytes, size_t length);
 
-/* Prints all of the bytes so; a quote is escaped as in a string. */
+/* The same inside a string, where a quote is escaped too. */
+struct shown show_quoted(const uint8_t *bytes, size_t length);
+
+/* Prints all of the bytes as they stand in a string. */
 void show_bytes(FILE *to, const uint8_t *bytes, size_t length);
 
 /* Prints the bytes as a string, in quotes and shortened: the first ones of a long string and `..`. */
@@ -35,5 +38,8 @@ void show_value(FILE *to, const uint8_t *table, size_t entry);
 
 /* Prints a text as one word of a shell's command line. */
 void show_word(FILE *to, const char *text, size_t length);
+
+/* Prints as such a word the string that a text can be given as; answers 0 where it is too long to be of use. */
+int show_string_word(FILE *to, const char *text, size_t length);
 
 #endif

@@ -67,10 +67,20 @@ static int complain_verb(const char *name, FILE *err)
             nearest = i;
     fputs("tilde: ", err);
     show_word(err, name, strlen(name));
-    if (distance(name, verbs[nearest].name) <= 2)
+    if (name[0] == '-') {
+        fputs(" is no option; there are --help and --version, and those of a verb, which stand behind it\n", err);
+    } else if (strchr(name, '~') != NULL) {
+        fputs(" is no verb; to see the line of a format type tilde try ", err);
+        show_word(err, name, strlen(name));
+        fputs(" VALUE..\n", err);
+    } else if (distance(name, verbs[nearest].name) <= 2) {
         fprintf(err, " is no verb; did you mean tilde %s?\n", verbs[nearest].name);
-    else
-        fputs(" is no verb; type tilde --help for those that there are\n", err);
+    } else {
+        fputs(" is no verb; there are", err);
+        for (size_t i = 0; i < VERBS; i++)
+            fprintf(err, " %s", verbs[i].name);
+        fputs(", and tilde --help shows them\n", err);
+    }
     return STATUS_USAGE;
 }
 

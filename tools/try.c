@@ -44,6 +44,8 @@ static void print_line(const struct call *call, const struct learned *learned, c
     if (!learned->is_text) {
         line_show(call, io->out);
         fputc('\n', io->out);
+        /* the note comes behind the line; whether it could be written is looked at in the end */
+        fflush(io->out);
         fputs("tilde: the line has bytes that are no text for a terminal, so it is shown escaped; "
               "--raw writes it as it is\n", io->err);
         return;

@@ -262,9 +262,10 @@ void value_complain(FILE *err, size_t number, const char *text, size_t length, c
     show_word(err, text, length);
     fprintf(err, ", is no value: %s, at byte %zu; %s\n", complaint->wrong, complaint->at, complaint->type);
     fputs("  Values, as a shell takes them: 850  '\"wind\"'  '#\\A'  '#t'  '(1 \"a\" (2))'\n", err);
-    if (length == 0 || strchr("\"#()'", text[0]) != NULL)
+    if (length == 0 || strchr("\"#()", text[0]) != NULL)
         return;
-    fputs("  As a string it is typed '\"", err);
-    show_bytes(err, (const uint8_t *)text, length);
-    fputs("\"'\n", err);
+    fputs("  As a string: ", err);
+    if (!show_string_word(err, text, length))
+        fputs("in double quotes, and these in single ones", err);
+    fputc('\n', err);
 }

@@ -1,13 +1,26 @@
 #include "wording.h"
 
-#include <inttypes.h>
+#include <string.h>
+#include <tilde_table.h>
+
+#define MOST_NUMBERS 4
+
+size_t print_numbers(FILE *to, const char *format, const uint64_t *numbers, size_t count)
+{
+    uint8_t room[TILDE_HEADER_BYTES + MOST_NUMBERS * TILDE_ENTRY_BYTES], text[256];
+    size_t position, steps, written;
+    tilde_table table;
+    tilde_table_begin(&table, room, sizeof room);
+    for (size_t i = 0; i < count; i++)
+        tilde_table_integer(&table, (int64_t)numbers[i]);
+    tilde_format((const uint8_t *)format, strlen(format), room, tilde_table_end(&table), text, sizeof text, &position,
+                 &steps, &written);
+    return fwrite(text, 1, written, to);
+}
 
 void print_number(FILE *to, uint64_t number)
 {
-    char digits[24];
-    const int length = snprintf(digits, sizeof digits, "%" PRIu64, number);
-    for (int i = 0; i < length; i++)
-        fprintf(to, "%s%c", i > 0 && (length - i) % 3 == 0 ? "," : "", digits[i]);
+    print_numbers(to, "~:d", &number, 1);
 }
 
 void print_ordinal(FILE *to, size_t number)

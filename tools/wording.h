@@ -6,6 +6,9 @@
 #include <stdint.h>
 #include <stdio.h>
 
+/* Prints a format over at most four numbers in one write, and answers how many bytes that are. */
+size_t print_numbers(FILE *to, const char *format, const uint64_t *numbers, size_t count);
+
 /* A number with a comma before each group of three digits. */
 void print_number(FILE *to, uint64_t number);
 
