@@ -74,7 +74,8 @@ PROVED_FROM := crates.txt $(shell find crates \( -name edits -o -name must-fail 
 rt_there = @command -v rt >/dev/null || { echo 'make: $@ is missing or older than crates/, and rt, which' \
     'builds it, is not there: install the Rattle kit and put its rt on the PATH' >&2; exit 1; }
 
-target/staticlib/libtilde.a target/staticlib/libtilde_windows.a: target/staticlib/lib%.a: $(PROVED_FROM)
+ARCHIVES := $(patsubst %,target/staticlib/lib%.a,tilde tilde_windows probe)
+$(ARCHIVES): target/staticlib/lib%.a: $(PROVED_FROM)
 	$(rt_there)
 	rt staticlib $*
 	touch $@
@@ -84,6 +85,7 @@ target/bin/jobs: $(PROVED_FROM)
 	touch $@
 target/staticlib/libtilde_windows.a: | target/staticlib/libtilde.a
 target/bin/jobs: | target/staticlib/libtilde_windows.a
+target/staticlib/libprobe.a: | target/bin/jobs
 
 # Objects: those that rt built, as they are, and those of tools/. exports.o is also part of the shared library.
 PROVED := build/proved/tilde.o build/proved/tilde_windows.o
@@ -121,7 +123,7 @@ build/man/tilde-format.7: docs/FORMATS.md man/from-markdown include/tilde.h Make
 
 check:
 	tests/run
-quick: all
+quick: all target/staticlib/libprobe.a
 	set -e; for run in tests/*/run; do echo "$$run"; "$$run"; done
 
 # Folders may have spaces in their names. The shell, sed or pkg-config would take these bytes for something else.
