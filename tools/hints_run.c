@@ -9,7 +9,8 @@
 static void print_missing(FILE *to, const struct hand *hand, size_t argument)
 {
     if (hand->count == 0) {
-        fputs(" takes an argument, and none is given", to);
+        fputs(hand->table == NULL ? " takes an argument, and no kind is given for it"
+                                  : " takes an argument, and none is given", to);
         return;
     }
     fputs(" takes ", to);
@@ -46,8 +47,9 @@ static void print_jump(FILE *to, const struct directive *directive, const struct
 {
     const struct spelling spelling = directive_spell(directive);
     fprintf(to, "%.*s", (int)spelling.length, (const char *)spelling.bytes);
-    fprintf(to, " would go from argument %zu to %" PRId64 ", counted from 0, and there %s %zu", finding->argument,
-            finding->value, hand->count == 1 ? "is" : "are", hand->count);
+    fprintf(to, " would go from %s %zu to %" PRId64 ", counted from 0, and there %s %zu",
+            hand->first > 0 ? "value" : "argument", finding->argument, finding->value, hand->count == 1 ? "is" : "are",
+            hand->count);
 }
 
 /* What is wrong with the v or # of a place. */
@@ -91,6 +93,9 @@ static void print_finding(FILE *to, const struct directive *directive, const str
     } else {
         print_met(to, hand, finding->argument, rule->kinds);
         print_instead(to, rule, hand_kind(hand, finding->argument));
+        if (directive->count > 1 && directive->count <= places_of(rule) &&
+            directive->parameters[directive->count - 1].form == FORM_EMPTY)
+            fprintf(to, "; if %c is meant as a character, write '%c", directive->code, directive->code);
     }
 }
 

@@ -1,4 +1,5 @@
 #include "hints.h"
+#include "meaning.h"
 #include "show.h"
 #include "wording.h"
 
@@ -37,36 +38,54 @@ static void hint_end(FILE *to, const struct format *format, const struct directi
     for (size_t i = 0; letters[i] != '\0'; i++) {
         made.code = letters[i];
         const struct spelling spelling = directive_spell(&made);
-        if (propose(to, "", format, directive->start, directive->end, &spelling))
+        if (propose(to, ", as in", format, directive->start, directive->end, &spelling))
             return;
     }
 }
 
+/* A letter that no directive has. Of Guile's letters what they are there is told, of any other those that there are. */
 static void hint_letter(FILE *to, const struct format *format, const struct directive *directive)
 {
     const size_t at = directive->end - 1;
     const uint8_t code = directive->code;
     const char *instead = guile_only(code);
+    const struct shown shown = show_next(format->bytes + at, format->length - at);
     if (instead != NULL) {
         fprintf(to, "~%c is not supported: in Guile it is %s", code, instead);
-        return;
+    } else if (code == '\r') {
+        fputs("a tilde at the end of a line stands right before the newline, and here a return is between", to);
+    } else if (code == '.') {
+        fputs("parameters are parted by commas, and there are no fractions here", to);
+    } else {
+        fprintf(to, "~%s", code == ' ' || code == '\t' ? " and a blank" : shown.text);
+        fputs(" is no directive; to print a tilde, write ~~\n  directives are ", to);
+        print_all_directives(to);
     }
+}
+
+/* A character of several bytes behind a quote: the first one is taken, and the next one is no directive. */
+static int hint_wide(FILE *to, const struct format *format, const struct directive *directive)
+{
+    const size_t at = directive->end - 2;
+    if (directive->code < 0x80 || directive->count == 0 || format->bytes[at - 1] != '\'')
+        return 0;
+    const size_t bytes = utf8_length(format->bytes + at, format->length - at);
     const struct shown shown = show_next(format->bytes + at, format->length - at);
-    if (code == ' ' || code == '\t' || code == '\r')
-        fprintf(to, "a %s is no directive", code == ' ' ? "space" : code == '\t' ? "tab" : "return");
-    else
-        fprintf(to, "~%s is no directive", shown.text);
-    fputs("; there are ", to);
-    print_all_directives(to);
-    fputs(", and ~~ prints a tilde", to);
+    if (bytes > 1)
+        fprintf(to, "one byte stands behind a quote, and %s has %zu", shown.text, bytes);
+    return bytes > 1;
 }
 
 void hint_unknown(FILE *to, const struct format *format, const struct directive *directive)
 {
+    struct meaning meaning;
     if (directive->slip == SLIP_END) {
         hint_end(to, format, directive);
     } else if (directive->slip == SLIP_NONE || directive->slip == SLIP_NUMBER) {
-        hint_letter(to, format, directive);
+        if (!(directive_meaning(format, directive, &meaning) &&
+              propose(to, meaning.wrong, format, directive->start, meaning.end, &meaning.instead)) &&
+            !hint_wide(to, format, directive))
+            hint_letter(to, format, directive);
     } else {
         hint_shape(to, directive);
         propose_fitting(to, format, directive);
@@ -89,7 +108,7 @@ static void hint_separator(FILE *to, const struct format *format, const struct d
     } else {
         fputs("~:; belongs to a ~[ that picks by number, and ", to);
         print_read(to, &inside->opener);
-        fputs(inside->opener.colon ? " parts its two clauses by a plain one" : " has one clause", to);
+        fputs(inside->opener.colon ? " parts its two clauses by a plain one" : " has one clause; take it away", to);
         if (inside->opener.colon)
             propose(to, "", format, directive->start, directive->end, &plain);
     }

@@ -50,10 +50,10 @@ static void hint_conditional(FILE *to, const struct format *format, const struct
         return;
     }
     if (directive->at) {
-        fputs("~@[ takes one argument for #f, and its clause has to take one as well: ", to);
+        fputs("~@[ takes one argument for #f, so its clause has to take one as well: ", to);
     } else {
         print_directive(to, directive->code, modifiers_of(directive->colon, 0));
-        fputs(" has to take as many arguments whichever way it goes: ", to);
+        fputs(" has to take the same number of arguments whichever way it goes: ", to);
     }
     print_ways(to, &walk, directive);
 }

@@ -76,6 +76,9 @@ static void take_parameter(struct directive *directive, struct source *source, i
     const struct parameter parameter = read_parameter(source);
     if (parameter.badness != NUMBER_GOOD)
         slip(directive, SLIP_NUMBER);
+    /* a number without a comma is more likely a mistake than a parameter of its own */
+    if (filled && parameter.form == FORM_NUMBER)
+        return;
     if (directive->count == 0 || filled)
         directive->count++;
     if (directive->count <= MOST_PLACES)

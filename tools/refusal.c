@@ -2,6 +2,7 @@
 
 #include "excerpt.h"
 #include "hints.h"
+#include "meaning.h"
 #include "running.h"
 #include "show.h"
 #include "wording.h"
@@ -12,10 +13,13 @@
 static size_t end_of(const struct format *format, uint32_t code, size_t position, struct directive *directive)
 {
     struct directive closer;
+    struct meaning meaning;
     size_t separators;
     if (code == TILDE_LONG_FORMAT || position >= format->length || format->bytes[position] != '~')
         return position + 1;
     *directive = directive_read(format->bytes, format->length, position);
+    if ((code == TILDE_UNKNOWN_CODE || code == TILDE_BAD_PARAMETER) && directive_meaning(format, directive, &meaning))
+        return meaning.end;
     struct walk walk = walk_to(format, position);
     if (code == TILDE_BAD_BLOCK && directive->code == '{' && walk_to_closer(&walk, directive, &closer, &separators) &&
         closer.start == directive->end)
@@ -85,12 +89,12 @@ static void print_question(FILE *err, const struct question *question)
     if (question->longest > TILDE_MOST_LONGEST) {
         fputs("  the longest is ", err);
         print_number(err, question->longest);
-        fputs(", and may be ", err);
+        fputs(" bytes, and may be at most ", err);
         print_number(err, TILDE_MOST_LONGEST);
     } else {
         fputs("  there are ", err);
         print_count(err, question->kinds_length, "kind");
-        fputs(", and may be ", err);
+        fputs(", and there may be at most ", err);
         print_number(err, TILDE_MOST_KINDS);
     }
     fputc('\n', err);
