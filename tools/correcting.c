@@ -155,7 +155,7 @@ static int propose_with(FILE *to, const struct format *format, const struct dire
     made.at = at;
     const struct rule *rule = directive_rule(&made);
     /* the nearest charnum is another character, and of no use */
-    if (rule == NULL || (rule->places[0].most == 127 && made.parameters[0].form == FORM_NUMBER &&
+    if (rule == NULL || (rule->letter == 'c' && made.parameters[0].form == FORM_NUMBER &&
                          made.parameters[0].value > rule->places[0].most))
         return 0;
     made = fitted(&made, rule);

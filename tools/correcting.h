@@ -4,12 +4,6 @@
 
 #include "reading.h"
 
-/* A format that was refused. */
-struct format {
-    const uint8_t *bytes;
-    size_t length;
-};
-
 /* Prints a lead, a colon and the bytes that can stand in the format in place of those from `start` to `end`; nothing
    where the library would still find a fault in them. Answers whether it printed. */
 int propose(FILE *to, const char *lead, const struct format *format, size_t start, size_t end,

@@ -38,7 +38,7 @@ static void hint_modifiers(FILE *to, const struct directive *directive)
 static void hint_many(FILE *to, const struct directive *directive, const struct rule *rule)
 {
     const size_t places = places_of(rule);
-    print_directive(to, rule->letter, modifiers_of(directive->colon, directive->at));
+    directive_name(to, directive);
     if (places == 0) {
         fputs(" takes no parameter", to);
         return;

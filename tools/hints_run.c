@@ -1,6 +1,5 @@
 #include "hints.h"
 #include "judging.h"
-#include "wording.h"
 
 #include <inttypes.h>
 #include <tilde.h>
@@ -85,7 +84,7 @@ static void print_finding(FILE *to, const struct directive *directive, const str
         print_jump(to, directive, hand, finding);
         return;
     }
-    print_directive(to, rule->letter, modifiers_of(directive->colon, directive->at));
+    directive_name(to, directive);
     if (cause == NONE_BEFORE) {
         fputs(" goes back to the argument before, and here none was taken", to);
     } else if (cause == OWN_MISSING) {
@@ -102,7 +101,7 @@ static void print_finding(FILE *to, const struct directive *directive, const str
 /* What can be said without the arguments in hand. */
 static void print_less(FILE *to, const struct directive *directive, const struct rule *rule, uint32_t code)
 {
-    print_directive(to, rule->letter, modifiers_of(directive->colon, directive->at));
+    directive_name(to, directive);
     if (code == TILDE_NO_ARGUMENT) {
         fputs(" finds no argument here", to);
     } else if (code == TILDE_WRONG_KIND) {
@@ -160,7 +159,7 @@ void hint_steps(FILE *to, const struct format *format, size_t position)
         walk.next = loop.start;
     }
     fputs("in the loop ", to);
-    print_directive(to, '{', modifiers_of(loop.colon, loop.at));
+    directive_name(to, &loop);
     fprintf(to, " at byte %zu; ", loop.start);
     fputs(takes_nothing(&walk, &loop) ? "no pass of it takes an argument, so it never ends"
                                       : "each byte of text, each directive and each pass is a step",

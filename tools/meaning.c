@@ -36,7 +36,8 @@ static int reads_well(const struct format *format, const struct directive *direc
     memcpy(made->bytes + before, text, length);
     const size_t room = sizeof made->bytes - made->length, taken = rest < room ? rest : room;
     memcpy(made->bytes + made->length, format->bytes + from, taken);
-    const struct directive read = directive_read(made->bytes, made->length + taken, 0);
+    const struct format whole = {made->bytes, made->length + taken};
+    const struct directive read = directive_read(&whole, 0);
     if (read.slip != SLIP_NONE || !directive_fits(&read) || read.end <= made->length)
         return 0;
     meaning->end = from + read.end - made->length;

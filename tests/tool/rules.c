@@ -43,7 +43,7 @@ static void judge(uint8_t letter, unsigned modifiers, const size_t *chosen, size
     length = put(format, length, marks[modifiers]);
     format[length++] = letter;
     length = put(format, length, behind);
-    const struct directive directive = directive_read(format, length, start);
+    const struct directive directive = directive_read(&(struct format){format, length}, start);
     const uint32_t code = tilde_vet(format, length, NULL, 0, 0, &position, &most);
     const size_t of = letter + 1000 * modifiers;
     const int at = position == start;
