@@ -17,24 +17,28 @@ static const char usage[] = "usage: collector pack FORMAT FOLDER PACK\n"
                             "       collector --help\n";
 static const char help[] =
     "\n"
-    "pack joins the files of FOLDER in the order of their names, with a line for each. check reads all of PACK and\n"
-    "compares each line with its member. list prints the lines, each in a row, with control bytes as \\n or \\xHH.\n"
-    "FORMAT makes a line out of these values:\n"
+    "pack joins the files of FOLDER in the order of their names, with a line for each.\n"
+    "check reads all of PACK back, and compares each line with its member.\n"
+    "list prints the lines, each in a row, with control bytes as \\n or \\xHH.\n"
     "\n"
+    "FORMAT makes a line out of these values, in this order:\n"
     "  name       string    of the file, at most 200 bytes\n"
     "  length     integer   in bytes\n"
     "  number     integer   1 for the first member\n"
     "  offset     integer   of its first byte in the pack\n"
     "  checksum   integer   CRC-32\n"
     "  empty      boolean   whether it has no bytes\n"
-    "  words      list      strings: the words of its first line, in its first 256 bytes\n"
+    "  words      list      of its first line, as strings, in its first 256 bytes\n"
+    "so that a pack can be made by\n"
+    "  collector pack \"~20a ~5d ~5,'0d ~10:d ~8,'0x~:[~; empty~]~%\" stations day.pack\n"
     "\n"
-    "  collector pack \"~20a ~5d ~5,'0d ~10:d ~8,'0x~:[~; empty~]\" stations day.pack\n"
+    "A file is left out if it cannot be read, is no regular file, changes while it is\n"
+    "read, or has a longer name. PACK is replaced when the new one is whole and on the\n"
+    "disk; until then that is PACK.new. A run that is killed leaves it, and the next\n"
+    "one uses it again.\n"
     "\n"
-    "A file that cannot be read, is no regular file, changes while it is read or has a longer name is left out. PACK is\n"
-    "replaced when the new one is whole and on the disk. Until then that is PACK.new; a run that is killed leaves it, and\n"
-    "the next one uses it again.\n"
-    "Status: 0 done; 1 refused, as a format or a damaged pack, or files left out; 2 wrong usage, or cannot read or write.\n";
+    "Status: 0 done; 1 refused, as a format or a damaged pack, or files were left out;\n"
+    "2 wrong usage, or something cannot be read or written.\n";
 
 static void check_bytes(const struct pack *pack)
 {
@@ -73,7 +77,7 @@ static void check(const char *path)
     }
     progress(0, 0);
     pack_end(&pack);
-    printf("%s: %u members, each beside its own line\n", path, (unsigned)pack.count);
+    printf("%s: %u member%s, each beside its own line\n", path, (unsigned)pack.count, pack.count == 1 ? "" : "s");
     free(line.bytes);
     pack_close(&pack);
 }

@@ -53,9 +53,9 @@ static void set_room(struct line *line, size_t room)
     line->room = room;
 }
 
-/* The vet's count is enough for every member, so a buffer of that size is made once, and no line is refused. Formats with
-   jumps, iterations, escapes or v it cannot count: for them the buffer starts small, and line_make enlarges it. What is
-   wrong in the text of a format the vet finds either way. */
+/* The vet's count is enough for every member, so a buffer of that size is made once, and no line is refused. It cannot
+   count formats with jumps, iterations, escapes or v: for these the buffer starts small, and line_make enlarges it.
+   What is wrong in the text of a format it finds either way. */
 void line_begin(struct line *line, const char *format, size_t format_length)
 {
     size_t position, count;

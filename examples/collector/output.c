@@ -48,7 +48,9 @@ static void open_new(void)
 {
     struct flock all = {.l_type = F_WRLCK, .l_whence = SEEK_SET};
     struct stat opened, named;
-    const int file = open(out.new_path, O_RDWR | O_CREAT | O_NOFOLLOW | O_CLOEXEC, 0666);
+    int file = -1;
+    if (atexit(remove_unfinished) == 0)
+        file = open(out.new_path, O_RDWR | O_CREAT | O_NOFOLLOW | O_CLOEXEC, 0666);
     if (file < 0)
         cannot("write", out.new_path);
     if (fcntl(file, F_SETLK, &all) != 0 || fstat(file, &opened) != 0 || lstat(out.new_path, &named) != 0 ||
@@ -56,7 +58,7 @@ static void open_new(void)
         stop(FAILED, NULL, "cannot lock %s: try again when no other run writes it", out.new_path);
     out.unfinished = 1;
     out.file = fdopen(file, "wb");
-    if (out.file == NULL || ftruncate(file, 0) != 0 || atexit(remove_unfinished) != 0)
+    if (out.file == NULL || ftruncate(file, 0) != 0)
         cannot("write", out.new_path);
 }
 
@@ -110,8 +112,8 @@ int output_flush(void)
     return fileno(out.file);
 }
 
-/* The new pack takes the place of the old one when all its bytes are on the disk: whenever a run is killed or the machine
-   stops, one of the two stands there, whole. */
+/* The new pack takes the place of the old one when all its bytes are on the disk: whenever a run is killed or the
+   machine stops, one of the two stands there, whole. */
 void output_end(uint32_t end)
 {
     const int file = output_flush();

@@ -15,6 +15,8 @@ void pack_open(struct pack *pack, const char *path)
     *pack = (struct pack){.path = path, .file = open(path, O_RDONLY | O_NONBLOCK | O_CLOEXEC)};
     if (pack->file < 0 || fstat(pack->file, &file) != 0)
         cannot("read", path);
+    if (!S_ISREG(file.st_mode))
+        stop(FAILED, NULL, "%s is no regular file: name a pack", path);
     pack->size = (uint64_t)file.st_size;
     if (pack->size >= sizeof header)
         read_at(pack->file, header, sizeof header, 0);

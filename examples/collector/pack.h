@@ -10,8 +10,8 @@
                  length of the name, 4 bytes each, and the name
 
    The numbers are big-endian, and offsets count from the first byte of the pack. Members, lines and index are in the
-   order of the names, compared byte by byte. Each part, and each member, line and entry in it, begins where the one before
-   it ends; the index ends with the pack. */
+   order of the names, compared byte by byte. Each part, and each member, line and entry in it, begins where the one
+   before it ends; the index ends with the pack. */
 #ifndef PACK_H
 #define PACK_H
 
