@@ -5,8 +5,8 @@
 #include <string.h>
 #include <tilde.h>
 
-/* Whether the library finds no fault in the bytes, once they stand in the format. A vet of no kinds reads the whole text
-   first and runs nothing. */
+/* Whether the library finds no fault in the bytes, once they stand in the format. A vet of no kinds reads the whole
+   text first and runs nothing. */
 static int holds(const struct format *format, size_t start, size_t end, const struct spelling *instead)
 {
     uint8_t bytes[TILDE_MOST_FORMAT];

@@ -46,8 +46,8 @@ static void print_jump(FILE *to, const struct directive *directive, const struct
 {
     const struct spelling spelling = directive_spell(directive);
     fprintf(to, "%.*s", (int)spelling.length, (const char *)spelling.bytes);
-    fprintf(to, " would go from argument %zu to %" PRId64 ", counted from 0, and there ", finding->argument, finding->value);
-    fprintf(to, "%s %zu", hand->count == 1 ? "is" : "are", hand->count);
+    fprintf(to, " would go from argument %zu to %" PRId64 ", counted from 0, and there %s %zu", finding->argument,
+            finding->value, hand->count == 1 ? "is" : "are", hand->count);
 }
 
 /* What is wrong with the v or # of a place. */
@@ -158,6 +158,6 @@ void hint_steps(FILE *to, const struct format *format, size_t position)
     print_directive(to, '{', modifiers_of(loop.colon, loop.at));
     fprintf(to, " at byte %zu; ", loop.start);
     fputs(takes_nothing(&walk, &loop) ? "no pass of it takes an argument, so it never ends"
-                                      : "a loop ends when its passes have taken all arguments, and a byte of text, a "
-                                        "directive and a pass are a step each", to);
+                                      : "each byte of text, each directive and each pass is a step",
+          to);
 }

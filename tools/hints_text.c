@@ -42,14 +42,16 @@ static void hint_end(FILE *to, const struct format *format, const struct directi
     }
 }
 
-static void hint_letter(FILE *to, uint8_t code)
+static void hint_letter(FILE *to, const struct format *format, const struct directive *directive)
 {
+    const size_t at = directive->end - 1;
+    const uint8_t code = directive->code;
     const char *instead = guile_only(code);
     if (instead != NULL) {
         fprintf(to, "~%c is not supported: in Guile it is %s", code, instead);
         return;
     }
-    const struct shown shown = show_next(&code, 1);
+    const struct shown shown = show_next(format->bytes + at, format->length - at);
     if (code == ' ' || code == '\t' || code == '\r')
         fprintf(to, "a %s is no directive", code == ' ' ? "space" : code == '\t' ? "tab" : "return");
     else
@@ -64,7 +66,7 @@ void hint_unknown(FILE *to, const struct format *format, const struct directive 
     if (directive->slip == SLIP_END) {
         hint_end(to, format, directive);
     } else if (directive->slip == SLIP_NONE || directive->slip == SLIP_NUMBER) {
-        hint_letter(to, directive->code);
+        hint_letter(to, format, directive);
     } else {
         hint_shape(to, directive);
         propose_fitting(to, format, directive);
@@ -116,11 +118,12 @@ static void hint_clauses(FILE *to, const struct format *format, const struct dir
     other.at = clauses == 1;
     const struct spelling spelling = directive_spell(&other);
     print_read(to, opener);
-    fprintf(to, " has %s, and here ", opener->colon ? "two clauses, for #f and for all else" : "one clause, for all but #f");
-    fprintf(to, clauses == 1 ? "is %zu" : "are %zu", clauses);
-    propose(to, clauses == 1   ? "; one for all but #f is begun by"
-                : clauses == 2 ? "; two for #f and all else are begun by"
-                               : "; more of them, picked by number, are begun by",
+    fputs(opener->colon ? " has two clauses, for #f and for all else" : " has one clause, for all but #f", to);
+    fprintf(to, clauses == 1 ? ", and here is %zu" : ", and here are %zu", clauses);
+    propose(to,
+            clauses == 1   ? "; one for all but #f is begun by"
+            : clauses == 2 ? "; two for #f and all else are begun by"
+                           : "; more of them, picked by number, are begun by",
             format, opener->start, opener->end, &spelling);
 }
 

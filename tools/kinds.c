@@ -6,8 +6,8 @@
 #include <tilde.h>
 
 static const char *const names[] = {
-    [TILDE_BOOLEAN] = "a boolean",  [TILDE_INTEGER] = "an integer", [TILDE_CHARACTER] = "a character",
-    [TILDE_STRING] = "a string",    [TILDE_LIST] = "a list",
+    [TILDE_BOOLEAN] = "a boolean", [TILDE_INTEGER] = "an integer", [TILDE_CHARACTER] = "a character",
+    [TILDE_STRING] = "a string",   [TILDE_LIST] = "a list",
 };
 
 #define KINDS (sizeof names / sizeof names[0])

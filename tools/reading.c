@@ -59,9 +59,11 @@ static struct parameter read_parameter(struct source *source)
     if (is_digit(byte) || byte == '+' || byte == '-')
         return read_number(source);
     source->next++;
-    if (byte == '\'')
-        return (struct parameter){.form = FORM_BYTE, .value = source->next < source->length ? source->format[source->next++] : 0};
-    return (struct parameter){.form = byte == '#' ? FORM_REMAINING : FORM_NEXT};
+    if (byte != '\'')
+        return (struct parameter){.form = byte == '#' ? FORM_REMAINING : FORM_NEXT};
+    const struct parameter quoted = {.form = FORM_BYTE, .value = peek(source)};
+    source->next += source->next < source->length ? 1 : 0;
+    return quoted;
 }
 
 /* Puts a parameter into the place in hand, and says what is wrong with where it stands. */

@@ -4,7 +4,10 @@
 
 #include <string.h>
 
-#define STRING_TYPE "in a string \\n \\t \\r \\\\ \\s \\h are newline, tab, return, backslash, space and #, \\x22 is a quote"
+/* What to type in a string for bytes that cannot stand there, and how much a table holds. */
+#define ESCAPES                                                                                                        \
+    "\\n \\t \\r \\\\ \\s \\h are newline, tab, return, backslash, space and #, \\x22 is a quote, \\xHH any byte"
+#define CAPACITY "at most 1,024 values, those in lists too, and 65,536 bytes of strings"
 
 /* The text of a value as far as it is read. */
 struct source {
@@ -21,7 +24,7 @@ static int complain(struct source *source, size_t at, const char *wrong, const c
 
 static int no_room(struct source *source, size_t at)
 {
-    return complain(source, at, "the table is full", "at most 1,024 values, those in lists too, and 65,536 bytes of strings");
+    return complain(source, at, "the table is full", CAPACITY);
 }
 
 static int ahead(const struct source *source, char byte)
@@ -113,7 +116,7 @@ static int read_character(struct source *source, tilde_table *table)
         return complain(source, from, "a character stands behind #\\", "#\\A or, by its number, #\\x41");
     const unsigned character = hex < 256 ? hex : (unsigned char)source->text[from + 2];
     if (character > 127)
-        return complain(source, from + 2, "a character is 0 to 127", "a byte above 127 can stand in a string: \"\\xe9\"");
+        return complain(source, from + 2, "a character is 0 to 127", "a byte above 127 may stand in a string");
     source->at = from + (hex < 256 ? 5 : 3);
     return tilde_table_character(table, character) || no_room(source, from);
 }
@@ -148,7 +151,7 @@ static unsigned read_byte(struct source *source)
     const unsigned byte = next == 'x' ? hex_byte(source, from + 2) : 256;
     source->at = from + 4;
     if (byte > 255)
-        complain(source, from, "this is no escape", STRING_TYPE " and \\xHH any byte");
+        complain(source, from, "this is no escape", ESCAPES);
     return byte;
 }
 
@@ -197,7 +200,8 @@ static int read_string(struct source *source, tilde_table *table)
         if (!read_part(source, bytes, &length))
             return 0;
     if (source->at >= source->length)
-        return complain(source, from, "the string has no quote at its end", "a string is \"wind\"; a quote in it is \\x22");
+        return complain(source, from, "the string has no quote at its end",
+                        "a string is \"wind\", and a quote in it \\x22");
     source->at++;
     return tilde_table_string(table, bytes, length) || no_room(source, from);
 }
