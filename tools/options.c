@@ -6,7 +6,7 @@
 
 static int is_option(const char *word)
 {
-    return word[0] == '-' && word[1] != '\0' && !(word[1] >= '0' && word[1] <= '9');
+    return word[0] == '-' && word[1] != '\0' && !(word[1] >= '0' && word[1] <= '9') && strchr(word, '~') == NULL;
 }
 
 int options_ask_help(int argc, char **argv)
