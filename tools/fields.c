@@ -2,6 +2,7 @@
 
 #include "kinds.h"
 #include "show.h"
+#include "wording.h"
 
 #include <string.h>
 
@@ -119,8 +120,8 @@ int fields_read(tilde_table *table, const struct kinds *kinds, const uint8_t *ro
 void fault_print(FILE *err, const struct fault *fault)
 {
     if (fault->field == 0) {
-        fprintf(err, ": %zu field%s for %zu kind%s; a tab parts two fields\n", fault->found, fault->found == 1 ? "" : "s",
-                fault->wanted, fault->wanted == 1 ? "" : "s");
+        const uint64_t counts[] = {fault->found, fault->wanted};
+        print_numbers(err, ": ~:d field~:p for ~:d kind~:p; a tab parts two fields~%", counts, 2);
         return;
     }
     fprintf(err, ", field %zu (%s): ", fault->field, kind_name(fault->kind));

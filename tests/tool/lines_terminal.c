@@ -110,7 +110,8 @@ static void check_progress(void)
     check(run("~d~%", in, out, terminal.command) == STATUS_REFUSED, "the status of a bad row", "");
     terminal_close(terminal, shown, sizeof shown);
     check(strncmp(shown, "\r4 rows, 0 refused\r", 19) == 0, "progress after a second", shown);
-    const char *message = strstr(shown, "row 5, field 1 (integer): \"x\" is no whole number\n6 rows: 5 lines, 1 refused\n");
+    const char *message = strstr(shown, "row 5, field 1 (integer): \"x\" is no whole number\n"
+                                        "6 rows: 5 lines, 1 refused\n");
     check(message != NULL && message - shown >= 37, "a message behind the progress", shown);
     check(memcmp(message - 19, "\r                 \r", 19) == 0, "a cleared line before the message", shown);
     fclose(in);
