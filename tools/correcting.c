@@ -5,8 +5,8 @@
 #include <string.h>
 #include <tilde.h>
 
-/* Whether the library finds no fault in the bytes, once they stand in the format. A vet of no kinds reads the whole text
-   first and runs nothing. */
+/* Whether the library finds no fault in the bytes, once they stand in the format. A vet of no kinds reads the whole
+   text first and runs nothing. */
 static int holds(const struct format *format, size_t start, size_t end, const struct spelling *instead)
 {
     uint8_t bytes[TILDE_MOST_FORMAT];
@@ -41,6 +41,27 @@ int parameter_misfits(const struct parameter *parameter, const struct place *pla
     if (parameter->form == FORM_EMPTY || parameter->form == FORM_NEXT)
         return 0;
     return place->character != (parameter->form == FORM_BYTE);
+}
+
+/* Whether a parameter is wrong in its place, by its form or as a number outside the range. */
+static int is_wrong(const struct parameter *parameter, const struct place *place)
+{
+    return parameter_misfits(parameter, place) ||
+           (parameter->form == FORM_NUMBER && (parameter->value < place->least || parameter->value > place->most));
+}
+
+size_t first_wrong(const struct directive *directive, const struct rule *rule)
+{
+    size_t i = 0;
+    while (i < places_of(rule) && !is_wrong(directive->parameters + i, rule->places + i))
+        i++;
+    return i;
+}
+
+int directive_fits(const struct directive *directive)
+{
+    const struct rule *rule = directive_rule(directive);
+    return rule != NULL && directive->count <= places_of(rule) && first_wrong(directive, rule) == places_of(rule);
 }
 
 /* A number as near as its place allows. */
@@ -133,7 +154,9 @@ static int propose_with(FILE *to, const struct format *format, const struct dire
     made.colon = colon;
     made.at = at;
     const struct rule *rule = directive_rule(&made);
-    if (rule == NULL)
+    /* the nearest charnum is another character, and of no use */
+    if (rule == NULL || (rule->letter == 'c' && made.parameters[0].form == FORM_NUMBER &&
+                         made.parameters[0].value > rule->places[0].most))
         return 0;
     made = fitted(&made, rule);
     const struct spelling spelling = directive_spell(&made);

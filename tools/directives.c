@@ -9,12 +9,13 @@
 const char directives_help[] =
     "usage: tilde directives [LETTER]\n"
     "\n"
-    "Shows each directive: its places with what they take and what they are when nothing is written, its modifiers, the\n"
-    "argument that it takes, and an example with what comes of it. With a letter, as a or newline, only that one.\n"
+    "Shows each directive: its places, what they take and what they are where\n"
+    "nothing is written, its modifiers, the argument that it takes, and an example\n"
+    "with what comes of it. With a letter, as a or newline, only that one.\n"
     "\n"
     "  tilde directives a\n"
     "\n"
-    "Status: 0 done, 2 wrong usage or an output that could not be written.\n";
+    "Status: 0 done, 2 wrong usage, or an output that failed.\n";
 
 static void print_rule(FILE *out, const struct rule *rule)
 {

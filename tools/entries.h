@@ -5,8 +5,8 @@
 #include <stddef.h>
 #include <stdint.h>
 
-/* An entry: its tilde_tag, and by that a number (boolean, integer, character), the bytes of a string, or the first entry
-   of a list; length is that of the string or list. */
+/* An entry: its tilde_tag, and by that a number (boolean, integer, character), the bytes of a string, or the first
+   entry of a list; length is that of the string or list. */
 struct entry {
     uint8_t tag;
     int64_t number;

@@ -6,8 +6,8 @@
 
 #include <stdio.h>
 
-/* How many arguments there are and the next one, from 0. They are entries of a table from `first` on, or without a table
-   kinds alone. */
+/* How many arguments there are and the next one, from 0. They are entries of a table from `first` on, or without a
+   table kinds alone. */
 struct hand {
     const uint8_t *table, *kinds;
     size_t first, count, next;

@@ -1,5 +1,5 @@
-/* What is wrong at a refused place of a format, in a few words, and what to write instead. Each prints one text without a
-   newline. */
+/* What is wrong at a refused place of a format, in a few words, and what to write instead. Each prints one text without
+   a newline. */
 #ifndef TOOLS_HINTS_H
 #define TOOLS_HINTS_H
 

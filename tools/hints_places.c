@@ -1,4 +1,5 @@
 #include "hints.h"
+#include "meaning.h"
 #include "wording.h"
 
 /* The first parameter with a bad number. */
@@ -37,7 +38,7 @@ static void hint_modifiers(FILE *to, const struct directive *directive)
 static void hint_many(FILE *to, const struct directive *directive, const struct rule *rule)
 {
     const size_t places = places_of(rule);
-    print_directive(to, rule->letter, modifiers_of(directive->colon, directive->at));
+    directive_name(to, directive);
     if (places == 0) {
         fputs(" takes no parameter", to);
         return;
@@ -58,10 +59,13 @@ static size_t character_place(const struct rule *rule)
     return MOST_PLACES;
 }
 
-static void hint_place(FILE *to, const struct parameter *parameter, const struct rule *rule, size_t i)
+static void hint_place(FILE *to, const struct directive *directive, const struct rule *rule, size_t i)
 {
+    const struct parameter *parameter = directive->parameters + i;
     const struct place *place = rule->places + i;
     const size_t character = character_place(rule);
+    if (i == places_of(rule))
+        return;
     fputs("the ", to);
     print_ordinal(to, i + 1);
     fputs(" place of ", to);
@@ -82,32 +86,20 @@ static void hint_place(FILE *to, const struct parameter *parameter, const struct
     }
 }
 
-/* Whether a parameter is wrong in its place, by its form or as a number outside the range. */
-static int is_wrong(const struct parameter *parameter, const struct place *place)
-{
-    return parameter_misfits(parameter, place) ||
-           (parameter->form == FORM_NUMBER && (parameter->value < place->least || parameter->value > place->most));
-}
-
 void hint_parameter(FILE *to, const struct format *format, const struct directive *directive)
 {
     const struct rule *rule = directive_rule(directive);
-    size_t wrong = 0;
-    if (directive->slip == SLIP_NUMBER) {
+    struct meaning meaning;
+    if (directive_meaning(format, directive, &meaning) &&
+        propose(to, meaning.wrong, format, directive->start, meaning.end, &meaning.instead))
+        return;
+    if (directive->slip == SLIP_NUMBER)
         hint_number(to, bad_number(directive));
-    } else if (rule == NULL) {
+    else if (rule == NULL)
         hint_modifiers(to, directive);
-    } else if (directive->count > places_of(rule)) {
+    else if (directive->count > places_of(rule))
         hint_many(to, directive, rule);
-    } else {
-        while (wrong < places_of(rule) && !is_wrong(directive->parameters + wrong, rule->places + wrong))
-            wrong++;
-        if (wrong == places_of(rule))
-            return;
-        hint_place(to, directive->parameters + wrong, rule, wrong);
-        /* the nearest charnum is another character, and of no use */
-        if (rule->letter == 'c' && directive->parameters[0].form == FORM_NUMBER)
-            return;
-    }
+    else
+        hint_place(to, directive, rule, first_wrong(directive, rule));
     propose_fitting(to, format, directive);
 }

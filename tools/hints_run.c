@@ -1,6 +1,5 @@
 #include "hints.h"
 #include "judging.h"
-#include "wording.h"
 
 #include <inttypes.h>
 #include <tilde.h>
@@ -9,7 +8,8 @@
 static void print_missing(FILE *to, const struct hand *hand, size_t argument)
 {
     if (hand->count == 0) {
-        fputs(" takes an argument, and none is given", to);
+        fputs(hand->table == NULL ? " takes an argument, and no kind is given for it"
+                                  : " takes an argument, and none is given", to);
         return;
     }
     fputs(" takes ", to);
@@ -46,8 +46,9 @@ static void print_jump(FILE *to, const struct directive *directive, const struct
 {
     const struct spelling spelling = directive_spell(directive);
     fprintf(to, "%.*s", (int)spelling.length, (const char *)spelling.bytes);
-    fprintf(to, " would go from argument %zu to %" PRId64 ", counted from 0, and there ", finding->argument, finding->value);
-    fprintf(to, "%s %zu", hand->count == 1 ? "is" : "are", hand->count);
+    fprintf(to, " would go from %s %zu to %" PRId64 ", counted from 0, and there %s %zu",
+            hand->first > 0 ? "value" : "argument", finding->argument, finding->value, hand->count == 1 ? "is" : "are",
+            hand->count);
 }
 
 /* What is wrong with the v or # of a place. */
@@ -83,7 +84,7 @@ static void print_finding(FILE *to, const struct directive *directive, const str
         print_jump(to, directive, hand, finding);
         return;
     }
-    print_directive(to, rule->letter, modifiers_of(directive->colon, directive->at));
+    directive_name(to, directive);
     if (cause == NONE_BEFORE) {
         fputs(" goes back to the argument before, and here none was taken", to);
     } else if (cause == OWN_MISSING) {
@@ -91,13 +92,16 @@ static void print_finding(FILE *to, const struct directive *directive, const str
     } else {
         print_met(to, hand, finding->argument, rule->kinds);
         print_instead(to, rule, hand_kind(hand, finding->argument));
+        if (directive->count > 1 && directive->count <= places_of(rule) &&
+            directive->parameters[directive->count - 1].form == FORM_EMPTY)
+            fprintf(to, "; if %c is meant as a character, write '%c", directive->code, directive->code);
     }
 }
 
 /* What can be said without the arguments in hand. */
 static void print_less(FILE *to, const struct directive *directive, const struct rule *rule, uint32_t code)
 {
-    print_directive(to, rule->letter, modifiers_of(directive->colon, directive->at));
+    directive_name(to, directive);
     if (code == TILDE_NO_ARGUMENT) {
         fputs(" finds no argument here", to);
     } else if (code == TILDE_WRONG_KIND) {
@@ -155,9 +159,9 @@ void hint_steps(FILE *to, const struct format *format, size_t position)
         walk.next = loop.start;
     }
     fputs("in the loop ", to);
-    print_directive(to, '{', modifiers_of(loop.colon, loop.at));
+    directive_name(to, &loop);
     fprintf(to, " at byte %zu; ", loop.start);
     fputs(takes_nothing(&walk, &loop) ? "no pass of it takes an argument, so it never ends"
-                                      : "a loop ends when its passes have taken all arguments, and a byte of text, a "
-                                        "directive and a pass are a step each", to);
+                                      : "each byte of text, each directive and each pass is a step",
+          to);
 }

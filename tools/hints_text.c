@@ -1,12 +1,8 @@
 #include "hints.h"
+#include "meaning.h"
 #include "show.h"
-#include "wording.h"
 
-/* The directive as it is written in messages. */
-static void print_read(FILE *to, const struct directive *directive)
-{
-    print_directive(to, directive->code, modifiers_of(directive->colon, directive->at));
-}
+#include <string.h>
 
 static void hint_shape(FILE *to, const struct directive *directive)
 {
@@ -37,34 +33,54 @@ static void hint_end(FILE *to, const struct format *format, const struct directi
     for (size_t i = 0; letters[i] != '\0'; i++) {
         made.code = letters[i];
         const struct spelling spelling = directive_spell(&made);
-        if (propose(to, "", format, directive->start, directive->end, &spelling))
+        if (propose(to, ", as in", format, directive->start, directive->end, &spelling))
             return;
     }
 }
 
-static void hint_letter(FILE *to, uint8_t code)
+/* A letter that no directive has. Of Guile's letters what they are there is told, of any other those that there are. */
+static void hint_letter(FILE *to, const struct format *format, const struct directive *directive)
 {
+    const size_t at = directive->end - 1;
+    const uint8_t code = directive->code;
     const char *instead = guile_only(code);
+    const struct shown shown = show_next(format->bytes + at, format->length - at);
     if (instead != NULL) {
         fprintf(to, "~%c is not supported: in Guile it is %s", code, instead);
-        return;
+    } else if (code == '\r') {
+        fputs("a tilde at the end of a line stands right before the newline, and here a return is between", to);
+    } else if (code == '.') {
+        fputs("parameters are parted by commas, and there are no fractions here", to);
+    } else {
+        fprintf(to, "~%s", code == ' ' || code == '\t' ? " and a blank" : shown.text);
+        fputs(" is no directive; to print a tilde, write ~~\n  directives are ", to);
+        print_all_directives(to);
     }
-    const struct shown shown = show_next(&code, 1);
-    if (code == ' ' || code == '\t' || code == '\r')
-        fprintf(to, "a %s is no directive", code == ' ' ? "space" : code == '\t' ? "tab" : "return");
-    else
-        fprintf(to, "~%s is no directive", shown.text);
-    fputs("; there are ", to);
-    print_all_directives(to);
-    fputs(", and ~~ prints a tilde", to);
+}
+
+/* A character of several bytes behind a quote: the first one is taken, and the next one is no directive. */
+static int hint_wide(FILE *to, const struct format *format, const struct directive *directive)
+{
+    const size_t at = directive->end - 2;
+    if (directive->code < 0x80 || directive->count == 0 || format->bytes[at - 1] != '\'')
+        return 0;
+    const size_t bytes = utf8_length(format->bytes + at, format->length - at);
+    const struct shown shown = show_next(format->bytes + at, format->length - at);
+    if (bytes > 1)
+        fprintf(to, "one byte stands behind a quote, and %s has %zu", shown.text, bytes);
+    return bytes > 1;
 }
 
 void hint_unknown(FILE *to, const struct format *format, const struct directive *directive)
 {
+    struct meaning meaning;
     if (directive->slip == SLIP_END) {
         hint_end(to, format, directive);
     } else if (directive->slip == SLIP_NONE || directive->slip == SLIP_NUMBER) {
-        hint_letter(to, directive->code);
+        if (!(directive_meaning(format, directive, &meaning) &&
+              propose(to, meaning.wrong, format, directive->start, meaning.end, &meaning.instead)) &&
+            !hint_wide(to, format, directive))
+            hint_letter(to, format, directive);
     } else {
         hint_shape(to, directive);
         propose_fitting(to, format, directive);
@@ -86,8 +102,8 @@ static void hint_separator(FILE *to, const struct format *format, const struct d
         fprintf(to, "the clause behind the ~:; at byte %zu is the last; put this one before it", inside->last - 1);
     } else {
         fputs("~:; belongs to a ~[ that picks by number, and ", to);
-        print_read(to, &inside->opener);
-        fputs(inside->opener.colon ? " parts its two clauses by a plain one" : " has one clause", to);
+        directive_name(to, &inside->opener);
+        fputs(inside->opener.colon ? " parts its two clauses by a plain one" : " has one clause; take it away", to);
         if (inside->opener.colon)
             propose(to, "", format, directive->start, directive->end, &plain);
     }
@@ -97,13 +113,13 @@ static void hint_closer(FILE *to, const struct format *format, const struct dire
                         const struct block *inside)
 {
     if (inside == NULL) {
-        fprintf(to, "~%c closes a block that ~%c opens, and none is open here", directive->code,
+        fprintf(to, "~%c closes a block that ~%c opens, and none is open here; take it away", directive->code,
                 directive->code == ']' ? '[' : '{');
         return;
     }
     const struct spelling closer = {.bytes = {'~', closer_of(inside->opener.code)}, .length = 2};
     fputs("the block open here is the ", to);
-    print_read(to, &inside->opener);
+    directive_name(to, &inside->opener);
     fprintf(to, " at byte %zu, which ~%c closes", inside->opener.start, closer.bytes[1]);
     propose(to, "", format, directive->start, directive->end, &closer);
 }
@@ -115,33 +131,35 @@ static void hint_clauses(FILE *to, const struct format *format, const struct dir
     other.colon = clauses == 2;
     other.at = clauses == 1;
     const struct spelling spelling = directive_spell(&other);
-    print_read(to, opener);
-    fprintf(to, " has %s, and here ", opener->colon ? "two clauses, for #f and for all else" : "one clause, for all but #f");
-    fprintf(to, clauses == 1 ? "is %zu" : "are %zu", clauses);
-    propose(to, clauses == 1   ? "; one for all but #f is begun by"
-                : clauses == 2 ? "; two for #f and all else are begun by"
-                               : "; more of them, picked by number, are begun by",
+    directive_name(to, opener);
+    fputs(opener->colon ? " has two clauses, for #f and for all else" : " has one clause, for all but #f", to);
+    fprintf(to, clauses == 1 ? ", and here is %zu" : ", and here are %zu", clauses);
+    propose(to,
+            clauses == 1   ? "; one for all but #f is begun by"
+            : clauses == 2 ? "; two for #f and all else are begun by"
+                           : "; more of them, picked by number, are begun by",
             format, opener->start, opener->end, &spelling);
 }
 
 static void hint_opener(FILE *to, const struct format *format, const struct directive *opener, struct walk *walk)
 {
-    const struct spelling body = {.bytes = "~{~a~}", .length = 6};
+    struct spelling spelling = directive_spell(opener);
     struct directive closer;
     size_t separators;
     if (walk->depth == MOST_LEVELS) {
-        fprintf(to, "blocks nest at most %d deep, and this is one more; open are those at bytes", MOST_LEVELS);
+        fprintf(to, "blocks nest at most %d deep; end one of those before it, at bytes", MOST_LEVELS);
         for (size_t i = 0; i < walk->depth; i++)
             fprintf(to, "%s %zu", i > 0 ? "," : "", walk->open[i].opener.start);
     } else if (!walk_to_closer(walk, opener, &closer, &separators)) {
-        print_read(to, opener);
+        directive_name(to, opener);
         fprintf(to, " is not closed; write ~%c where it ends", closer_of(opener->code));
     } else if (opener->code == '[') {
         hint_clauses(to, format, opener, separators + 1);
     } else {
         fputs("nothing stands between ~{ and ~}; write there what each pass does", to);
-        if (opener->count == 0 && !opener->at)
-            propose(to, "", format, opener->start, closer.end, &body);
+        memcpy(spelling.bytes + spelling.length, "~a~}", 4);
+        spelling.length += 4;
+        propose(to, "", format, opener->start, closer.end, &spelling);
     }
 }
 

@@ -50,10 +50,10 @@ static void hint_conditional(FILE *to, const struct format *format, const struct
         return;
     }
     if (directive->at) {
-        fputs("~@[ takes one argument for #f, and its clause has to take one as well: ", to);
+        fputs("~@[ takes one argument for #f, so its clause has to take one as well: ", to);
     } else {
-        print_directive(to, directive->code, modifiers_of(directive->colon, 0));
-        fputs(" has to take as many arguments whichever way it goes: ", to);
+        directive_name(to, directive);
+        fputs(" has to take the same number of arguments whichever way it goes: ", to);
     }
     print_ways(to, &walk, directive);
 }
@@ -65,13 +65,15 @@ void hint_not_plain(FILE *to, const struct format *format, const struct directiv
     if (rule == NULL)
         return;
     if (has_v(directive, &place)) {
-        fprintf(to, "the v of its %s takes a value that a vet does not know; write a %s there", rule->places[place].name,
-                rule->places[place].character ? "character" : "number");
+        fprintf(to, "the v of its %s takes a value that a vet does not know; write a %s there",
+                rule->places[place].name, rule->places[place].character ? "character" : "number");
     } else if (rule->letter == '[') {
         hint_conditional(to, format, directive, hand);
     } else {
-        print_directive(to, rule->letter, modifiers_of(directive->colon, directive->at));
+        directive_name(to, directive);
         fprintf(to, " %s, so a vet cannot count the line; tilde try shows it for one row of values",
-                rule->letter == '*' ? "jumps" : rule->letter == '{' ? "repeats" : "may end it early");
+                rule->letter == '*'   ? "jumps"
+                : rule->letter == '{' ? "repeats"
+                                      : "may end it early");
     }
 }

@@ -5,9 +5,19 @@
 #include "hand.h"
 #include "reading.h"
 
-/* Nothing found; a v without an argument, of another kind, or out of range; a # out of range; ~:p at the first argument;
-   a jump outside; the own argument missing, or of another kind. */
-enum cause { CAUSE_NONE, V_MISSING, V_KIND, V_RANGE, REMAINING_RANGE, NONE_BEFORE, JUMP_OUTSIDE, OWN_MISSING, OWN_KIND };
+/* Nothing found; a v without an argument, of another kind, or out of range; a # out of range; ~:p at the first
+   argument; a jump outside; the own argument missing, or of another kind. */
+enum cause {
+    CAUSE_NONE,
+    V_MISSING,
+    V_KIND,
+    V_RANGE,
+    REMAINING_RANGE,
+    NONE_BEFORE,
+    JUMP_OUTSIDE,
+    OWN_MISSING,
+    OWN_KIND
+};
 
 /* The cause, the place of the parameter that it lies in, the argument, and the value or the goal of the jump. */
 struct finding {

@@ -6,8 +6,8 @@
 #include <tilde.h>
 
 static const char *const names[] = {
-    [TILDE_BOOLEAN] = "a boolean",  [TILDE_INTEGER] = "an integer", [TILDE_CHARACTER] = "a character",
-    [TILDE_STRING] = "a string",    [TILDE_LIST] = "a list",
+    [TILDE_BOOLEAN] = "a boolean", [TILDE_INTEGER] = "an integer", [TILDE_CHARACTER] = "a character",
+    [TILDE_STRING] = "a string",   [TILDE_LIST] = "a list",
 };
 
 #define KINDS (sizeof names / sizeof names[0])
@@ -34,11 +34,21 @@ int kind_read(const char *text, uint8_t *tag)
     return 0;
 }
 
+/* Whether two words begin with the same two letters, in either case: int and Integer are near integer. */
+static int is_near(const char *text, const char *name)
+{
+    return text[0] != '\0' && (text[0] | 32) == name[0] && (text[1] | 32) == name[1];
+}
+
 void kind_complain(FILE *err, const char *text)
 {
     fputs("tilde: ", err);
     show_word(err, text, strlen(text));
-    fputs(" is no kind; type one of these for each argument:", err);
+    fputs(" is no kind; type ", err);
+    for (unsigned i = 0; i < KINDS; i++)
+        if (is_near(text, kind_name(i)))
+            fprintf(err, "%s, or another, ", kind_name(i));
+    fputs("one of these for each argument:", err);
     for (unsigned i = 0; i < KINDS; i++)
         fprintf(err, " %s", kind_name(i));
     fputs(" (or", err);

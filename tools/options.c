@@ -6,7 +6,7 @@
 
 static int is_option(const char *word)
 {
-    return word[0] == '-' && word[1] != '\0' && !(word[1] >= '0' && word[1] <= '9');
+    return word[0] == '-' && word[1] != '\0' && !(word[1] >= '0' && word[1] <= '9') && strchr(word, '~') == NULL;
 }
 
 int options_ask_help(int argc, char **argv)
@@ -51,8 +51,9 @@ static int take_option(const char *verb, const struct option *option, char **wor
         *option->text = equals != NULL ? equals + 1 : words[1];
         return equals != NULL ? 1 : 2;
     }
-    fprintf(err, option->flag != NULL ? "tilde %s: %s takes no value; type %s alone\n"
-                                      : "tilde %s: %s takes a value; type it behind: %s N\n",
+    fprintf(err,
+            option->flag != NULL ? "tilde %s: %s takes no value; type %s alone\n"
+                                 : "tilde %s: %s takes a value; type it behind: %s N\n",
             verb, option->name, option->name);
     return -1;
 }

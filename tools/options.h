@@ -13,8 +13,8 @@ struct option {
 };
 
 /* Takes the options of a verb out of argv, which keeps the other words in their order, and answers how many these are;
-   -1 after a complaint. Options may stand anywhere before `--`, which is taken out too. A dash alone, or before a digit,
-   begins no option. */
+   -1 after a complaint. Options may stand anywhere before `--`, which is taken out too. A dash alone, or before a
+   digit, or a word with a tilde, which is a format, begins no option. */
 int options_take(const char *verb, int argc, char **argv, const struct option *options, size_t count, FILE *err);
 
 /* Whether --help or -h stands before any `--`. */

@@ -2,14 +2,19 @@
 
 /* The format, and how far the directive is read. */
 struct source {
-    const uint8_t *format;
-    size_t length, next;
+    const struct format *format;
+    size_t next;
 };
+
+static int at_end(const struct source *source)
+{
+    return source->next >= source->format->length;
+}
 
 /* The byte that comes next; 0 at the end, which begins no parameter and is no modifier. */
 static uint8_t peek(const struct source *source)
 {
-    return source->next < source->length ? source->format[source->next] : 0;
+    return at_end(source) ? 0 : source->format->bytes[source->next];
 }
 
 static int is_digit(uint8_t byte)
@@ -59,9 +64,11 @@ static struct parameter read_parameter(struct source *source)
     if (is_digit(byte) || byte == '+' || byte == '-')
         return read_number(source);
     source->next++;
-    if (byte == '\'')
-        return (struct parameter){.form = FORM_BYTE, .value = source->next < source->length ? source->format[source->next++] : 0};
-    return (struct parameter){.form = byte == '#' ? FORM_REMAINING : FORM_NEXT};
+    if (byte != '\'')
+        return (struct parameter){.form = byte == '#' ? FORM_REMAINING : FORM_NEXT};
+    const struct parameter quoted = {.form = FORM_BYTE, .value = peek(source)};
+    source->next += at_end(source) ? 0 : 1;
+    return quoted;
 }
 
 /* Puts a parameter into the place in hand, and says what is wrong with where it stands. */
@@ -74,6 +81,9 @@ static void take_parameter(struct directive *directive, struct source *source, i
     const struct parameter parameter = read_parameter(source);
     if (parameter.badness != NUMBER_GOOD)
         slip(directive, SLIP_NUMBER);
+    /* a number without a comma is more likely a mistake than a parameter of its own */
+    if (filled && parameter.form == FORM_NUMBER)
+        return;
     if (directive->count == 0 || filled)
         directive->count++;
     if (directive->count <= MOST_PLACES)
@@ -90,16 +100,17 @@ static void take_comma(struct directive *directive, struct source *source)
 
 static void take_modifier(struct directive *directive, struct source *source)
 {
-    int *modifier = source->format[source->next++] == ':' ? &directive->colon : &directive->at;
+    int *modifier = peek(source) == ':' ? &directive->colon : &directive->at;
+    source->next++;
     if (*modifier)
         slip(directive, SLIP_MODIFIER);
     *modifier = 1;
 }
 
-struct directive directive_read(const uint8_t *format, size_t length, size_t start)
+struct directive directive_read(const struct format *format, size_t start)
 {
     struct directive directive = {.start = start};
-    struct source source = {format, length, start + 1};
+    struct source source = {format, start + 1};
     /* whether the place in hand holds a parameter already */
     int filled = 0;
     for (;;) {
@@ -116,12 +127,16 @@ struct directive directive_read(const uint8_t *format, size_t length, size_t sta
             break;
         }
     }
-    if (source.next < length)
-        directive.code = format[source.next++];
-    else
+    directive.code = peek(&source);
+    if (at_end(&source))
         slip(&directive, SLIP_END);
-    directive.end = source.next;
+    directive.end = source.next + (at_end(&source) ? 0 : 1);
     return directive;
+}
+
+void directive_name(FILE *to, const struct directive *directive)
+{
+    print_directive(to, directive->code, modifiers_of(directive->colon, directive->at));
 }
 
 const struct rule *directive_rule(const struct directive *directive)

@@ -4,6 +4,11 @@
 
 #include "rules.h"
 
+struct format {
+    const uint8_t *bytes;
+    size_t length;
+};
+
 /* What is written in a place: nothing, a number, a byte after a quote, v, or #. */
 enum form { FORM_EMPTY, FORM_NUMBER, FORM_BYTE, FORM_NEXT, FORM_REMAINING };
 
@@ -32,7 +37,10 @@ struct directive {
 };
 
 /* Reads the directive whose tilde is at `start`. */
-struct directive directive_read(const uint8_t *format, size_t length, size_t start);
+struct directive directive_read(const struct format *format, size_t start);
+
+/* Prints its letter and modifiers, without parameters. */
+void directive_name(FILE *to, const struct directive *directive);
 
 /* Its rule; null for an unknown letter, or modifiers that it does not take. */
 const struct rule *directive_rule(const struct directive *directive);

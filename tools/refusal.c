@@ -2,6 +2,7 @@
 
 #include "excerpt.h"
 #include "hints.h"
+#include "meaning.h"
 #include "running.h"
 #include "show.h"
 #include "wording.h"
@@ -12,10 +13,13 @@
 static size_t end_of(const struct format *format, uint32_t code, size_t position, struct directive *directive)
 {
     struct directive closer;
+    struct meaning meaning;
     size_t separators;
     if (code == TILDE_LONG_FORMAT || position >= format->length || format->bytes[position] != '~')
         return position + 1;
-    *directive = directive_read(format->bytes, format->length, position);
+    *directive = directive_read(format, position);
+    if ((code == TILDE_UNKNOWN_CODE || code == TILDE_BAD_PARAMETER) && directive_meaning(format, directive, &meaning))
+        return meaning.end;
     struct walk walk = walk_to(format, position);
     if (code == TILDE_BAD_BLOCK && directive->code == '{' && walk_to_closer(&walk, directive, &closer, &separators) &&
         closer.start == directive->end)
@@ -60,7 +64,7 @@ static void print_written(FILE *err, const struct call *call)
 void refusal_print(FILE *err, const struct call *call, uint32_t code, size_t position)
 {
     const struct format format = {call->format, call->format_length};
-    struct directive directive;
+    struct directive directive = {.start = position};
     struct hand hand;
     refusal_print_head(err, code, position);
     if (code == TILDE_BAD_TABLE) {
@@ -85,12 +89,12 @@ static void print_question(FILE *err, const struct question *question)
     if (question->longest > TILDE_MOST_LONGEST) {
         fputs("  the longest is ", err);
         print_number(err, question->longest);
-        fputs(", and may be ", err);
+        fputs(" bytes, and may be at most ", err);
         print_number(err, TILDE_MOST_LONGEST);
     } else {
         fputs("  there are ", err);
         print_count(err, question->kinds_length, "kind");
-        fputs(", and may be ", err);
+        fputs(", and there may be at most ", err);
         print_number(err, TILDE_MOST_KINDS);
     }
     fputc('\n', err);
@@ -101,7 +105,7 @@ void refusal_print_vet(FILE *err, const struct question *question, uint32_t code
     const struct format format = {question->format, question->format_length};
     const struct walk walk = walk_to(&format, position);
     const struct hand hand = {NULL, question->kinds, 0, question->kinds_length, walk.taken};
-    struct directive directive;
+    struct directive directive = {.start = position};
     refusal_print_head(err, code, position);
     if (code == TILDE_BAD_KINDS) {
         print_question(err, question);

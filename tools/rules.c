@@ -5,62 +5,75 @@
 
 #include <tilde.h>
 
-#define NUMBER(name, least, otherwise) {name, 0, least, MOST_NUMBER, otherwise}
-#define CHARACTER(name, otherwise) {name, 1, 0, 0, otherwise}
 #define KIND(tag) (1u << (tag))
 #define INTEGER KIND(TILDE_INTEGER)
 #define SCALAR (KIND(TILDE_BOOLEAN) | INTEGER | KIND(TILDE_CHARACTER) | KIND(TILDE_STRING))
 #define ANY (SCALAR | KIND(TILDE_LIST))
 
-#define SHOWING NUMBER("minwidth", 0, "0"), NUMBER("padinc", 1, "1"), NUMBER("minpad", 0, "0"), CHARACTER("padchar", "space")
-#define DIGITS NUMBER("minwidth", 0, "0"), CHARACTER("padchar", "space"), CHARACTER("commachar", ","), \
-        NUMBER("commawidth", 1, "3")
-#define TIMES NUMBER("n", 0, "1")
-#define SIGNS ": groups digits, commawidth at a time; @ puts + before numbers above 0"
+static const struct place none[] = {{.name = NULL}};
+static const struct place showing[] = {
+    {"minwidth", 0, 0, MOST_NUMBER, "0"},
+    {"padinc", 0, 1, MOST_NUMBER, "1"},
+    {"minpad", 0, 0, MOST_NUMBER, "0"},
+    {"padchar", 1, 0, 0, "space"},
+    {.name = NULL},
+};
+static const struct place digits[] = {
+    {"minwidth", 0, 0, MOST_NUMBER, "0"},
+    {"padchar", 1, 0, 0, "space"},
+    {"commachar", 1, 0, 0, ","},
+    {"commawidth", 0, 1, MOST_NUMBER, "3"},
+    {.name = NULL},
+};
+static const struct place charnum[] = {{"charnum", 0, 0, 127, "the argument"}, {.name = NULL}};
+static const struct place times[] = {{"n", 0, 0, MOST_NUMBER, "1"}, {.name = NULL}};
+static const struct place goal[] = {{"n", 0, 0, MOST_NUMBER, "0"}, {.name = NULL}};
+static const struct place clause[] = {{"n", 0, 0, MOST_NUMBER, "the argument"}, {.name = NULL}};
+static const struct place passes[] = {{"passes", 0, 0, MOST_NUMBER, "no limit"}, {.name = NULL}};
+
+static const char padding[] = "@ puts the padding on the left";
+static const char signs[] = ": groups digits, commawidth at a time; @ puts + before numbers above 0";
 
 const struct rule rules[] = {
-    {'a', BARE | AT, {SHOWING}, SCALAR, "shows a value; padding on its right", "@ puts the padding on the left",
+    {'a', BARE | AT, showing, SCALAR, "a value as it is read, padding on its right", padding,
      {"~8a~8@a", "\"wind\"", "850"}},
-    {'s', BARE | AT, {SHOWING}, SCALAR, "shows a value as it is typed, a string in quotes; padding on its right",
-     "@ puts the padding on the left", {"~s ~s", "\"wind\"", "#\\A"}},
-    {'d', BARE | COLON | AT | BOTH, {DIGITS}, INTEGER, "an integer in decimal, padding on its left", SIGNS,
+    {'s', BARE | AT, showing, SCALAR, "a value as it is typed, a string in quotes, padding on its right", padding,
+     {"~s ~s", "\"wind\"", "#\\A"}},
+    {'d', BARE | COLON | AT | BOTH, digits, INTEGER, "an integer in decimal, padding on its left", signs,
      {"~8,'0d ~:d", "850", "1234567"}},
-    {'x', BARE | COLON | AT | BOTH, {DIGITS}, INTEGER, "an integer in hexadecimal, padding on its left", SIGNS,
+    {'x', BARE | COLON | AT | BOTH, digits, INTEGER, "an integer in hexadecimal, padding on its left", signs,
      {"~x", "65261"}},
-    {'o', BARE | COLON | AT | BOTH, {DIGITS}, INTEGER, "an integer in octal, padding on its left", SIGNS, {"~o", "64"}},
-    {'b', BARE | COLON | AT | BOTH, {DIGITS}, INTEGER, "an integer in binary, padding on its left", SIGNS,
+    {'o', BARE | COLON | AT | BOTH, digits, INTEGER, "an integer in octal, padding on its left", signs,
+     {"~o", "64"}},
+    {'b', BARE | COLON | AT | BOTH, digits, INTEGER, "an integer in binary, padding on its left", signs,
      {"~8,'0b ~@b", "12", "12"}},
-    {'c', BARE | COLON | AT, {{"charnum", 0, 0, 127, "the argument"}}, KIND(TILDE_CHARACTER),
-     "a character, its own argument only where no charnum is written",
-     ": shows 0 to 31 as ^ and a letter; @ shows it as it is typed", {"~c~65c~10@c", "#\\x"}},
-    {'p', BARE | COLON | AT | BOTH, {{0}}, ANY, "nothing for the integer 1, s for all else",
+    {'c', BARE | COLON | AT, charnum, KIND(TILDE_CHARACTER), "a character: charnum, or its argument",
+     ": writes 0 to 31 as ^ and a letter; @ writes it as it is typed", {"~c~65c~10@c", "#\\x"}},
+    {'p', BARE | COLON | AT | BOTH, none, ANY, "nothing for the integer 1, s for all else",
      ": first goes back one argument; @ writes y or ies", {"~d cat~:p", "9"}},
-    {'*', BARE | COLON, {TIMES}, 0, "goes on by n arguments", ": goes back", {"~d~*~d ~2:*~d", "1", "2", "3"}},
-    {'*', AT, {NUMBER("n", 0, "0")}, 0, "goes to argument n, the first being 0", "", {"~d~d ~0@*~d", "1", "2"}},
-    {'~', BARE, {TIMES}, 0, "n tildes", "", {"~~~3~"}},
-    {'%', BARE, {TIMES}, 0, "n newlines", "", {"wind~%850"}},
-    {'_', BARE, {TIMES}, 0, "n spaces", "", {"wind~3_850"}},
-    {'|', BARE, {TIMES}, 0, "n form feeds", "", {"~|"}},
-    {'/', BARE, {TIMES}, 0, "n tabs", "", {"wind~/850"}},
-    {'\n', BARE | COLON | AT, {{0}}, 0, "nothing: the newline and the blanks behind it in the format are skipped",
-     ": skips only the newline; @ writes the newline and skips the blanks", {"wind~\n   850"}},
-    {'[', BARE, {NUMBER("n", 0, "the argument")}, INTEGER,
-     "one of its clauses: that of number n from 0, or the one behind ~:;, or none", "",
+    {'*', BARE | COLON, times, 0, "goes on by n arguments", ": goes back", {"~d~*~d ~2:*~d", "1", "2", "3"}},
+    {'*', AT, goal, 0, "goes to argument n, the first being 0", "", {"~d~d ~0@*~d", "1", "2"}},
+    {'~', BARE, times, 0, "n tildes", "", {"~~~3~"}},
+    {'%', BARE, times, 0, "n newlines", "", {"wind~%850"}},
+    {'_', BARE, times, 0, "n spaces", "", {"wind~3_850"}},
+    {'|', BARE, times, 0, "n form feeds", "", {"~|"}},
+    {'/', BARE, times, 0, "n tabs", "", {"wind~/850"}},
+    {'\n', BARE | COLON | AT, none, 0, "nothing: it skips the newline of the format and the blanks behind it",
+     ": skips the newline alone; @ writes the newline and skips the blanks", {"wind~\n   850"}},
+    {'[', BARE, clause, INTEGER, "clause n of those up to ~], from 0; if there is none such, that behind ~:;", "",
      {"~[calm~;light~:;strong~]", "1"}},
-    {'[', COLON, {{0}}, ANY, "the first of its two clauses for #f, the second for all else", "",
+    {'[', COLON, none, ANY, "the first of two clauses for #f, the second for all else", "",
      {"~:[no wind~;wind~]", "#f"}},
-    {'[', AT, {{0}}, ANY, "nothing for #f; else its one clause, which takes the argument itself", "",
+    {'[', AT, none, ANY, "nothing for #f; else the one clause, which takes the argument itself", "",
      {"~@[gust ~d~]", "17"}},
-    {';', BARE | COLON, {{0}}, 0, "ends a clause of ~[ and begins the next",
-     ": begins the last clause of a ~[ for all other numbers", {"~[calm~;light~]", "0"}},
-    {']', BARE, {{0}}, 0, "closes ~[", "", {"~[calm~]", "0"}},
-    {'{', BARE, {NUMBER("passes", 0, "no limit")}, KIND(TILDE_LIST),
-     "its body, over and over, until the values of a list are used up or its passes done", "",
+    {';', BARE | COLON, none, 0, "ends a clause of ~[ and begins the next",
+     ": begins the last clause of a ~[, for all other numbers", {"~[calm~;light~]", "0"}},
+    {']', BARE, none, 0, "closes ~[", "", {"~[calm~]", "0"}},
+    {'{', BARE, passes, KIND(TILDE_LIST), "what stands up to ~}, again and again until the list is used up", "",
      {"~{~d~^, ~}", "(5 12 17)"}},
-    {'{', AT, {NUMBER("passes", 0, "no limit")}, 0, "the same over the arguments that are left", "",
-     {"~a: ~@{~d ~}", "\"wind\"", "5", "12"}},
-    {'}', BARE, {{0}}, 0, "closes ~{", "", {"~2{~d~}", "(5 12 17)"}},
-    {'^', BARE, {{0}}, 0, "ends the innermost iteration, or the line, if no argument remains", "",
+    {'{', AT, passes, 0, "the same over the arguments that are left", "", {"~a:~@{ ~d~}", "\"wind\"", "5", "12"}},
+    {'}', BARE, none, 0, "closes ~{", "", {"~2{~d ~}..", "(5 12 17)"}},
+    {'^', BARE, none, 0, "ends the innermost ~{, or else the line, if no argument remains", "",
      {"~d~^, gust ~d", "12"}},
 };
 
@@ -119,7 +132,7 @@ unsigned modifiers_allowed(uint8_t letter)
 size_t places_of(const struct rule *rule)
 {
     size_t count = 0;
-    while (count < MOST_PLACES && rule->places[count].name != NULL)
+    while (rule->places[count].name != NULL)
         count++;
     return count;
 }

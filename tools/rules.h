@@ -22,13 +22,13 @@ struct place {
 /* The ways of writing modifiers, to make sets of. */
 enum { BARE = 1, COLON = 2, AT = 4, BOTH = 8 };
 
-/* A directive with some ways of writing its modifiers: its letter in lower case, its places, the kinds of its own argument
-   as a set of 1 << tilde_tag (none where it takes no argument), what it does, what its modifiers change, and an example as
-   the words of a command. */
+/* A directive with some ways of writing its modifiers: its letter in lower case, its places up to one without a name,
+   the kinds of its own argument as a set of 1 << tilde_tag (none where it takes no argument), what it does, what its
+   modifiers change, and an example as the words of a command. */
 struct rule {
     uint8_t letter;
     unsigned modifiers;
-    struct place places[MOST_PLACES];
+    const struct place *places;
     unsigned kinds;
     const char *does, *changes;
     const char *example[4];

@@ -9,6 +9,8 @@
 /* A shortened string shows about so many bytes, a shortened list so many values. */
 #define SHORT_STRING ((size_t)32)
 #define SHORT_LIST ((size_t)4)
+/* A word of a command line shows no more bytes than this. */
+#define SHORT_WORD ((size_t)200)
 
 size_t utf8_length(const uint8_t *bytes, size_t length)
 {
@@ -176,9 +178,10 @@ static enum quotes quotes_for(const char *text, size_t length)
 void show_word(FILE *to, const char *text, size_t length)
 {
     static const char *const begins[] = {"", "'", "\"", "$'"}, *const ends[] = {"", "'", "\"", "'"};
-    const enum quotes quotes = quotes_for(text, length);
+    const size_t some = length > SHORT_WORD + 8 ? SHORT_WORD : length;
+    const enum quotes quotes = quotes_for(text, some);
     fputs(begins[quotes], to);
-    for (size_t i = 0; i < length;) {
+    for (size_t i = 0; i < some;) {
         const struct shown shown = show_next((const uint8_t *)text + i, length - i);
         if (quotes == QUOTES_ESCAPING)
             fputs(text[i] == '\'' ? "\\'" : shown.text, to);
@@ -186,12 +189,12 @@ void show_word(FILE *to, const char *text, size_t length)
             fwrite(text + i, 1, shown.bytes, to);
         i += shown.bytes;
     }
-    fputs(ends[quotes], to);
+    fprintf(to, "%s%s", some < length ? ".." : "", ends[quotes]);
 }
 
 int show_string_word(FILE *to, const char *text, size_t length)
 {
-    char string[512] = "\"";
+    char string[SHORT_WORD] = "\"";
     size_t used = 1;
     for (size_t i = 0; i < length;) {
         const struct shown shown = show_quoted((const uint8_t *)text + i, length - i);

@@ -36,7 +36,7 @@ void show_end(FILE *to, const uint8_t *bytes, size_t length, int more);
 /* Prints an entry of a good table as a value, shortened. */
 void show_value(FILE *to, const uint8_t *table, size_t entry);
 
-/* Prints a text as one word of a shell's command line. */
+/* Prints a text as one word of a shell's command line; of a very long one the first bytes and `..`. */
 void show_word(FILE *to, const char *text, size_t length);
 
 /* Prints as such a word the string that a text can be given as; answers 0 where it is too long to be of use. */

@@ -34,7 +34,8 @@ static void print_overview(FILE *to)
         fprintf(to, "  tilde %-11s %s\n", verbs[i].name, verbs[i].summary);
     fputs("  tilde help VERB   what to type behind a verb\n"
           "  tilde --version   the version\n\n"
-          "Status: 0 done, 1 refused, 2 wrong usage or an output that could not be written.\n", to);
+          "Status: 0 done, 1 refused, 2 wrong usage, or an input or output that failed.\n",
+          to);
 }
 
 /* How many bytes have to be put in, taken out or exchanged to make one word of the other; long words count as far. */

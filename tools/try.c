@@ -7,22 +7,29 @@
 const char try_help[] =
     "usage: tilde try [--raw] FORMAT [VALUE]...\n"
     "\n"
-    "Prints the line that a format makes of the values, and a newline where the line has none at its end.\n"
+    "Prints the line that a format makes of the values, and a newline where the line\n"
+    "has none at its end; or what is wrong with it. Values are\n"
     "\n"
-    "Values: 850 a whole number of 64 bits, \"wind\" a string, #\\A or #\\x41 a character, #t and #f booleans,\n"
-    "(1 \"a\" (2)) a list. In a string \\n \\t \\r \\\\ \\s \\h are newline, tab, return, backslash, space and #,\n"
-    "\\xHH is any byte (a quote is \\x22), and \\*80(-) is 80 times -.\n"
-    "A shell takes quotes, #, brackets and a tilde for itself: put each word in single quotes, or in double quotes\n"
-    "where the word has a single one.\n"
+    "  850           a whole number of 64 bits\n"
+    "  \"wind\"        a string\n"
+    "  #\\A  #\\x41    a character, 0 to 127\n"
+    "  #t  #f        a boolean\n"
+    "  (1 \"a\" (2))   a list\n"
+    "\n"
+    "In a string \\n \\t \\r \\\\ \\\" \\s \\h are newline, tab, return, backslash, quote,\n"
+    "space and #, \\xHH is any byte, and \\*80(-) is 80 times -. A shell takes ~ # \" and\n"
+    "brackets for itself: put each word in single quotes, or in double quotes where\n"
+    "it has a single one in it.\n"
     "\n"
     "  tilde try '~a: ~d hPa' '\"wind\"' 850\n"
     "  tilde try \"~5,'0d\" 42\n"
     "\n"
-    "A line with bytes that a terminal does not show as text is shown in that notation, with a note.\n"
-    "  --raw   writes the bytes as they are, and adds no newline\n"
-    "  --      ends the options; a negative number is a value anyway\n"
+    "A line with bytes that are no text for a terminal is shown with these escapes,\n"
+    "and a note says so.\n"
+    "  --raw  writes the bytes as they are, and adds no newline\n"
+    "  --     ends the options; a negative number is a value anyway\n"
     "\n"
-    "Status: 0 done, 1 refused, 2 wrong usage or an output that could not be written.\n";
+    "Status: 0 done, 1 refused, 2 wrong usage, or an output that failed.\n";
 
 /* Adds the values to a table; answers its length, 0 after a complaint. */
 static size_t read_values(int argc, char **argv, uint8_t *room, size_t size, FILE *err)
@@ -47,7 +54,8 @@ static void print_line(const struct call *call, const struct learned *learned, c
         /* the note comes behind the line; whether it could be written is looked at in the end */
         fflush(io->out);
         fputs("tilde: the line has bytes that are no text for a terminal, so it is shown escaped; "
-              "--raw writes it as it is\n", io->err);
+              "--raw writes it as it is\n",
+              io->err);
         return;
     }
     line_write(call, io->out);

@@ -4,7 +4,10 @@
 
 #include <string.h>
 
-#define STRING_TYPE "in a string \\n \\t \\r \\\\ \\s \\h are newline, tab, return, backslash, space and #, \\x22 is a quote"
+/* What to type in a string for bytes that cannot stand there, and how much a table holds. */
+#define ESCAPES                                                                                                        \
+    "\\n \\t \\r \\\\ \\\" \\s \\h are newline, tab, return, backslash, quote, space and #, and \\xHH any byte"
+#define CAPACITY "at most 1,024 values, those in lists too, and 65,536 bytes of strings"
 
 /* The text of a value as far as it is read. */
 struct source {
@@ -15,13 +18,15 @@ struct source {
 
 static int complain(struct source *source, size_t at, const char *wrong, const char *type)
 {
-    *source->complaint = (struct complaint){wrong, at, type};
+    *source->complaint = (struct complaint){wrong, at, type, 0};
     return 0;
 }
 
 static int no_room(struct source *source, size_t at)
 {
-    return complain(source, at, "the table is full", "at most 1,024 values, those in lists too, and 65,536 bytes of strings");
+    complain(source, at, "the table is full", CAPACITY);
+    source->complaint->full = 1;
+    return 0;
 }
 
 static int ahead(const struct source *source, char byte)
@@ -77,27 +82,36 @@ int whole_read(const char *text, size_t length, int64_t *number)
     return 1;
 }
 
-/* The end of what can be one number or word: a blank, a bracket or the end. */
-static size_t word_end(const struct source *source)
+/* Whether a value may end here: before a blank, a bracket, a quote, or the end. */
+static int ends_value(const struct source *source, size_t at)
 {
-    size_t end = source->at;
-    while (end < source->length && !is_blank(source->text[end]) && source->text[end] != ')' && source->text[end] != '(')
-        end++;
-    return end;
+    return at >= source->length || is_blank(source->text[at]) || strchr("()\"", source->text[at]) != NULL;
+}
+
+static int complain_digits(struct source *source, size_t from, size_t end)
+{
+    size_t at = from + (is_digit(source->text[from]) ? 0 : 1);
+    if (at == end)
+        return complain(source, from, "a sign stands before digits", "a number is 850 or -3");
+    while (at < end && is_digit(source->text[at]))
+        at++;
+    if (at == end)
+        return complain(source, from, "it does not fit in 64 bits",
+                        "whole numbers go from -9223372036854775808 to 9223372036854775807");
+    if (source->text[at] == ',')
+        return complain(source, at, "a whole number has no comma", "values of a list are parted by spaces: (1 2)");
+    return complain(source, at, "a whole number has only digits", "any other text is a string, in double quotes");
 }
 
 static int read_number(struct source *source, tilde_table *table)
 {
-    const size_t from = source->at, end = word_end(source);
+    const size_t from = source->at;
+    size_t end = from;
     int64_t number;
-    if (!whole_read(source->text + from, end - from, &number)) {
-        for (size_t i = from + 1; i < end; i++)
-            if (!is_digit(source->text[i]))
-                return complain(source, i, "a number has only digits here",
-                                "a text of digits and other bytes is a string, in double quotes");
-        return complain(source, from, "it is no number of 64 bits",
-                        "whole numbers go from -9223372036854775808 to 9223372036854775807");
-    }
+    while (!ends_value(source, end))
+        end++;
+    if (!whole_read(source->text + from, end - from, &number))
+        return complain_digits(source, from, end);
     source->at = end;
     return tilde_table_integer(table, number) || no_room(source, from);
 }
@@ -106,15 +120,17 @@ static int read_number(struct source *source, tilde_table *table)
 static int read_character(struct source *source, tilde_table *table)
 {
     const size_t from = source->at;
-    const unsigned hex = ahead(source, '#') && source->length - from > 3 && source->text[from + 2] == 'x'
-                             ? hex_byte(source, from + 3)
-                             : 256;
     if (source->length - from < 3)
         return complain(source, from, "a character stands behind #\\", "#\\A or, by its number, #\\x41");
+    const unsigned hex = source->text[from + 2] == 'x' ? hex_byte(source, from + 3) : 256;
     const unsigned character = hex < 256 ? hex : (unsigned char)source->text[from + 2];
+    const size_t end = from + (hex < 256 ? 5 : 3);
     if (character > 127)
-        return complain(source, from + 2, "a character is 0 to 127", "a byte above 127 can stand in a string: \"\\xe9\"");
-    source->at = from + (hex < 256 ? 5 : 3);
+        return complain(source, from + 2, "a character is 0 to 127", "a byte above 127 may stand in a string");
+    if (!ends_value(source, end))
+        return complain(source, end, "one byte is behind #\\, or x and two hexadecimal digits",
+                        "newline is #\\x0a, tab #\\x09, space #\\x20");
+    source->at = end;
     return tilde_table_character(table, character) || no_room(source, from);
 }
 
@@ -124,8 +140,8 @@ static int read_hash(struct source *source, tilde_table *table)
     const char next = from + 1 < source->length ? source->text[from + 1] : '\0';
     if (next == '\\')
         return read_character(source, table);
-    if (next != 't' && next != 'f')
-        return complain(source, from, "behind # stands t, f or \\", "#t or #f, or a character as #\\A");
+    if ((next != 't' && next != 'f') || !ends_value(source, from + 2))
+        return complain(source, from, "this is no boolean and no character", "#t or #f, or a character as #\\A");
     source->at = from + 2;
     return tilde_table_boolean(table, next == 't') || no_room(source, from);
 }
@@ -133,7 +149,7 @@ static int read_hash(struct source *source, tilde_table *table)
 /* The byte of a string that stands here, or of its escape; 256 after a complaint. */
 static unsigned read_byte(struct source *source)
 {
-    static const char letters[] = "ntr\\sh", meant[] = "\n\t\r\\ #";
+    static const char letters[] = "ntr\\\"sh", meant[] = "\n\t\r\\\" #";
     const size_t from = source->at;
     if (source->text[from] != '\\') {
         source->at++;
@@ -148,7 +164,7 @@ static unsigned read_byte(struct source *source)
     const unsigned byte = next == 'x' ? hex_byte(source, from + 2) : 256;
     source->at = from + 4;
     if (byte > 255)
-        complain(source, from, "this is no escape", STRING_TYPE " and \\xHH any byte");
+        complain(source, from, "this is no escape", ESCAPES);
     return byte;
 }
 
@@ -197,7 +213,8 @@ static int read_string(struct source *source, tilde_table *table)
         if (!read_part(source, bytes, &length))
             return 0;
     if (source->at >= source->length)
-        return complain(source, from, "the string has no quote at its end", "a string is \"wind\"; a quote in it is \\x22");
+        return complain(source, from, "the string has no quote at its end",
+                        "a string is \"wind\", and a quote in it \\\"");
     source->at++;
     return tilde_table_string(table, bytes, length) || no_room(source, from);
 }
@@ -252,7 +269,7 @@ int value_read(tilde_table *table, const char *text, size_t length, struct compl
         return complain(&source, length, "a list is not closed", "( and ) in pairs, as in (1 \"a\" (2))");
     if (source.at < length)
         return complain(&source, source.at, "more stands behind the value",
-                        "one value to a word; a quote in a string is \\x22");
+                        "a list of values is (1 2), and a quote in a string \\\"");
     return 1;
 }
 
@@ -260,6 +277,10 @@ void value_complain(FILE *err, size_t number, const char *text, size_t length, c
 {
     fprintf(err, "tilde: value %zu, ", number);
     show_word(err, text, length);
+    if (complaint->full) {
+        fprintf(err, ", is too much: %s; %s\n", complaint->wrong, complaint->type);
+        return;
+    }
     fprintf(err, ", is no value: %s, at byte %zu; %s\n", complaint->wrong, complaint->at, complaint->type);
     fputs("  Values, as a shell takes them: 850  '\"wind\"'  '#\\A'  '#t'  '(1 \"a\" (2))'\n", err);
     if (length == 0 || strchr("\"#()", text[0]) != NULL)

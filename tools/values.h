@@ -1,15 +1,18 @@
-/* Reads values in the notation of tests/vectors/README.md: 850, "wind", #\x41 or #\A, #t, (1 "a" (2)). */
+/* Reads values in the notation of tests/vectors/README.md, 850, "wind", #\x41, #t, (1 "a" (2)), and two forms that
+   people type: #\A for a character, and \" for a quote in a string. */
 #ifndef TOOLS_VALUES_H
 #define TOOLS_VALUES_H
 
 #include <stdio.h>
 #include <tilde_table.h>
 
-/* Why a text is no value: what is wrong, the byte of the text where it is, and what to type. */
+/* Why a text cannot be taken as a value: what is wrong, the byte of the text where it is, what to type, and whether it
+   is a value and the table is full. */
 struct complaint {
     const char *wrong;
     size_t at;
     const char *type;
+    int full;
 };
 
 /* Adds the value of a text to the table. Answers 1, or 0 with the complaint set; the table then takes no more. */

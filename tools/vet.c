@@ -9,20 +9,23 @@
 const char vet_help[] =
     "usage: tilde vet [--longest N] FORMAT [KIND]...\n"
     "\n"
-    "Prints how many bytes the longest line has that the format can make of arguments of these kinds: so much room is\n"
-    "enough for every one of them. Kinds: boolean integer character string list, or b i c s l.\n"
-    "\n"
-    "  --longest N   no string argument has more than N bytes, 0 to 4096\n"
-    "  --            ends the options\n"
-    "\n"
-    "With a string among the kinds --longest has to be there: the count is only as good as that number, so none is\n"
-    "taken in its place. Strings inside lists do not count.\n"
+    "Prints how many bytes the longest line can have that the format makes of\n"
+    "arguments of these kinds: so much room is enough for every one of them. A kind\n"
+    "is boolean, integer, character, string or list, or its first letter.\n"
     "\n"
     "  tilde vet --longest 20 '~a: ~d hPa' string integer\n"
     "\n"
-    "The format may have conditionals, all of whose ways take as many arguments, but no ~* ~{ ~^ and no v.\n"
+    "  --longest N  no string argument has more than N bytes, 0 to 4096\n"
+    "  --           ends the options\n"
     "\n"
-    "Status: 0 done, 1 refused, 2 wrong usage or an output that could not be written.\n";
+    "With a string among the kinds --longest has to be there: the count is only as\n"
+    "good as that number, so none is taken in its place. Strings inside lists do not\n"
+    "count.\n"
+    "\n"
+    "The format may have conditionals whose ways all take as many arguments, but no\n"
+    "~* ~{ ~^ and no v.\n"
+    "\n"
+    "Status: 0 done, 1 refused, 2 wrong usage, or an output that failed.\n";
 
 /* Reads the kinds; answers 0 after a complaint. */
 static int read_kinds(int argc, char **argv, uint8_t *kinds, int *strings, FILE *err)
@@ -42,7 +45,8 @@ static int read_longest(const char *text, int strings, size_t *longest, FILE *er
 {
     int64_t number = 0;
     if (text == NULL && strings > 0) {
-        fputs("tilde vet: a kind is string, so say how many bytes the longest has: tilde vet --longest N FORMAT KIND..\n",
+        fputs("tilde vet: there is a string, so say how many bytes the longest has; type tilde vet --longest N "
+              "FORMAT KIND..\n",
               err);
         return 0;
     }

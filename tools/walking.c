@@ -7,7 +7,7 @@ int walk_find(struct walk *walk, struct directive *directive)
         walk->next++;
     if (walk->next >= format->length)
         return 0;
-    *directive = directive_read(format->bytes, format->length, walk->next);
+    *directive = directive_read(format, walk->next);
     return 1;
 }
 

@@ -4,15 +4,15 @@
 
 #include "correcting.h"
 
-/* An open block: its opener, how many separators came so far, the byte of a ~:; among them and 1, and how many arguments
-   were taken where its clauses begin. */
+/* An open block: its opener, how many separators came so far, the byte of a ~:; among them and 1, and how many
+   arguments were taken where its clauses begin. */
 struct block {
     struct directive opener;
     size_t separators, last, taken;
 };
 
-/* How far a walk has come, the open blocks, the outermost first, and how many arguments were taken on the way, as long as
-   there are no jumps and no loops. */
+/* How far a walk has come, the open blocks, the outermost first, and how many arguments were taken on the way, as long
+   as there are no jumps and no loops. */
 struct walk {
     const struct format *format;
     size_t next;

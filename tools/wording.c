@@ -25,8 +25,8 @@ void print_number(FILE *to, uint64_t number)
 
 void print_ordinal(FILE *to, size_t number)
 {
-    static const char *const words[] = {"first", "second", "third", "fourth", "fifth",
-                                        "sixth", "seventh", "eighth", "ninth", "tenth"};
+    static const char *const words[] = {"first", "second",  "third",  "fourth", "fifth",
+                                        "sixth", "seventh", "eighth", "ninth",  "tenth"};
     if (number >= 1 && number <= 10) {
         fputs(words[number - 1], to);
         return;
