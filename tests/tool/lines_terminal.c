@@ -13,7 +13,8 @@
 #include <unistd.h>
 
 #define UNENDED "tilde lines: the last line has no newline at its end, and none is added; ~% writes one\n"
-#define SLOWLY 1100
+/* Longer than progress waits, in milliseconds, so that a busy machine does not matter. */
+#define SLOWLY 1500
 
 static void check(int holds, const char *what, const char *shown)
 {
