@@ -5,21 +5,34 @@
 #include <string.h>
 #include <tilde.h>
 
-/* Whether the library finds no fault in the bytes, once they stand in the format. A vet of no kinds reads the whole
-   text first and runs nothing. */
-static int holds(const struct format *format, size_t start, size_t end, const struct spelling *instead)
+/* The first fault of the text with some bytes in the place of those from `start` to `end`; TILDE_DONE for none. A vet
+   of no kinds reads the whole text first and runs nothing. */
+static uint32_t fault_with(const struct format *format, size_t start, size_t end, const struct spelling *instead,
+                           size_t *position)
 {
     uint8_t bytes[TILDE_MOST_FORMAT];
     const size_t length = format->length - (end - start) + instead->length, behind = format->length - end;
-    size_t position, count;
+    size_t count;
+    *position = start;
     if (length > sizeof bytes)
-        return 0;
+        return TILDE_LONG_FORMAT;
     memcpy(bytes, format->bytes, start);
     memcpy(bytes + start, instead->bytes, instead->length);
     memcpy(bytes + start + instead->length, format->bytes + end, behind);
-    const uint32_t code = tilde_vet(bytes, length, NULL, 0, 0, &position, &count);
-    return code < TILDE_LONG_FORMAT || code > TILDE_BAD_PARAMETER || position < start ||
-           position >= start + instead->length;
+    const uint32_t code = tilde_vet(bytes, length, NULL, 0, 0, position, &count);
+    return code <= TILDE_BAD_PARAMETER ? code : TILDE_DONE;
+}
+
+/* Whether the library finds no fault in the bytes, once they stand in the format. A fault behind them is another
+   matter, and so is one before them, as a block that is not closed, if it is there without them too. */
+static int holds(const struct format *format, size_t start, size_t end, const struct spelling *instead)
+{
+    const struct spelling nothing = {.length = 0};
+    size_t position, without;
+    const uint32_t code = fault_with(format, start, end, instead, &position);
+    if (code == TILDE_DONE || position >= start + instead->length)
+        return 1;
+    return position < start && fault_with(format, start, end, &nothing, &without) == code && without == position;
 }
 
 int propose(FILE *to, const char *lead, const struct format *format, size_t start, size_t end,

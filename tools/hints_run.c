@@ -9,7 +9,8 @@ static void print_missing(FILE *to, const struct hand *hand, size_t argument)
 {
     if (hand->count == 0) {
         fputs(hand->table == NULL ? " takes an argument, and no kind is given for it"
-                                  : " takes an argument, and none is given", to);
+                                  : " takes an argument, and none is given",
+              to);
         return;
     }
     fputs(" takes ", to);

@@ -1,5 +1,5 @@
-/* The table of directives against the library: which letters, modifiers and parameters it takes, which kinds, and what a
-   place is where nothing is written. */
+/* The table of directives against the library: which letters, modifiers and parameters it takes, which kinds, and what
+   a place is where nothing is written. */
 #define _GNU_SOURCE
 #include "../../tools/correcting.h"
 #include "../c/expect.h"
@@ -131,13 +131,14 @@ static void run_kinds(const struct rule *rule)
     size_t written;
     for (unsigned kind = TILDE_BOOLEAN; kind <= TILDE_LIST && rule->kinds != 0; kind++) {
         const uint32_t code = run(rule, "", kind, text, &written);
-        expect((code == TILDE_WRONG_KIND) == ((rule->kinds >> kind & 1u) == 0), "the kinds of a directive", rule->letter);
+        expect((code == TILDE_WRONG_KIND) == ((rule->kinds >> kind & 1u) == 0), "the kinds of a directive",
+               rule->letter);
         kinds_taken++;
     }
 }
 
-/* What a place is where nothing is written: with that written out nothing changes. The other places behind the first have
-   a width to fill. */
+/* What a place is where nothing is written: with that written out nothing changes. The other places behind the first
+   have a width to fill. */
 static void run_defaults(const struct rule *rule)
 {
     for (size_t i = 0; i < places_of(rule); i++) {
@@ -163,7 +164,8 @@ int main(void)
         run_kinds(rules + i);
         run_defaults(rules + i);
     }
-    printf("tests/tool/rules.c: %zu checks: %zu directives that fit, %zu that do not, %zu unknown; %zu kinds, %zu defaults\n",
+    printf("tests/tool/rules.c: %zu checks: %zu directives that fit, %zu that do not, %zu unknown; %zu kinds, %zu "
+           "defaults\n",
            checks, fitting, misfitting, unknown, kinds_taken, defaults);
     return 0;
 }

@@ -30,27 +30,39 @@ static int is_simple(const struct typed *word)
     return word->length <= 72;
 }
 
-/* The bytes that a hint proposes in place of the marked ones: with them the library finds no fault there any more. */
+/* The first fault of a format with other bytes in the place of some. */
+static uint32_t fault_with(const struct typed *format, size_t from, size_t taken, const char *bytes, size_t length,
+                           size_t *place)
+{
+    uint8_t made[256];
+    const size_t rest = format->length - from - taken;
+    size_t count;
+    memcpy(made, format->bytes, from);
+    memcpy(made + from, bytes, length);
+    memcpy(made + from + length, format->bytes + from + taken, rest);
+    const uint32_t code = tilde_vet(made, from + length + rest, NULL, 0, 0, place, &count);
+    return code <= TILDE_BAD_PARAMETER ? code : TILDE_DONE;
+}
+
+/* The bytes that a hint proposes in place of the marked ones: with them the library finds no fault there any more, and
+   none before them that is not there without them. */
 static void expect_repaired(const struct typed *format, size_t position, size_t marked, const char *hint)
 {
     const size_t length = strcspn(hint, "\n");
     const char *proposal = NULL;
-    uint8_t bytes[256];
-    size_t place, count;
+    size_t place, without;
     for (size_t i = 0; i + 3 < length; i++)
         if (memcmp(hint + i, ": ~", 3) == 0)
             proposal = hint + i + 2;
     if (proposal == NULL)
         return;
-    const size_t size = (size_t)(hint + length - proposal), rest = format->length - position - marked;
-    memcpy(bytes, format->bytes, position);
-    memcpy(bytes + position, proposal, size);
-    memcpy(bytes + position + size, format->bytes + position + marked, rest);
-    const uint32_t code = tilde_vet(bytes, position + size + rest, NULL, 0, 0, &place, &count);
-    const int accepted = code < TILDE_LONG_FORMAT || code > TILDE_BAD_PARAMETER;
-    expect(accepted || place < position || place >= position + size, "a proposal that the library accepts", number);
+    const size_t size = (size_t)(hint + length - proposal);
+    const uint32_t code = fault_with(format, position, marked, proposal, size, &place);
+    const uint32_t left = fault_with(format, position, marked, "", 0, &without);
+    expect(code == TILDE_DONE || place >= position + size || (place < position && code == left && place == without),
+           "a proposal that the library accepts", number);
     proposals++;
-    repaired += accepted ? 1 : 0;
+    repaired += code == TILDE_DONE ? 1 : 0;
 }
 
 /* The lines of a refusal: its code, words and position, the format with a mark under the place, and a hint. */
