@@ -6,14 +6,6 @@
 /* The most clauses whose ends a hint names. */
 #define MOST_CLAUSES ((size_t)5)
 
-static int has_v(const struct directive *directive, size_t *place)
-{
-    for (*place = 0; *place < MOST_PLACES; ++*place)
-        if (directive->parameters[*place].form == FORM_NEXT)
-            return 1;
-    return 0;
-}
-
 /* How many arguments each way through a conditional takes. */
 static void print_ways(FILE *to, struct walk *walk, const struct directive *opener)
 {
@@ -61,10 +53,10 @@ static void hint_conditional(FILE *to, const struct format *format, const struct
 void hint_not_plain(FILE *to, const struct format *format, const struct directive *directive, const struct hand *hand)
 {
     const struct rule *rule = directive_rule(directive);
-    size_t place;
+    const size_t place = directive_v(directive);
     if (rule == NULL)
         return;
-    if (has_v(directive, &place)) {
+    if (place < MOST_PLACES) {
         fprintf(to, "the v of its %s takes a value that a vet does not know; write a %s there",
                 rule->places[place].name, rule->places[place].character ? "character" : "number");
     } else if (rule->letter == '[') {
