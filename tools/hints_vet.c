@@ -1,12 +1,11 @@
 #include "hints.h"
-#include "wording.h"
 
 #include <tilde.h>
 
 /* The most clauses whose ends a hint names. */
 #define MOST_CLAUSES ((size_t)5)
 
-/* How many arguments each way through a conditional takes. */
+/* How many arguments each clause takes, and that none may run where no clause is for all other numbers. */
 static void print_ways(FILE *to, struct walk *walk, const struct directive *opener)
 {
     const size_t depth = walk->depth;
@@ -15,19 +14,15 @@ static void print_ways(FILE *to, struct walk *walk, const struct directive *open
     walk_past(walk, opener);
     const size_t begins = walk->taken;
     while (walk_find(walk, &directive) && walk->depth > depth) {
-        const int ends = walk->depth == depth + 1 && (directive.code == ';' || directive.code == ']');
-        if (ends && clauses++ < MOST_CLAUSES) {
-            fputs(clauses > 1 ? ", the " : "the ", to);
-            print_ordinal(to, clauses);
-            fprintf(to, " clause takes %zu", walk->taken - begins);
-        }
+        if (walk->depth == depth + 1 && (directive.code == ';' || directive.code == ']') && clauses++ < MOST_CLAUSES)
+            fprintf(to, "%s%zu", clauses > 1 ? ", " : "", walk->taken - begins);
         last = walk->open[depth].last;
         walk_past(walk, &directive);
     }
     if (clauses > MOST_CLAUSES)
-        fputs(", and so on", to);
+        fputs(", ..", to);
     if (last == 0 && !opener->colon && !opener->at)
-        fputs(", and to run none, as there is no ~:;, takes 0", to);
+        fputs(", and 0 where none runs", to);
 }
 
 static void hint_conditional(FILE *to, const struct format *format, const struct directive *directive,
@@ -41,12 +36,9 @@ static void hint_conditional(FILE *to, const struct format *format, const struct
         hand_show(to, hand, hand->next);
         return;
     }
-    if (directive->at) {
-        fputs("~@[ takes one argument for #f, so its clause has to take one as well: ", to);
-    } else {
-        directive_name(to, directive);
-        fputs(" has to take the same number of arguments whichever way it goes: ", to);
-    }
+    fputs(directive->at ? "#f takes one argument, so its clause has to take one too, and takes "
+                        : "each way has to take the same number of arguments; its clauses take ",
+          to);
     print_ways(to, &walk, directive);
 }
 
