@@ -68,7 +68,7 @@ static int hint_wide(FILE *to, const struct format *format, const struct directi
     const size_t bytes = utf8_length(format->bytes + at, format->length - at);
     const struct shown shown = show_next(format->bytes + at, format->length - at);
     if (bytes > 1)
-        fprintf(to, "a character in a place is one byte behind a quote, and %s has %zu", shown.text, bytes);
+        fprintf(to, "one byte stands behind a quote, and %s has %zu", shown.text, bytes);
     return bytes > 1;
 }
 
