@@ -10,13 +10,14 @@
        tilde_table_list_end(&table);
        size_t length = tilde_table_end(&table);
 
-   is the table of two arguments, a string and a list of two values. Each call answers 1 where what it adds fitted, and 0
-   where it did not: the room is used up, there would be more than TILDE_MOST_ENTRIES values or TILDE_MOST_POOL bytes of
-   strings, a character is above 127, or a list ends that none began. After the first 0, and after tilde_table_end, every
-   call answers 0 until the next begin, so it is enough to look at what tilde_table_end answers. A table that it made
-   passes the check of tilde_format: TILDE_BAD_TABLE never comes of it. It takes TILDE_HEADER_BYTES, TILDE_ENTRY_BYTES
-   for each value, those inside lists and the lists themselves too, and the bytes of the strings; no more room is needed
-   on the way, and nothing outside the room is written. What the room holds on the way, or after a 0, is no table. */
+   is the table of two arguments, a string and a list of two values. Each call answers 1 where what it adds fitted, and
+   0 where it did not: the room is used up, there would be more than TILDE_MOST_ENTRIES values or TILDE_MOST_POOL bytes
+   of strings, a character is above 127, or a list ends that was not begun. After the first 0, and after
+   tilde_table_end, every call answers 0 until the next begin, so it is enough to look at what tilde_table_end answers.
+   A table that it made passes the check of tilde_format: TILDE_BAD_TABLE never comes of it. It takes
+   TILDE_HEADER_BYTES, TILDE_ENTRY_BYTES for each value, those inside lists and the lists themselves too, and the bytes
+   of the strings; no more room is needed on the way, and nothing outside the room is written. What the room holds on
+   the way, or after a 0, is no table. */
 #ifndef TILDE_TABLE_H
 #define TILDE_TABLE_H
 

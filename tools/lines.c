@@ -45,7 +45,7 @@ static const struct lines_sizes usual = {.longest = 524288, .chunk = 65536, .hel
 static int read_kinds(struct kinds *kinds, int argc, char **argv, FILE *err)
 {
     if (argc == 0)
-        fputs("tilde lines: the kinds of the fields are missing; type tilde lines FORMAT KIND.., a kind for each\n", err);
+        fputs("tilde lines: the kinds of the fields are missing; type one for each: tilde lines FORMAT KIND..\n", err);
     if (argc > TILDE_MOST_KINDS)
         print_numbers(err, "tilde lines: there are ~:d kinds, and a row has at most ~:d fields~%",
                      (uint64_t[]){(uint64_t)argc, TILDE_MOST_KINDS}, 2);

@@ -54,7 +54,8 @@ static enum step refuse(struct work *work, const struct fault *fault, const stru
         fputs(": ", err);
         refusal_print_head(err, ending->code, ending->position);
     } else if (told) {
-        print_numbers(err, ": a row has at most ~:d bytes, and this one has more~%", &(uint64_t){work->rows.longest}, 1);
+        const uint64_t longest = work->rows.longest;
+        print_numbers(err, ": a row has at most ~:d bytes, and this one has more~%", &longest, 1);
     }
     return work->job->strict ? STOPS : GOES_ON;
 }

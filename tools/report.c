@@ -89,7 +89,8 @@ void report_end(struct report *report, int stopped, int unended)
 {
     clear_progress(report);
     if (report->seen && unended)
-        fprintf(report->err, "%stilde lines: the last line has no newline at its end, and none is added; ~%% writes one\n",
+        fprintf(report->err,
+                "%stilde lines: the last line has no newline at its end, and none is added; ~%% writes one\n",
                 report->followed ? "" : "\n");
     if (report->refused > 0)
         print_summary(report, stopped);

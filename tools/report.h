@@ -10,8 +10,8 @@ struct report {
     FILE *err;
     /* the rows so far, those of them that were refused, and how many of these are told */
     uint64_t rows, refused, most_told;
-    /* whether a terminal shows what is said, and whether it shows progress; when that is shown next, in milliseconds, and
-       how many columns of it stand on the screen */
+    /* whether a terminal shows what is said, and whether it shows progress; when that is shown next, in milliseconds,
+       and how many columns of it stand on the screen */
     int seen, followed;
     int64_t next;
     size_t columns;

@@ -220,6 +220,10 @@ impl Line {
         Given { stations, tables }
     }
 
+    pub fn arguments(&self, station: &Station) -> Vec<Value> {
+        (self.values)(station)
+    }
+
     pub fn formatted(&self, table: &[u8], out: &mut [u8]) -> usize {
         let (code, _, _, written) = tilde::format(self.format.as_bytes(), table, black_box(out));
         assert_eq!(code, 0);

@@ -7,6 +7,7 @@ mod lines;
 mod plain;
 mod printing;
 mod slowest;
+mod tool;
 mod whole;
 mod windows;
 
@@ -26,7 +27,7 @@ const ROUNDS: usize = 301;
 type Digits = fn(u64, u64, &mut [u8]) -> usize;
 
 /// The tables that are printed, with their names: all of them, or one that is named.
-const TABLES: [(&str, fn()); 7] = [
+const TABLES: [(&str, fn()); 8] = [
     ("lines", lines::measure),
     ("growth", growth::measure),
     ("whole", whole::measure),
@@ -34,6 +35,7 @@ const TABLES: [(&str, fn()); 7] = [
     ("slowest", slowest::measure),
     ("digits", all_digits),
     ("check", tables),
+    ("tool", tool::measure),
 ];
 
 fn main() -> ExitCode {

@@ -1,6 +1,6 @@
-/* What the tests in C share: counted checks, and blocks of exactly their size. A heap block lets valgrind or a sanitizer
-   see a byte read or written outside it; one that ends where a page without access begins stops the program there without
-   them too. Define _GNU_SOURCE before the first include. */
+/* What the tests in C share: counted checks, and blocks of exactly their size. A heap block lets valgrind or a
+   sanitizer see a byte read or written outside it; one that ends where a page without access begins stops the program
+   there without them too. Define _GNU_SOURCE before the first include. */
 #ifndef BLOCKS_H
 #define BLOCKS_H
 

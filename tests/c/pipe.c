@@ -1,5 +1,5 @@
-/* Runs examples/pipe.c, whose program and what runs it are the words of the command line, and compares what comes out at
-   the other end of its pipe with one call of tilde_format. */
+/* Runs examples/pipe.c, whose program and what runs it are the words of the command line, and compares what comes out
+   at the other end of its pipe with one call of tilde_format. */
 #define _GNU_SOURCE
 #include "tables.h"
 #include <errno.h>
@@ -106,8 +106,8 @@ static void arrives(uint32_t code)
     size_t position, steps, written;
 
     struct block given = copy_of(table.bytes, table_length(), 0);
-    uint32_t answered = tilde_format((const uint8_t *)format, strlen(format), given.bytes, table_length(), buffer, PLENTY,
-                                     &position, &steps, &written);
+    uint32_t answered = tilde_format((const uint8_t *)format, strlen(format), given.bytes, table_length(), buffer,
+                                     PLENTY, &position, &steps, &written);
     give_back(given);
     expect(answered == code, "code of one call", lines);
     if (code != TILDE_DONE)

@@ -1,5 +1,5 @@
-/* Plans of tables for the test of the builder: what is given to it, call by call, what it has to answer, and what has to
-   stand in the table, read here from document 01's "The argument table" alone. Define _GNU_SOURCE before the first
+/* Plans of tables for the test of the builder: what is given to it, call by call, what it has to answer, and what has
+   to stand in the table, read here from document 01's "The argument table" alone. Define _GNU_SOURCE before the first
    include. */
 #ifndef PLANS_H
 #define PLANS_H
@@ -116,7 +116,8 @@ static void read_entries(size_t first, size_t count)
             read_string(entry, given);
         } else if (given->tag == TILDE_LIST) {
             size_t inner = (size_t)number_at(entry + 4, 4), inside = (size_t)number_at(entry + 8, 4);
-            expect(inner > i && inner <= reading.entries && inside <= reading.entries - inner, "entries of a list", plans);
+            expect(inner > i && inner <= reading.entries && inside <= reading.entries - inner, "a list in the table",
+                   plans);
             read_entries(inner, inside);
             expect(plan[reading.next++].tag == LIST_END, "end of a list", plans);
         } else {

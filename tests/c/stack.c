@@ -1,5 +1,5 @@
-/* How much stack a call takes. No call goes deeper than TILDE_STACK_BYTES, and the deepest of those tried runs on a stack
-   that has no byte more. */
+/* How much stack a call takes. No call goes deeper than TILDE_STACK_BYTES, and the deepest of those tried runs on a
+   stack that has no byte more. */
 #define _GNU_SOURCE
 #include "drawing.h"
 #include "painted.h"

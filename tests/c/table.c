@@ -1,5 +1,5 @@
-/* The builder of include/tilde_table.h: every answer of every call, in rooms of exactly the size needed, of one byte less
-   and of many others, and what stands in the tables. Link with libprobe.a too, for its check of a table. */
+/* The builder of include/tilde_table.h: every answer of every call, in rooms of exactly the size needed, of one byte
+   less and of many others, and what stands in the tables. Link with libprobe.a too, for its check of a table. */
 #define _GNU_SOURCE
 #include "drawing.h"
 #include "plans.h"

@@ -1,5 +1,5 @@
-/* The table in hand, for the tests of tilde.h, not all of which have arguments of every kind: the builder of tilde_table.h
-   with one table, every call of which is checked. Define _GNU_SOURCE before the first include. */
+/* The table in hand, for the tests of tilde.h, not all of which have arguments of every kind: the builder of
+   tilde_table.h with one table, every call of which is checked. Define _GNU_SOURCE before the first include. */
 #ifndef TABLES_H
 #define TABLES_H
 
@@ -68,7 +68,7 @@ static inline size_t argument_kinds(uint8_t *kinds)
     return count;
 }
 
-/* Gives the list at an entry of the ended table other entries, below 256. The builder makes no lists that share them. */
+/* Gives the list at an entry of the ended table other entries, below 256. The builder makes no lists that share any. */
 static inline void share(size_t entry, uint8_t first, uint8_t count)
 {
     uint8_t *list = table.bytes + TILDE_HEADER_BYTES + TILDE_ENTRY_BYTES * entry;

@@ -1,6 +1,6 @@
-/* Format, vet and windows from four threads, from the main flow, and from a timer's signal handler that interrupts the main
-   flow, all at the same time: every answer and text is that of the first call, which ran alone. With -fsanitize=thread the
-   code of this test is watched, and what the archives are given; their own code is not instrumented. */
+/* Format, vet and windows from four threads, from the main flow, and from a timer's signal handler that interrupts the
+   main flow, all at the same time: every answer and text is that of the first call, which ran alone. With
+   -fsanitize=thread the code of this test is watched; that of the archives is not instrumented. */
 #define _GNU_SOURCE
 #include "tables.h"
 #include <pthread.h>
@@ -127,7 +127,7 @@ static void *thread(void *numbered)
     return NULL;
 }
 
-/* What the handler did: how often it came, how often into the calls of the main flow, and whether it met a wrong answer. */
+/* What the handler did: how often it came, how often into calls of the main flow, and whether an answer was wrong. */
 static volatile sig_atomic_t handled = 0, interrupted = 0, wrong = 0, inside = 0;
 
 static void on_timer(int number)
@@ -217,6 +217,7 @@ int main(void)
         all += calls[i];
     }
     expect(!wrong, "answers of a handler", (size_t)handled);
-    printf("%zu calls of four threads, %zu of a flow that a handler interrupted %d times\n", all, flow, (int)interrupted);
+    printf("%zu calls of four threads, %zu of a flow that a handler interrupted %d times\n", all, flow,
+           (int)interrupted);
     return 0;
 }

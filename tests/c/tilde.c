@@ -1,4 +1,4 @@
-/* Format and vet as the collector calls them, through include/tilde.h alone. Each case is run on both sorts of block:
+/* Format and vet as the collector calls them, through its headers alone. Each case is run on both sorts of block:
    its answer, its text, every byte beyond it and the blocks that are only read are compared. */
 #define _GNU_SOURCE
 #include "tables.h"

@@ -1,5 +1,5 @@
-/* Lines through small windows, through include/tilde.h alone: every call of tilde_resume and of tilde_window against what
-   one call of tilde_format writes. Each window is a block of exactly its size. */
+/* Lines through small windows, through its headers alone: every call of tilde_resume and of tilde_window against
+   what one call of tilde_format writes. Each window is a block of exactly its size. */
 #define _GNU_SOURCE
 #include "drawing.h"
 #include "tables.h"
@@ -56,7 +56,7 @@ static struct block window_of(size_t size, int fenced)
     return window;
 }
 
-/* One call, and the same again with a copy of its state: it answers what is wanted, writes the text and no other byte. */
+/* One call, and the same again with a copy of its state: it answers what is wanted, and writes the text alone. */
 static void lend(way *call, tilde_state *state, size_t size, int fenced, struct told want, const uint8_t *text)
 {
     tilde_state copy = *state;
@@ -225,7 +225,7 @@ static void other_lines(void)
 /* No piece of these lines is longer, and a run has at most one for each step. */
 #define LONGEST_PIECE ((size_t)5000)
 
-/* A state that no call gave, over the line in hand: the same calls answer the same, none leaves its window, and it ends. */
+/* A state that no call gave, over the line in hand: the same calls answer the same, stay in their windows, and end. */
 static void follow(tilde_state state, int fenced)
 {
     size_t calls = 0, size = 1, most = 20 + TILDE_MOST_STEPS * LONGEST_PIECE / PLENTY;

@@ -12,8 +12,8 @@ static size_t runs, faults, counts, longs, refusals[TILDE_NO_ROOM];
 static void check(int holds, const char *what, const struct made *made, const char *told)
 {
     if (!holds)
-        fprintf(stderr, "format %s\nrows\n%.2000s\nexpected lines\n%.2000s\nexpected messages\n%.2000s\ntold\n%.2000s\n",
-                made->format, made->rows, made->out, made->err, told);
+        fprintf(stderr, "format %s\nrows\n%.2000s\nlines\n%.2000s\nmessages\n%.2000s\ntold\n%.2000s\n", made->format,
+                made->rows, made->out, made->err, told);
     expect(holds, what, runs);
 }
 
@@ -30,8 +30,8 @@ static int expect_line(const struct made *made, const uint8_t *table, size_t tab
 {
     static uint8_t line[LONGEST_LINE];
     size_t position, steps, written;
-    const uint32_t code = tilde_format(made->job.format, made->job.format_length, table, table_length, line, sizeof line,
-                                       &position, &steps, &written);
+    const uint32_t code = tilde_format(made->job.format, made->job.format_length, table, table_length, line,
+                                       sizeof line, &position, &steps, &written);
     check(code < TILDE_NO_ROOM && code != TILDE_BAD_TABLE, "a line of the test has no room", made, "");
     refusals[code]++;
     if (code == TILDE_DONE) {
@@ -219,10 +219,10 @@ int main(void)
         free(made.out);
         free(made.err);
     }
-    printf("lines_random: %d jobs in %zu runs, %zu rows: %zu lines, %zu bad fields, %zu wrong counts, %zu too long; refused",
+    printf("lines_random: %d jobs in %zu runs, %zu rows: %zu lines, %zu bad fields, %zu wrong counts, %zu too long",
            JOBS, runs, rows, lines, faults, counts, longs);
     for (uint32_t code = TILDE_LONG_FORMAT; code < TILDE_NO_ROOM; code++)
-        printf(" (%u) %zu", (unsigned)code, refusals[code]);
+        printf(", %zu refused (%u)", refusals[code], (unsigned)code);
     printf("; %zu checks\n", checks);
     return 0;
 }

@@ -13,7 +13,8 @@
 #include <unistd.h>
 
 #define UNENDED "tilde lines: the last line has no newline at its end, and none is added; ~% writes one\n"
-#define SLOWLY 1100
+/* Longer than progress waits, in milliseconds, so that a busy machine does not matter. */
+#define SLOWLY 1500
 
 static void check(int holds, const char *what, const char *shown)
 {
@@ -110,7 +111,8 @@ static void check_progress(void)
     check(run("~d~%", in, out, terminal.command) == STATUS_REFUSED, "the status of a bad row", "");
     terminal_close(terminal, shown, sizeof shown);
     check(strncmp(shown, "\r4 rows, 0 refused\r", 19) == 0, "progress after a second", shown);
-    const char *message = strstr(shown, "row 5, field 1 (integer): \"x\" is no whole number\n6 rows: 5 lines, 1 refused\n");
+    const char *message = strstr(shown, "row 5, field 1 (integer): \"x\" is no whole number\n"
+                                        "6 rows: 5 lines, 1 refused\n");
     check(message != NULL && message - shown >= 37, "a message behind the progress", shown);
     check(memcmp(message - 19, "\r                 \r", 19) == 0, "a cleared line before the message", shown);
     fclose(in);

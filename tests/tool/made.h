@@ -161,7 +161,7 @@ static int make_value(FILE *row, tilde_table *table, uint8_t kind, int depth)
     }
 }
 
-/* Writes the fields of a row, one of them bad where that is wanted, and answers the first bad one, from 1 on; else 0. */
+/* Writes the fields of a row, one of them bad where that is wanted; answers the first bad one, from 1 on, or 0. */
 static size_t make_fields(const struct kinds *kinds, FILE *row, tilde_table *table, int bad)
 {
     const size_t chosen = bad ? below(kinds->count) : kinds->count;
