@@ -3,6 +3,7 @@
 #ifndef TOOLS_HINTS_H
 #define TOOLS_HINTS_H
 
+#include "correcting.h"
 #include "hand.h"
 #include "walking.h"
 

@@ -105,9 +105,11 @@ static void print_less(FILE *to, const struct directive *directive, const struct
     directive_name(to, directive);
     if (code == TILDE_NO_ARGUMENT) {
         fputs(" finds no argument here", to);
-    } else if (code == TILDE_WRONG_KIND) {
+    } else if (code == TILDE_WRONG_KIND && directive_v(directive) == MOST_PLACES) {
         fputs(" takes ", to);
         print_kinds(to, rule->kinds);
+    } else if (code == TILDE_WRONG_KIND) {
+        fputs(" meets another kind of argument than it takes, or its v does", to);
     } else {
         fputs(" has a v or # that is outside its place's range", to);
     }
@@ -135,11 +137,9 @@ static int takes_nothing(struct walk *walk, const struct directive *opener)
     walk_past(walk, opener);
     while (walk_find(walk, &directive) && walk->depth > depth) {
         const struct rule *rule = directive_rule(&directive);
-        if (rule == NULL || rule->kinds != 0 || rule->letter == '*' || rule->letter == '{')
+        if (rule == NULL || rule->kinds != 0 || rule->letter == '*' || rule->letter == '{' ||
+            directive_v(&directive) < MOST_PLACES)
             return 0;
-        for (size_t i = 0; i < MOST_PLACES; i++)
-            if (directive.parameters[i].form == FORM_NEXT)
-                return 0;
         walk_past(walk, &directive);
     }
     return 1;

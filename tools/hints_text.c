@@ -14,7 +14,7 @@ static void hint_shape(FILE *to, const struct directive *directive)
         fputs("parameters are written before the modifiers", to);
         break;
     default:
-        fputs("parameters are parted by commas", to);
+        fputs("behind a parameter stands a comma, a modifier or the letter", to);
     }
 }
 
@@ -58,12 +58,13 @@ static void hint_letter(FILE *to, const struct format *format, const struct dire
     }
 }
 
-/* A character of several bytes behind a quote: the first one is taken, and the next one is no directive. */
+/* A character of several bytes in a place: behind a quote its first byte is taken, and the next one is no directive. */
 static int hint_wide(FILE *to, const struct format *format, const struct directive *directive)
 {
-    const size_t at = directive->end - 2;
-    if (directive->code < 0x80 || directive->count == 0 || format->bytes[at - 1] != '\'')
+    const size_t end = directive->end;
+    if (directive->code < 0x80 || directive->count == 0)
         return 0;
+    const size_t at = format->bytes[end - 3] == '\'' ? end - 2 : end - 1;
     const size_t bytes = utf8_length(format->bytes + at, format->length - at);
     const struct shown shown = show_next(format->bytes + at, format->length - at);
     if (bytes > 1)

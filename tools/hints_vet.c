@@ -1,20 +1,11 @@
 #include "hints.h"
-#include "wording.h"
 
 #include <tilde.h>
 
 /* The most clauses whose ends a hint names. */
 #define MOST_CLAUSES ((size_t)5)
 
-static int has_v(const struct directive *directive, size_t *place)
-{
-    for (*place = 0; *place < MOST_PLACES; ++*place)
-        if (directive->parameters[*place].form == FORM_NEXT)
-            return 1;
-    return 0;
-}
-
-/* How many arguments each way through a conditional takes. */
+/* How many arguments each clause takes, and that none may run where no clause is for all other numbers. */
 static void print_ways(FILE *to, struct walk *walk, const struct directive *opener)
 {
     const size_t depth = walk->depth;
@@ -23,19 +14,15 @@ static void print_ways(FILE *to, struct walk *walk, const struct directive *open
     walk_past(walk, opener);
     const size_t begins = walk->taken;
     while (walk_find(walk, &directive) && walk->depth > depth) {
-        const int ends = walk->depth == depth + 1 && (directive.code == ';' || directive.code == ']');
-        if (ends && clauses++ < MOST_CLAUSES) {
-            fputs(clauses > 1 ? ", the " : "the ", to);
-            print_ordinal(to, clauses);
-            fprintf(to, " clause takes %zu", walk->taken - begins);
-        }
+        if (walk->depth == depth + 1 && (directive.code == ';' || directive.code == ']') && clauses++ < MOST_CLAUSES)
+            fprintf(to, "%s%zu", clauses > 1 ? ", " : "", walk->taken - begins);
         last = walk->open[depth].last;
         walk_past(walk, &directive);
     }
     if (clauses > MOST_CLAUSES)
-        fputs(", and so on", to);
+        fputs(", ..", to);
     if (last == 0 && !opener->colon && !opener->at)
-        fputs(", and to run none, as there is no ~:;, takes 0", to);
+        fputs(", and 0 where none runs", to);
 }
 
 static void hint_conditional(FILE *to, const struct format *format, const struct directive *directive,
@@ -49,22 +36,19 @@ static void hint_conditional(FILE *to, const struct format *format, const struct
         hand_show(to, hand, hand->next);
         return;
     }
-    if (directive->at) {
-        fputs("~@[ takes one argument for #f, so its clause has to take one as well: ", to);
-    } else {
-        directive_name(to, directive);
-        fputs(" has to take the same number of arguments whichever way it goes: ", to);
-    }
+    fputs(directive->at ? "#f takes one argument, so its clause has to take one too, and takes "
+                        : "each way has to take the same number of arguments; its clauses take ",
+          to);
     print_ways(to, &walk, directive);
 }
 
 void hint_not_plain(FILE *to, const struct format *format, const struct directive *directive, const struct hand *hand)
 {
     const struct rule *rule = directive_rule(directive);
-    size_t place;
+    const size_t place = directive_v(directive);
     if (rule == NULL)
         return;
-    if (has_v(directive, &place)) {
+    if (place < MOST_PLACES) {
         fprintf(to, "the v of its %s takes a value that a vet does not know; write a %s there",
                 rule->places[place].name, rule->places[place].character ? "character" : "number");
     } else if (rule->letter == '[') {

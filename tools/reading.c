@@ -57,7 +57,7 @@ static struct parameter read_number(struct source *source)
     return number;
 }
 
-/* The parameter that begins here. A quote at the end of the format is left for the end to be met. */
+/* The parameter that begins here. A quote at the end of the format has no byte, so nothing is written there. */
 static struct parameter read_parameter(struct source *source)
 {
     const uint8_t byte = peek(source);
@@ -66,8 +66,10 @@ static struct parameter read_parameter(struct source *source)
     source->next++;
     if (byte != '\'')
         return (struct parameter){.form = byte == '#' ? FORM_REMAINING : FORM_NEXT};
+    if (at_end(source))
+        return (struct parameter){.form = FORM_EMPTY};
     const struct parameter quoted = {.form = FORM_BYTE, .value = peek(source)};
-    source->next += at_end(source) ? 0 : 1;
+    source->next++;
     return quoted;
 }
 
@@ -142,6 +144,14 @@ void directive_name(FILE *to, const struct directive *directive)
 const struct rule *directive_rule(const struct directive *directive)
 {
     return rule_for(directive->code, modifiers_of(directive->colon, directive->at));
+}
+
+size_t directive_v(const struct directive *directive)
+{
+    size_t place = 0;
+    while (place < MOST_PLACES && directive->parameters[place].form != FORM_NEXT)
+        place++;
+    return place;
 }
 
 int takes_argument(const struct directive *directive)

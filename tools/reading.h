@@ -45,6 +45,9 @@ void directive_name(FILE *to, const struct directive *directive);
 /* Its rule; null for an unknown letter, or modifiers that it does not take. */
 const struct rule *directive_rule(const struct directive *directive);
 
+/* The first place with a v; MOST_PLACES where there is none. */
+size_t directive_v(const struct directive *directive);
+
 /* Whether it takes an argument of its own: ~c and ~[ do not where a number says all. */
 int takes_argument(const struct directive *directive);
 

@@ -57,7 +57,7 @@ static unsigned hex_value(char byte)
 /* The byte of two hexadecimal digits; 256 where they do not stand there. */
 static unsigned hex_byte(const struct source *source, size_t at)
 {
-    if (source->length - at < 2 || at > source->length)
+    if (at + 2 > source->length)
         return 256;
     const unsigned high = hex_value(source->text[at]), low = hex_value(source->text[at + 1]);
     return high > 15 || low > 15 ? 256 : 16 * high + low;

@@ -2,7 +2,7 @@
 #ifndef TOOLS_WALKING_H
 #define TOOLS_WALKING_H
 
-#include "correcting.h"
+#include "reading.h"
 
 /* An open block: its opener, how many separators came so far, the byte of a ~:; among them and 1, and how many
    arguments were taken where its clauses begin. */

@@ -207,7 +207,7 @@ static void print_counts(const char *verb, const size_t *counts)
 
 int main(int argc, char **argv)
 {
-    seed = 20240229;
+    seed = argc > 2 ? strtoul(argv[2], NULL, 10) : 20240229;
     const size_t most = argc > 1 ? strtoul(argv[1], NULL, 10) : 100000;
     for (number = 1; number <= most; number++) {
         const size_t what = below(20);

@@ -164,10 +164,10 @@ static void draw_format(struct typed *typed)
     if (below(40) == 0)
         for (size_t i = below(11); i > 0; i--)
             add(typed, below(2) ? "~[" : "~{");
-    if (below(20) == 0)
+    if (below(6) == 0)
         add(typed, ranged[below(COUNT(ranged))]);
     add_sequence(typed, below(6) == 0 ? 9 : 2);
-    if (below(60) == 0)
+    if (below(30) == 0)
         add(typed, endless[below(COUNT(endless))]);
     for (size_t i = below(8) == 0 ? 1 + below(3) : 0; i > 0; i--)
         spoil(typed);
