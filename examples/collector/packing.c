@@ -52,11 +52,10 @@ static void leave_out(struct input *input, const char *why)
     output_go(member->offset);
 }
 
-/* As far as the size and the times tell. */
 static int changed(const struct stat *before, const struct stat *after)
 {
-    return before->st_dev != after->st_dev || before->st_ino != after->st_ino || before->st_size != after->st_size ||
-           before->st_mtim.tv_sec != after->st_mtim.tv_sec || before->st_mtim.tv_nsec != after->st_mtim.tv_nsec;
+    return before->st_size != after->st_size || before->st_mtim.tv_sec != after->st_mtim.tv_sec ||
+           before->st_mtim.tv_nsec != after->st_mtim.tv_nsec;
 }
 
 static void copy(struct input *input, int file, const struct stat *before)
@@ -83,22 +82,23 @@ static void copy(struct input *input, int file, const struct stat *before)
 static void take(struct input *input, const char *name)
 {
     const size_t length = strlen(name);
+    const int file = openat(input->folder, name, O_RDONLY | O_NOFOLLOW | O_NONBLOCK | O_CLOEXEC);
     struct stat before;
-    int file;
     input->members[input->count] = (struct member){
         .name = name, .name_length = (uint32_t)length, .number = input->count + 1, .offset = output_offset()};
-    if (length > LONGEST_NAME) {
-        leave_out(input, "its name is too long");
-    } else if (fstatat(input->folder, name, &before, AT_SYMLINK_NOFOLLOW) != 0) {
+    /* a link answers ELOOP, and a socket ENXIO */
+    if (file < 0 && errno != ELOOP && errno != ENXIO)
         leave_out(input, strerror(errno));
-    } else if (!S_ISREG(before.st_mode)) {
+    else if (file >= 0 && fstat(file, &before) != 0)
+        leave_out(input, strerror(errno));
+    else if (file < 0 || !S_ISREG(before.st_mode))
         leave_out(input, "it is no regular file");
-    } else if ((file = openat(input->folder, name, O_RDONLY | O_NOFOLLOW | O_NONBLOCK | O_CLOEXEC)) < 0) {
-        leave_out(input, strerror(errno));
-    } else {
+    else if (length > LONGEST_NAME)
+        leave_out(input, "its name is too long");
+    else
         copy(input, file, &before);
+    if (file >= 0)
         close(file);
-    }
 }
 
 static void write_members(struct input *input)

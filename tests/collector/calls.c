@@ -48,13 +48,11 @@ typedef int (*orders)(const struct dirent **, const struct dirent **);
 
 WRAP(void *, malloc, (size_t size), (size), NULL)
 WRAP(void *, calloc, (size_t count, size_t size), (count, size), NULL)
-WRAP(void *, realloc, (void *old, size_t size), (old, size), NULL)
 WRAP(char *, strdup, (const char *text), (text), NULL)
 WRAP(int, scandir, (const char *path, struct dirent ***names, chooses choose, orders order),
      (path, names, choose, order), -1)
 WRAP(int, fstat, (int file, struct stat *about), (file, about), -1)
 WRAP(int, lstat, (const char *path, struct stat *about), (path, about), -1)
-WRAP(int, fstatat, (int folder, const char *path, struct stat *about, int flags), (folder, path, about, flags), -1)
 WRAP(FILE *, fdopen, (int file, const char *how), (file, how), NULL)
 WRAP(int, fseeko, (FILE *file, off_t offset, int from), (file, offset, from), -1)
 WRAP(int, ftruncate, (int file, off_t length), (file, length), -1)
@@ -63,6 +61,14 @@ WRAP(int, close, (int file), (file), -1)
 WRAP(int, fflush, (FILE *file), (file), EOF)
 WRAP(int, fclose, (FILE *file), (file), EOF)
 WRAP(int, atexit, (void (*last)(void)), (last), -1)
+
+void *__real_realloc(void *old, size_t size);
+void *__wrap_realloc(void *old, size_t size);
+void *__wrap_realloc(void *old, size_t size)
+{
+    note('m');
+    return due() ? NULL : __real_realloc(old, size);
+}
 
 size_t __real_fwrite(const void *bytes, size_t size, size_t count, FILE *file);
 size_t __wrap_fwrite(const void *bytes, size_t size, size_t count, FILE *file);
@@ -94,13 +100,6 @@ static size_t shortened(size_t length)
     return plan == SHORT && length > 3 ? 3 : length;
 }
 
-ssize_t __real_read(int file, void *into, size_t length);
-ssize_t __wrap_read(int file, void *into, size_t length);
-ssize_t __wrap_read(int file, void *into, size_t length)
-{
-    return due() ? -1 : __real_read(file, into, shortened(length));
-}
-
 ssize_t __real_pread(int file, void *into, size_t length, off_t offset);
 ssize_t __wrap_pread(int file, void *into, size_t length, off_t offset);
 ssize_t __wrap_pread(int file, void *into, size_t length, off_t offset)
@@ -122,6 +121,10 @@ int __wrap_open(const char *path, int flags, ...)
 }
 
 int __real_openat(int folder, const char *path, int flags, ...);
+int __wrap_openat(int folder, const char *path, int flags, ...);
+
+/* The folder and the descriptor of the file of the plan. */
+static int its_folder = -1, its_number = -1;
 
 static void put_in(int folder, const char *path, int flags, const char *text)
 {
@@ -130,36 +133,38 @@ static void put_in(int folder, const char *path, int flags, const char *text)
         abort();
 }
 
-/* What befalls the file of the plan; the descriptor of the one that was opened, or -1. */
-static int befall(int folder, const char *path, int flags)
+int __wrap_openat(int folder, const char *path, int flags, ...)
 {
-    int file;
+    if (plan < GROWN || plan > UNREADABLE || strcmp(path, FILE_IN_PLAN) != 0)
+        return due() ? -1 : __real_openat(folder, path, flags);
     if (plan == UNREADABLE) {
         errno = EACCES;
         return -1;
     }
-    if (plan == GONE)
+    if (plan == GONE || plan == REPLACED)
         unlinkat(folder, path, 0);
-    if (plan == REPLACED) {
-        unlinkat(folder, path, 0);
+    if (plan == REPLACED)
         put_in(folder, path, O_EXCL, "another file");
-    }
-    file = __real_openat(folder, path, flags);
-    if (plan == GROWN)
-        put_in(folder, path, O_APPEND, "more");
-    if (plan == SHRUNK)
-        put_in(folder, path, O_TRUNC, "less");
-    if (plan == TOUCHED)
-        put_in(folder, path, 0, "same");
-    return file;
+    its_folder = folder;
+    its_number = __real_openat(folder, path, flags);
+    return its_number;
 }
 
-int __wrap_openat(int folder, const char *path, int flags, ...);
-int __wrap_openat(int folder, const char *path, int flags, ...)
+ssize_t __real_read(int file, void *into, size_t length);
+ssize_t __wrap_read(int file, void *into, size_t length);
+ssize_t __wrap_read(int file, void *into, size_t length)
 {
-    if (plan >= GROWN && plan <= UNREADABLE && strcmp(path, FILE_IN_PLAN) == 0)
-        return befall(folder, path, flags);
-    return due() ? -1 : __real_openat(folder, path, flags);
+    const ssize_t taken = due() ? -1 : __real_read(file, into, shortened(length));
+    if (file != its_number)
+        return taken;
+    its_number = -1;
+    if (plan == GROWN)
+        put_in(its_folder, FILE_IN_PLAN, O_APPEND, "more");
+    if (plan == SHRUNK)
+        put_in(its_folder, FILE_IN_PLAN, O_TRUNC, "less");
+    if (plan == TOUCHED)
+        put_in(its_folder, FILE_IN_PLAN, 0, "same");
+    return plan == CUT ? 0 : taken;
 }
 
 int __real_fcntl(int file, int command, ...);
@@ -170,8 +175,11 @@ int __wrap_fcntl(int file, int command, ...)
     va_start(rest, command);
     void *const lock = va_arg(rest, void *);
     va_end(rest);
-    if (plan == RACED && __real_rename("new.pack.new", "other.pack") != 0)
-        abort();
+    if (plan == RACED) {
+        if (__real_rename("new.pack.new", "other.pack") != 0)
+            abort();
+        put_in(AT_FDCWD, "new.pack.new", O_EXCL, "");
+    }
     return due() ? -1 : __real_fcntl(file, command, lock);
 }
 

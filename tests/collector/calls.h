@@ -15,10 +15,11 @@ enum plan {
     FAILING,
     /* every read brings three bytes at most */
     SHORT,
-    /* what befalls the file FILE_IN_PLAN when it is opened */
+    /* what befalls the file FILE_IN_PLAN after the first read of it, or before it is opened */
     GROWN,
     SHRUNK,
     TOUCHED,
+    CUT,
     REPLACED,
     GONE,
     UNREADABLE,
@@ -35,7 +36,7 @@ extern enum plan plan;
 extern size_t planned;
 
 /* What the test and its children share: whether a run came to the call that was planned, and what matters for the
-   order: w(rites), s(ync of the file), r(ename), f(older synced). */
+   order: m(emory for a line), w(rites), s(ync of the file), r(ename), f(older synced). */
 struct calls {
     int came;
     char order[16];

@@ -60,6 +60,12 @@ static size_t number_at(const uint8_t *bytes, size_t offset)
            bytes[offset + 3];
 }
 
+static void put(uint8_t *to, size_t number)
+{
+    for (size_t i = 0; i < 4; i++)
+        to[i] = (uint8_t)(number >> (24 - 8 * i) & 0xff);
+}
+
 /* The parts of the whole pack, and entry i of its index. */
 static size_t members, format_at, lines_at, index_at;
 
@@ -132,8 +138,7 @@ static void set_number(uint8_t *bytes, size_t at)
                               200,        201,        0x7fffffff, 0x80000000, 0xfffffffe,
                               0xffffffff, whole.length - 1, whole.length, whole.length + 1};
     for (size_t i = 0; i < sizeof numbers / sizeof numbers[0]; i++) {
-        for (size_t j = 0; j < 4; j++)
-            bytes[at + j] = (uint8_t)(numbers[i] >> (24 - 8 * j) & 0xff);
+        put(bytes + at, numbers[i]);
         expect(judged(bytes, whole.length, at) == (numbers[i] != number_at(whole.at, at)), "another number", at, NULL);
     }
     memcpy(bytes + at, whole.at + at, 4);
@@ -178,6 +183,60 @@ static void swap_members(void)
     swap(one + 24, other + 24, size - 24, 0, 0, "names changed");
 }
 
+/* A pack of two empty members, made as pack.h describes it. Its format has no bytes, so its lines have none either.
+   After the members, the lines and the index may stand as many bytes as are asked for. */
+static void make_pack(const char *one, const char *other, const size_t stray[3], size_t line, int good)
+{
+    uint8_t bytes[1024] = "tildepk1";
+    const size_t lengths[] = {strlen(one), strlen(other)};
+    const size_t format = 24 + stray[0], index = format + line + stray[1], end = index + 48 + lengths[0] + lengths[1];
+    const size_t header[] = {2, format, format, index};
+    for (size_t i = 0; i < 4; i++)
+        put(bytes + 8 + 4 * i, header[i]);
+    for (size_t i = 0; i < 2; i++) {
+        uint8_t *const entry = bytes + index + (i == 0 ? 0 : 24 + lengths[0]);
+        put(entry, i == 0 ? format : format + line);
+        put(entry + 4, i == 0 ? line : 0);
+        put(entry + 8, 24);
+        put(entry + 20, lengths[i]);
+        memcpy(entry + 24, i == 0 ? one : other, lengths[i]);
+    }
+    expect(judged(bytes, end + stray[2], lengths[0]) == !good, good ? "a good pack" : "a bad pack", lengths[0], NULL);
+}
+
+static void make_packs(void)
+{
+    static const size_t none[3] = {0}, strays[3][3] = {{1, 0, 0}, {0, 1, 0}, {0, 0, 1}};
+    char longest[202] = "";
+    make_pack("a", "b", none, 0, 1);
+    make_pack("a", "ab", none, 0, 1);
+    make_pack("\x7f", "\xff", none, 0, 1);
+    make_pack("b", "a", none, 0, 0);
+    make_pack("a", "a", none, 0, 0);
+    make_pack("ab", "a", none, 0, 0);
+    make_pack("", "a", none, 0, 0);
+    make_pack("\xff", "\x7f", none, 0, 0);
+    memset(longest, 'n', 200);
+    make_pack(longest, "z", none, 0, 1);
+    longest[200] = 'n';
+    make_pack(longest, "z", none, 0, 0);
+    /* bytes that belong to no member, and a line that goes on after what the format makes */
+    for (size_t i = 0; i < 3; i++)
+        make_pack("a", "b", strays[i], 0, 0);
+    make_pack("a", "b", none, 1, 0);
+}
+
+/* Parts that begin inside the header, where the room for members would be less than none. */
+static void move_parts(void)
+{
+    uint8_t bytes[24 + 24 + 1] = "tildepk1";
+    const size_t numbers[] = {1, 0, 0, 24, 0, 0, 24, 1000, 0, 1};
+    for (size_t i = 0; i < sizeof numbers / sizeof numbers[0]; i++)
+        put(bytes + 8 + 4 * i, numbers[i]);
+    bytes[48] = 'a';
+    expect(judged(bytes, sizeof bytes, 0) == 1, "parts inside the header", 0, NULL);
+}
+
 static void scatter(void)
 {
     uint64_t seed = 1;
@@ -210,6 +269,8 @@ int main(int argc, char **argv)
     cut();
     set_numbers();
     swap_members();
+    make_packs();
+    move_parts();
     scatter();
     printf("tests/collector/damage.c: %zu checks over a pack of %zu bytes\n", checks, whole.length);
     free(whole.at);

@@ -107,6 +107,17 @@ static void expect_whole(size_t of)
     expect(answer.status == 0, "a whole pack", of, &answer);
 }
 
+/* The room for a line is taken once where the vet counts, and taken again where it cannot and the line is long. */
+static void size_lines(void)
+{
+    char *const plain[] = {"collector", "pack", "~3000a", "files", "long.pack", NULL};
+    char *const other[] = {"collector", "pack", "~3000a~0*", "files", "long.pack", NULL};
+    struct answer answer = run(plain, SHORT, 0);
+    expect(answer.status == 0 && strcmp(calls->order, "mwsrf") == 0, "room that is taken once", 0, &answer);
+    answer = run(other, SHORT, 0);
+    expect(answer.status == 0 && strcmp(calls->order, "mwmwsrf") == 0, "room that grows", 0, &answer);
+}
+
 /* What a killed run leaves stays there for the next one. */
 static void kill_runs(void)
 {
@@ -182,6 +193,17 @@ static void change_file(enum plan its_plan, const char *why)
     expect(answer.status == 0 && stands(new), "the whole folder again", its_plan, &answer);
 }
 
+/* A file that another takes the place of, whole, is packed as the other. */
+static void replace_file(void)
+{
+    struct answer answer = run(pack, REPLACED, 0);
+    expect(answer.status == 0 && !stands(new), "the file that is there now", 0, &answer);
+    expect_whole(0);
+    make_file(5, "files");
+    answer = run(pack, PLAIN, 0);
+    expect(answer.status == 0 && stands(new), "the whole folder again", 0, &answer);
+}
+
 /* A run that is stopped with the new pack open keeps others away; one that is killed does not. */
 static void meet(void)
 {
@@ -200,7 +222,7 @@ static void meet(void)
     write_whole("new.pack", old.at, old.length);
     answer = run(pack, RACED, 0);
     expect(answer.status == 2 && says(&answer, "cannot lock new.pack.new: "), "raced", 0, &answer);
-    expect(stands(old) && unlink("other.pack") == 0, "what another run put in place stays", 0, &answer);
+    expect(stands(old) && unlink("other.pack") == 0, "the old pack, and what the other run put in place", 0, &answer);
 }
 
 static void show_progress(void)
@@ -229,14 +251,16 @@ int main(void)
     run(pack, SHORT, 0);
     expect(stands(new), "short reads", 0, NULL);
     /* all is written before the file is on the disk, then comes the new name, and then the folder */
-    expect(strcmp(calls->order, "wsrf") == 0, "the order", 0, NULL);
+    expect(strcmp(calls->order, "mwsrf") == 0, "the order", 0, NULL);
+    size_lines();
     kill_runs();
     fail_calls();
     limit_size();
     change_file(GROWN, "it changed while it was read");
     change_file(SHRUNK, "it changed while it was read");
     change_file(TOUCHED, "it changed while it was read");
-    change_file(REPLACED, "it changed while it was read");
+    change_file(CUT, "it changed while it was read");
+    replace_file();
     change_file(GONE, "No such file or directory");
     change_file(UNREADABLE, "Permission denied");
     meet();
