@@ -65,7 +65,7 @@ static void print_line(const struct call *call, const struct learned *learned, c
 
 int verb_try(int argc, char **argv, const struct streams *io)
 {
-    uint8_t table[TILDE_HEADER_BYTES + TILDE_ENTRY_BYTES * TILDE_MOST_ENTRIES + TILDE_MOST_POOL];
+    uint8_t table[TILDE_MOST_TABLE];
     int raw = 0;
     const struct option options[] = {{"--raw", &raw, NULL}};
     argc = options_take("try", argc, argv, options, 1, io->err);
