@@ -68,7 +68,7 @@ static void check(const char *path)
     struct pack pack;
     struct line line;
     pack_open(&pack, path);
-    line_begin(&line, (const char *)pack.tail, pack.lines - pack.format);
+    line_begin(&line, "the format of the pack", (const char *)pack.tail, pack.lines - pack.format);
     for (uint32_t i = 0; i < pack.count; i++) {
         progress(i, pack.count);
         pack_next(&pack);

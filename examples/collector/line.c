@@ -56,15 +56,15 @@ static void set_room(struct line *line, size_t room)
 /* The vet's count is enough for every member, so a buffer of that size is made once, and no line is refused. It cannot
    count formats with jumps, iterations, escapes or v: for these the buffer starts small, and line_make enlarges it.
    What is wrong in the text of a format it finds either way. */
-void line_begin(struct line *line, const char *format, size_t format_length)
+void line_begin(struct line *line, const char *name, const char *format, size_t format_length)
 {
     size_t position, count;
     const uint32_t code = tilde_vet((const uint8_t *)format, format_length, kinds, sizeof kinds, LONGEST_NAME,
                                     &position, &count);
     if (code != TILDE_DONE && code != TILDE_NOT_PLAIN)
-        stop(REFUSED, NULL, "the format is refused (%u): %s, at byte %zu; more about it says\n"
+        stop(REFUSED, NULL, "%s is refused (%u): %s, at byte %zu; more about it says\n"
              "  tilde vet FORMAT string integer integer integer integer boolean list --longest %d",
-             (unsigned)code, tilde_words(code), position, LONGEST_NAME);
+             name, (unsigned)code, tilde_words(code), position, LONGEST_NAME);
     *line = (struct line){.format = format, .format_length = format_length};
     /* a byte more, since a room of none may have no address */
     set_room(line, code == TILDE_NOT_PLAIN ? 128 : count + 1);

@@ -67,8 +67,8 @@ struct line {
     uint8_t *bytes;
 };
 
-/* Judges a format before there is a member. */
-void line_begin(struct line *line, const char *format, size_t format_length);
+/* Judges a format, by this name in what is said, before there is a member. */
+void line_begin(struct line *line, const char *name, const char *format, size_t format_length);
 /* Makes the line of a member whose bytes stand in a pack. */
 void line_make(struct line *line, const struct member *member, int pack);
 

@@ -9,6 +9,9 @@
 #include <sys/stat.h>
 #include <unistd.h>
 
+/* so many of the files that are left out are named */
+#define MOST_NAMED 20
+
 /* The folder, the names in it, and the members so far: names that are not left out. */
 struct input {
     const char *path;
@@ -47,8 +50,8 @@ static void find_names(struct input *input)
 static void leave_out(struct input *input, const char *why)
 {
     const struct member *const member = &input->members[input->count];
-    complain(member, "left out: %s", why);
-    input->left_out++;
+    if (++input->left_out <= MOST_NAMED)
+        complain(member, "left out: %s", why);
     output_go(member->offset);
 }
 
@@ -164,7 +167,7 @@ enum status pack_folder(const char *format, const char *folder, const char *path
     struct input input = {.path = folder};
     struct line line;
     uint32_t length;
-    line_begin(&line, format, strlen(format));
+    line_begin(&line, "the format", format, strlen(format));
     find_names(&input);
     output_begin(path, input.folder);
     length = write_pack(&input, &line);
@@ -172,7 +175,7 @@ enum status pack_folder(const char *format, const char *folder, const char *path
     printf("%s: %u member%s, %u bytes", path, (unsigned)input.count, input.count == 1 ? "" : "s", (unsigned)length);
     if (input.left_out > 0)
         printf(", %zu left out", input.left_out);
-    putchar('\n');
+    puts(input.left_out > MOST_NAMED ? ", not all of them named" : "");
     for (size_t i = 0; i < input.names_count; i++)
         free(input.names[i]);
     free(input.names);
