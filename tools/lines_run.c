@@ -19,7 +19,7 @@ struct work {
     uint8_t *lines;
     size_t held, used;
     int unended;
-    uint8_t table[TILDE_HEADER_BYTES + TILDE_ENTRY_BYTES * TILDE_MOST_ENTRIES + TILDE_MOST_POOL];
+    uint8_t table[TILDE_MOST_TABLE];
 };
 
 /* The job goes on, it stops at a refused row, or reading or writing failed, which was told. */

@@ -63,7 +63,7 @@ static int expect_refusal(const struct made *made, size_t length, size_t more, s
    of no bytes would be none. */
 static int make_row(struct made *made, FILE *rows, FILE *out, FILE *err, int bad, int newline)
 {
-    static uint8_t room[TILDE_HEADER_BYTES + TILDE_ENTRY_BYTES * TILDE_MOST_ENTRIES + TILDE_MOST_POOL];
+    static uint8_t room[TILDE_MOST_TABLE];
     const size_t more = bad && once_in(3) ? 1 + below(2) : 0;
     char *bytes;
     size_t length;
