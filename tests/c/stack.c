@@ -1,5 +1,5 @@
-/* How much stack a call takes. No call goes deeper than TILDE_STACK_BYTES, and the deepest of those tried runs on a
-   stack that has no byte more. */
+/* How much stack a call takes. No call goes deeper than TILDE_STACK_BYTES, and the deepest of each that were tried
+   runs on a stack that has no byte more. */
 #define _GNU_SOURCE
 #include "drawing.h"
 #include "painted.h"
@@ -28,8 +28,9 @@ struct call {
     uint8_t format[TILDE_MOST_FORMAT + 1];
 };
 
-static struct call job, deepest;
-static size_t deepest_depth = 0;
+/* of each call the deepest, and how deep it went */
+static struct call job, deepest[3];
+static size_t depths[3];
 static uint8_t buffer[ROOM];
 static struct stack ample;
 
@@ -47,13 +48,13 @@ static void make_the_call(void)
         tilde_format(job.format, job.format_length, job.given, job.given_length, buffer, job.room, &one, &two, &three);
 }
 
-static void show_deepest(FILE *to)
+static void show_deepest(FILE *to, enum which which)
 {
-    fprintf(to, "%s takes %zu bytes of stack, of %d: ", names[deepest.which], deepest_depth,
-            TILDE_STACK_BYTES);
-    for (size_t i = 0; i < deepest.format_length && i < 200; i++)
-        fputc(deepest.format[i] < ' ' ? ' ' : deepest.format[i], to);
-    fputs(deepest.format_length > 200 ? "...\n" : "\n", to);
+    const struct call *call = &deepest[which];
+    fprintf(to, "%s takes %zu bytes of stack, of %d: ", names[which], depths[which], TILDE_STACK_BYTES);
+    for (size_t i = 0; i < call->format_length && i < 200; i++)
+        fputc(call->format[i] < ' ' ? ' ' : call->format[i], to);
+    fputs(call->format_length > 200 ? "...\n" : "\n", to);
 }
 
 static void measure_one(enum which which, const uint8_t *given, size_t given_length, size_t room)
@@ -63,12 +64,12 @@ static void measure_one(enum which which, const uint8_t *given, size_t given_len
     job.given_length = given_length;
     job.room = room;
     size_t taken = depth_on(ample, make_the_call);
-    if (taken > deepest_depth) {
-        deepest_depth = taken;
-        deepest = job;
+    if (taken > depths[which]) {
+        depths[which] = taken;
+        deepest[which] = job;
     }
     if (taken > TILDE_STACK_BYTES)
-        show_deepest(stderr);
+        show_deepest(stderr, which);
     expect(taken <= TILDE_STACK_BYTES, "TILDE_STACK_BYTES is too small", checks);
 }
 
@@ -309,12 +310,11 @@ static void endless_nests(void)
     }
 }
 
-/* The deepest call again, on a stack that ends TILDE_STACK_BYTES below its caller's frame: one byte more stops it. */
-static void on_no_more(void)
+/* The deepest of a call again, on a stack that ends TILDE_STACK_BYTES below its caller's frame: one byte more stops it. */
+static void on_no_more(enum which which, size_t above)
 {
-    size_t above = (size_t)(ample.bottom + ample.size - caller);
     struct stack exact = stack_of(TILDE_STACK_BYTES + above);
-    job = deepest;
+    job = deepest[which];
     run_on(exact, make_the_call);
     expect(caller - exact.bottom == TILDE_STACK_BYTES, "a stack of TILDE_STACK_BYTES", exact.size);
 }
@@ -329,8 +329,12 @@ int main(void)
     vetted_nests();
     long_formats();
     endless_nests();
-    on_no_more();
-    show_deepest(stdout);
+    /* what lies above the caller's frame is the same in each */
+    const size_t above = (size_t)(ample.bottom + ample.size - caller);
+    for (enum which which = FORMAT; which <= RESUME; which++) {
+        on_no_more(which, above);
+        show_deepest(stdout, which);
+    }
     printf("%zu checks\n", checks);
     return 0;
 }
