@@ -40,9 +40,10 @@ int propose(FILE *to, const char *lead, const struct format *format, size_t star
 {
     if (!holds(format, start, end, instead))
         return 0;
+    const int escaped = format_escaped(instead->bytes, instead->length);
     fprintf(to, "%s: ", lead);
     for (size_t i = 0; i < instead->length;) {
-        const struct shown shown = show_next(instead->bytes + i, instead->length - i);
+        const struct shown shown = show_format(instead->bytes + i, instead->length - i, escaped);
         fputs(shown.text, to);
         i += shown.bytes;
     }
@@ -89,26 +90,29 @@ static void fit_number(struct parameter *parameter, const struct place *place)
     parameter->badness = NUMBER_GOOD;
 }
 
-/* What may stand in a place for characters where a number was written: a digit is meant as a byte, and # too. */
+/* What may stand in a place for characters where a number was written: # and 0 are meant as bytes. Any other digit would
+   be read as one of the number that is padded. */
 static struct parameter as_byte(const struct parameter *parameter)
 {
     if (parameter->form == FORM_REMAINING)
         return (struct parameter){.form = FORM_BYTE, .value = '#'};
-    if (parameter->value > 9 || parameter->badness != NUMBER_GOOD)
+    if (parameter->value > 0 || parameter->badness != NUMBER_GOOD)
         return (struct parameter){.form = FORM_EMPTY};
-    return (struct parameter){.form = FORM_BYTE, .value = '0' + parameter->value};
+    return (struct parameter){.form = FORM_BYTE, .value = '0'};
 }
 
-/* What may stand in a place for numbers where a byte was written and no place is for characters: the number of a
-   character, or a digit. */
-static struct parameter as_number(const struct parameter *parameter, const struct rule *rule)
+/* A byte in a place for numbers that stands for a number: of a character, or a digit. 0 is more likely a padchar, where
+   the directive has one. */
+static int as_number(struct parameter *parameter, const struct rule *rule, int padded)
 {
     const unsigned value = parameter->value;
     if (rule->letter == 'c' && value <= rule->places[0].most)
-        return (struct parameter){.form = FORM_NUMBER, .value = value};
-    if (value >= '0' && value <= '9')
-        return (struct parameter){.form = FORM_NUMBER, .value = value - '0'};
-    return (struct parameter){.form = FORM_EMPTY};
+        *parameter = (struct parameter){.form = FORM_NUMBER, .value = value};
+    else if (value >= (padded ? '1' : '0') && value <= '9')
+        *parameter = (struct parameter){.form = FORM_NUMBER, .value = value - '0'};
+    else
+        return 0;
+    return 1;
 }
 
 /* The first place for characters that nothing is written in; MOST_PLACES where there is none. */
@@ -120,28 +124,40 @@ static size_t free_character(const struct directive *directive, const struct rul
     return i < places_of(rule) ? i : MOST_PLACES;
 }
 
+/* A number where a character belongs. Before a place for numbers, as commachar before commawidth, it is one place too
+   early. */
+static void fit_character(struct directive *directive, const struct rule *rule, size_t i)
+{
+    struct parameter *parameter = directive->parameters + i;
+    const int early = i + 1 < places_of(rule) && !rule->places[i + 1].character;
+    if (early && parameter->form == FORM_NUMBER && parameter->value > 0 && parameter[1].form == FORM_EMPTY)
+        parameter[1] = *parameter;
+    if (early && parameter->form == FORM_NUMBER)
+        *parameter = (struct parameter){.form = FORM_EMPTY};
+    else
+        *parameter = as_byte(parameter);
+}
+
 /* Makes the parameter in place i fit. A byte among numbers goes to the place for characters, and a number that stands
    there comes back in exchange. */
 static void fit_place(struct directive *directive, const struct rule *rule, size_t i)
 {
     struct parameter *parameter = directive->parameters + i;
+    size_t to = free_character(directive, rule);
     if (!parameter_misfits(parameter, rule->places + i))
         return;
     if (rule->places[i].character) {
-        *parameter = as_byte(parameter);
+        fit_character(directive, rule, i);
         return;
     }
+    const int exchanged = i + 1 < places_of(rule) && parameter_misfits(parameter + 1, rule->places + i + 1);
+    if (as_number(parameter, rule, exchanged || to < MOST_PLACES))
+        return;
     const struct parameter byte = *parameter;
-    size_t to = free_character(directive, rule);
-    *parameter = (struct parameter){.form = FORM_EMPTY};
-    if (i + 1 < places_of(rule) && parameter_misfits(parameter + 1, rule->places + i + 1)) {
-        to = i + 1;
-        *parameter = directive->parameters[to];
-    }
+    *parameter = exchanged ? parameter[1] : (struct parameter){.form = FORM_EMPTY};
+    to = exchanged ? i + 1 : to;
     if (to < MOST_PLACES)
         directive->parameters[to] = byte;
-    else
-        *parameter = as_number(&byte, rule);
 }
 
 /* The directive with its parameters made to fit the rule. */
@@ -179,6 +195,12 @@ static int propose_with(FILE *to, const struct format *format, const struct dire
 int propose_fitting(FILE *to, const struct format *format, const struct directive *directive)
 {
     const int colon = directive->colon, at = directive->at;
+    /* ~c with a number takes no argument, so what has more places was meant as a width */
+    if (lower(directive->code) == 'c' && directive->count > 1) {
+        struct directive shown = *directive;
+        shown.code = 'a';
+        return directive->slip == SLIP_NONE && propose_with(to, format, &shown, 0, at);
+    }
     /* a jump by a number below 0 is one back */
     if (directive->code == '*' && directive->parameters[0].badness == NUMBER_BELOW && !colon && !at)
         return propose_with(to, format, directive, 1, 0);

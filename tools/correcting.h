@@ -9,7 +9,8 @@
 int propose(FILE *to, const char *lead, const struct format *format, size_t start, size_t end,
             const struct spelling *instead);
 
-/* The same without a lead for a directive, with all its parameters and modifiers made to fit its letter. */
+/* The same without a lead for a directive, with all its parameters and modifiers made to fit its letter, or that of ~a
+   for a ~c with a width. */
 int propose_fitting(FILE *to, const struct format *format, const struct directive *directive);
 
 /* Whether a byte stands where a number belongs, or a number where a byte does. */

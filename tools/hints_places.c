@@ -39,8 +39,9 @@ static void hint_many(FILE *to, const struct directive *directive, const struct 
 {
     const size_t places = places_of(rule);
     directive_name(to, directive);
-    if (places == 0) {
-        fputs(" takes no parameter", to);
+    if (places == 0 || rule->letter == 'c') {
+        fputs(places == 0 ? " takes no parameter" : " has no width, only a charnum; ~a shows a character in a width",
+              to);
         return;
     }
     fputs(" has ", to);
@@ -77,10 +78,15 @@ static void hint_place(FILE *to, const struct directive *directive, const struct
     }
     if (place->character) {
         fputs("a character behind a quote", to);
+        /* where other formatters have a precision */
+        if (i == 1 && parameter->value > 0)
+            fputs("; there is no precision", to);
         return;
     }
     fputs("a number", to);
-    if (character < MOST_PLACES) {
+    if (parameter->value > '0' && parameter->value <= '9') {
+        fputs(", which has no quote", to);
+    } else if (character < MOST_PLACES) {
         fprintf(to, "; its %s is the ", rule->places[character].name);
         print_ordinal(to, character + 1);
     }

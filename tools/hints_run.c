@@ -1,8 +1,24 @@
 #include "hints.h"
 #include "judging.h"
+#include "wording.h"
 
 #include <inttypes.h>
 #include <tilde.h>
+
+/* How many there are, as `is 1`. */
+static void print_are(FILE *to, size_t count)
+{
+    fprintf(to, "%s %zu", count == 1 ? "is" : "are", count);
+}
+
+/* The same the other way round, as `1 is`. */
+static void print_left(FILE *to, size_t count)
+{
+    if (count == 0)
+        fputs("none is", to);
+    else
+        fprintf(to, "%zu %s", count, count == 1 ? "is" : "are");
+}
 
 /* Behind what takes an argument: that it is not there, and how many are. */
 static void print_missing(FILE *to, const struct hand *hand, size_t argument)
@@ -15,7 +31,8 @@ static void print_missing(FILE *to, const struct hand *hand, size_t argument)
     }
     fputs(" takes ", to);
     hand_name(to, hand, argument);
-    fprintf(to, ", and there %s %zu", hand->count == 1 ? "is" : "are", hand->count);
+    fputs(", and there ", to);
+    print_are(to, hand->count);
 }
 
 /* Behind what takes an argument: of which kinds, and which one it met. */
@@ -46,10 +63,19 @@ static void print_jump(FILE *to, const struct directive *directive, const struct
                        const struct finding *finding)
 {
     const struct spelling spelling = directive_spell(directive);
+    const char *thing = hand->first > 0 ? "value" : "argument";
+    const int64_t from = (int64_t)finding->argument, goal = finding->value;
     fprintf(to, "%.*s", (int)spelling.length, (const char *)spelling.bytes);
-    fprintf(to, " would go from %s %zu to %" PRId64 ", counted from 0, and there %s %zu",
-            hand->first > 0 ? "value" : "argument", finding->argument, finding->value, hand->count == 1 ? "is" : "are",
-            hand->count);
+    if (directive->at) {
+        fprintf(to, " goes to %s %" PRId64 ", the first being 0, and there ", thing, goal);
+        print_are(to, hand->count);
+        return;
+    }
+    fputs(directive->colon ? " goes back over " : " skips ", to);
+    print_count(to, (uint64_t)(directive->colon ? from - goal : goal - from), thing);
+    fputs(", and ", to);
+    print_left(to, directive->colon ? finding->argument : hand->count - finding->argument);
+    fputs(directive->colon ? " before it" : " left", to);
 }
 
 /* What is wrong with the v or # of a place. */

@@ -18,6 +18,13 @@ static void hint_shape(FILE *to, const struct directive *directive)
     }
 }
 
+/* Whether the format ends behind a quote, which is not itself a byte behind a quote. */
+static int lacks_byte(const struct format *format, const struct directive *directive)
+{
+    return format->bytes[directive->end - 1] == '\'' && directive->count > 0 && directive->count <= MOST_PLACES &&
+           directive->parameters[directive->count - 1].form == FORM_EMPTY;
+}
+
 /* The format ends inside the directive: a tilde alone may be meant as text, and parameters lack a letter. */
 static void hint_end(FILE *to, const struct format *format, const struct directive *directive)
 {
@@ -29,7 +36,12 @@ static void hint_end(FILE *to, const struct format *format, const struct directi
         propose(to, "", format, directive->start, directive->end, &tilde);
         return;
     }
-    fputs("the format ends before the letter of this directive", to);
+    if (lacks_byte(format, directive)) {
+        fputs("the byte behind the quote is missing", to);
+        made.parameters[made.count - 1] = (struct parameter){.form = FORM_BYTE, .value = '0'};
+    } else {
+        fputs("the format ends before the letter of this directive", to);
+    }
     for (size_t i = 0; letters[i] != '\0'; i++) {
         made.code = letters[i];
         const struct spelling spelling = directive_spell(&made);
@@ -38,7 +50,7 @@ static void hint_end(FILE *to, const struct format *format, const struct directi
     }
 }
 
-/* A letter that no directive has. Of Guile's letters what they are there is told, of any other those that there are. */
+/* A letter that no directive has: what it is in Guile, or what it may be meant as, and those that there are. */
 static void hint_letter(FILE *to, const struct format *format, const struct directive *directive)
 {
     const size_t at = directive->end - 1;
@@ -46,7 +58,8 @@ static void hint_letter(FILE *to, const struct format *format, const struct dire
     const char *instead = guile_only(code);
     const struct shown shown = show_next(format->bytes + at, format->length - at);
     if (instead != NULL) {
-        fprintf(to, "~%c is not supported: in Guile it is %s", code, instead);
+        fprintf(to, "~%c is not supported: in Guile it is %s\n  directives are ", code, instead);
+        print_all_directives(to);
     } else if (code == '\r') {
         fputs("a tilde at the end of a line stands right before the newline, and here a return is between", to);
     } else if (code == '.') {

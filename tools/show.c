@@ -28,12 +28,54 @@ size_t utf8_length(const uint8_t *bytes, size_t length)
     return wanted;
 }
 
+/* The number of the character of UTF-8 that has these bytes. */
+static uint32_t number_of(const uint8_t *bytes, size_t taken)
+{
+    uint32_t number = taken == 1 ? bytes[0] : bytes[0] & (0x7fu >> taken);
+    for (size_t i = 1; i < taken; i++)
+        number = number << 6 | (bytes[i] & 0x3fu);
+    return number;
+}
+
+/* Characters from one to another that have so many columns. */
+struct range {
+    uint32_t first, last;
+    size_t columns;
+};
+
+/* The columns of a character by some ranges; 0 where it is in none of them. */
+static size_t columns_in(const struct range *ranges, size_t count, uint32_t number)
+{
+    for (size_t i = 0; i < count; i++)
+        if (number >= ranges[i].first && number <= ranges[i].last)
+            return ranges[i].columns;
+    return 0;
+}
+
 int is_text(const uint8_t *bytes, size_t taken)
 {
-    if (taken == 1)
-        return (bytes[0] >= 32 && bytes[0] < 127) || bytes[0] == '\n' || bytes[0] == '\t';
-    /* the controls 0x80 to 0x9f */
-    return taken > 1 && !(bytes[0] == 0xc2 && bytes[1] < 0xa0);
+    /* controls, and those of the direction of a text */
+    static const struct range none[] = {{0, 8, 1},          {11, 31, 1},          {127, 0x9f, 1},      {0x61c, 0x61c, 1},
+                                        {0x200e, 0x200f, 1}, {0x202a, 0x202e, 1}, {0x2066, 0x2069, 1}};
+    return taken > 0 && columns_in(none, sizeof none / sizeof none[0], number_of(bytes, taken)) == 0;
+}
+
+/* The columns of a text character that every terminal agrees on; 0 for all others, as combining marks and emoji. */
+static size_t sure_columns(uint32_t number)
+{
+    static const struct range ranges[] = {
+        {32, 126, 1},         {0xa0, 0xac, 1},      {0xae, 0x2ff, 1},     {0x370, 0x482, 1},    {0x48a, 0x52f, 1},
+        {0x1e00, 0x1fff, 1},  {0x2010, 0x2027, 1},  {0x2030, 0x205e, 1},  {0x20a0, 0x20bf, 1},  {0x2190, 0x2193, 1},
+        {0x2200, 0x22ff, 1},  {0x2500, 0x257f, 1},  {0x3001, 0x3029, 2},  {0x3041, 0x3096, 2},  {0x30a1, 0x30fa, 2},
+        {0x4e00, 0x9fff, 2},  {0xac00, 0xd7a3, 2},  {0xff01, 0xff60, 2}};
+    return columns_in(ranges, sizeof ranges / sizeof ranges[0], number);
+}
+
+static struct shown show_escaped(uint8_t byte)
+{
+    struct shown shown = {.bytes = 1, .columns = 4};
+    snprintf(shown.text, sizeof shown.text, "\\x%02x", (unsigned)byte);
+    return shown;
 }
 
 struct shown show_next(const uint8_t *bytes, size_t length)
@@ -48,11 +90,31 @@ struct shown show_next(const uint8_t *bytes, size_t length)
     } else if (is_text(bytes, shown.bytes)) {
         memcpy(shown.text, bytes, shown.bytes);
     } else {
-        snprintf(shown.text, sizeof shown.text, "\\x%02x", (unsigned)bytes[0]);
-        shown.bytes = 1;
-        shown.columns = 4;
+        shown = show_escaped(bytes[0]);
     }
     return shown;
+}
+
+struct shown show_format(const uint8_t *bytes, size_t length, int escaped)
+{
+    static const struct shown backslash = {"\\", 1, 1};
+    struct shown shown = show_next(bytes, length);
+    if (bytes[0] == '\\')
+        return escaped ? shown : backslash;
+    if (shown.columns == 1)
+        shown.columns = sure_columns(number_of(bytes, shown.bytes));
+    return shown.columns == 0 ? show_escaped(bytes[0]) : shown;
+}
+
+int format_escaped(const uint8_t *bytes, size_t length)
+{
+    for (size_t i = 0; i < length;) {
+        const struct shown shown = show_format(bytes + i, length - i, 0);
+        if (shown.text[0] == '\\' && bytes[i] != '\\')
+            return 1;
+        i += shown.bytes;
+    }
+    return 0;
 }
 
 struct shown show_quoted(const uint8_t *bytes, size_t length)

@@ -15,7 +15,8 @@ struct shown {
 /* How many bytes the character of UTF-8 at the start has; 0 where none stands there, or its bytes end too soon. */
 size_t utf8_length(const uint8_t *bytes, size_t length);
 
-/* Whether a terminal shows the first `taken` bytes, one character, as text: no control but newline and tab. */
+/* Whether a terminal shows the first `taken` bytes, one character, as text: no control but newline and tab, and none
+   that changes the direction of what follows. */
 int is_text(const uint8_t *bytes, size_t taken);
 
 /* The first character of at least one byte: as it is, or escaped if it is a control, a backslash or no UTF-8. */
@@ -23,6 +24,13 @@ struct shown show_next(const uint8_t *bytes, size_t length);
 
 /* The same inside a string, where a quote is escaped too. */
 struct shown show_quoted(const uint8_t *bytes, size_t length);
+
+/* Whether a byte of a format is shown by an escape, a backslash aside. Only then is a backslash doubled: else the format
+   is shown as it was typed. */
+int format_escaped(const uint8_t *bytes, size_t length);
+
+/* The first character of a format, where columns are counted: one whose columns are not known for sure is escaped. */
+struct shown show_format(const uint8_t *bytes, size_t length, int escaped);
 
 /* Prints all of the bytes as they stand in a string. */
 void show_bytes(FILE *to, const uint8_t *bytes, size_t length);

@@ -88,6 +88,17 @@ static int ends_value(const struct source *source, size_t at)
     return at >= source->length || is_blank(source->text[at]) || strchr("()\"", source->text[at]) != NULL;
 }
 
+static int complain_parted(struct source *source, size_t at)
+{
+    return complain(source, at, "values of a list are parted by a space", "(1 \"a\" (2))");
+}
+
+/* Whether a byte stands here that parts nothing, though it looks like a space. */
+static int other_blank(const struct source *source, size_t at)
+{
+    return source->text[at] != '\0' && strchr("\n\r\v\f", source->text[at]) != NULL && source->text[0] == '(';
+}
+
 static int complain_digits(struct source *source, size_t from, size_t end)
 {
     size_t at = from + (is_digit(source->text[from]) ? 0 : 1);
@@ -98,6 +109,8 @@ static int complain_digits(struct source *source, size_t from, size_t end)
     if (at == end)
         return complain(source, from, "it does not fit in 64 bits",
                         "whole numbers go from -9223372036854775808 to 9223372036854775807");
+    if (other_blank(source, at))
+        return complain_parted(source, at);
     if (source->text[at] == ',')
         return complain(source, at, "a whole number has no comma", "values of a list are parted by spaces: (1 2)");
     return complain(source, at, "a whole number has only digits", "any other text is a string, in double quotes");
@@ -228,6 +241,8 @@ static int read_scalar(struct source *source, tilde_table *table)
         return read_hash(source, table);
     if (is_digit(first) || first == '-' || first == '+')
         return read_number(source, table);
+    if (other_blank(source, source->at))
+        return complain_parted(source, source->at);
     return complain(source, source->at, first == ')' ? "this bracket closes no list" : "no value begins so",
                     "a string stands in double quotes");
 }
@@ -249,7 +264,7 @@ static int read_item(struct source *source, tilde_table *table, size_t *depth)
         return 0;
     }
     if (*depth > 0 && source->at < source->length && !is_blank(source->text[source->at]) && !ahead(source, ')'))
-        return complain(source, source->at, "values of a list are parted by a space", "(1 \"a\" (2))");
+        return complain_parted(source, source->at);
     return 1;
 }
 
