@@ -24,26 +24,55 @@ static tilde_state state_after(const struct call *call, uint64_t bytes)
     return state;
 }
 
-/* Two bytes of text are put before the directive, and the line is stopped between them: there the state says which
-   arguments are in hand when the directive comes. */
-int hand_find(const struct call *call, uint32_t code, size_t position, struct hand *hand)
+/* Two bytes of text are put into the format, and the line is stopped between them: there the state says which arguments
+   are in hand. The line then has to end as it does without them, with this code and position. */
+static int hand_at(const struct call *call, size_t at, uint32_t code, size_t position, struct hand *hand)
 {
     uint8_t marked[TILDE_MOST_FORMAT];
     struct call marking = *call;
     if (call->format_length + 2 > sizeof marked)
         return 0;
-    memcpy(marked, call->format, position);
-    memset(marked + position, 'x', 2);
-    memcpy(marked + position + 2, call->format + position, call->format_length - position);
+    memcpy(marked, call->format, at);
+    memset(marked + at, 'x', 2);
+    memcpy(marked + at + 2, call->format + at, call->format_length - at);
     marking.format = marked;
     marking.format_length = call->format_length + 2;
     const struct learned learned = line_learn(&marking);
     /* the two bytes are steps as well, so another limit may come first */
-    if (learned.ending.code != code || learned.ending.position != position + 2 || learned.written < 2)
+    if (learned.ending.code != code || learned.ending.position != position || learned.written < 2)
         return 0;
     const tilde_state state = state_after(&marking, learned.written - 1);
     *hand = (struct hand){call->table, NULL, state.first, state.count, state.next};
-    return state.place == position + 1;
+    return state.place == at + 1;
+}
+
+int hand_find(const struct call *call, uint32_t code, size_t position, struct hand *hand)
+{
+    return hand_at(call, position, code, position + 2, hand);
+}
+
+int hand_at_end(const struct call *call, struct hand *hand)
+{
+    return hand_at(call, call->format_length, TILDE_DONE, 0, hand);
+}
+
+/* The list that has an entry behind the arguments among its own; there is one, since values reach a table in lists. */
+static size_t list_around(const uint8_t *table, size_t i)
+{
+    for (size_t list = 0;; list++) {
+        const struct entry entry = entry_at(table, list);
+        if (entry.tag == TILDE_LIST && i >= entry.first && i < entry.first + entry.length)
+            return list;
+    }
+}
+
+size_t hand_field(const struct hand *hand, size_t i)
+{
+    const size_t arguments = arguments_of(hand->table);
+    size_t field = hand->first > 0 ? hand->first : i;
+    while (field >= arguments)
+        field = list_around(hand->table, field);
+    return field;
 }
 
 unsigned hand_kind(const struct hand *hand, size_t i)

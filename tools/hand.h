@@ -16,6 +16,12 @@ struct hand {
 /* Sets the hand at the directive at which a call is refused; answers 0 where it cannot be known. */
 int hand_find(const struct call *call, uint32_t code, size_t position, struct hand *hand);
 
+/* Sets the hand at the end of a line that is done; answers 0 where that cannot be known. */
+int hand_at_end(const struct call *call, struct hand *hand);
+
+/* The argument of the table, from 0, that argument i is, or whose list it is in. */
+size_t hand_field(const struct hand *hand, size_t i);
+
 /* The tilde_tag of argument i, which is there. */
 unsigned hand_kind(const struct hand *hand, size_t i);
 

@@ -14,6 +14,11 @@ uint32_t cause_code(enum cause cause)
     return codes[cause];
 }
 
+int cause_in_argument(enum cause cause)
+{
+    return cause == V_KIND || cause == V_RANGE || cause == OWN_KIND;
+}
+
 static int in_range(const struct place *place, int64_t value)
 {
     return value >= (int64_t)place->least && value <= (int64_t)place->most;

@@ -28,6 +28,9 @@ struct finding {
 
 struct finding directive_judge(const struct directive *directive, const struct rule *rule, const struct hand *hand);
 
+/* Whether the argument that a cause names is there, and is what is wrong. */
+int cause_in_argument(enum cause cause);
+
 /* The code that the library has for a cause; TILDE_DONE for none. */
 uint32_t cause_code(enum cause cause);
 

@@ -36,7 +36,8 @@ const char lines_help[] =
     "  --        ends the options\n"
     "\n"
     "Status: 0 done, 1 refused (the format, or at least one row), 2 wrong usage, or an\n"
-    "input or output that failed.\n";
+    "input or output that failed. A reader of the lines that is gone, as head, is not\n"
+    "told.\n";
 
 /* The longest row has room for all that a table holds, with each byte of a string as an escape of four. */
 static const struct lines_sizes usual = {.longest = 524288, .chunk = 65536, .held = 131072};

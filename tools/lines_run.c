@@ -40,8 +40,9 @@ static enum step write_held(struct work *work)
     return GOES_ON;
 }
 
-/* Refuses the row in hand for a fault, or for how its line ends, or else for its length. */
-static enum step refuse(struct work *work, const struct fault *fault, const struct ending *ending)
+/* Refuses the row in hand for a fault, or for how the line of its call ends, or else for its length. */
+static enum step refuse(struct work *work, const struct fault *fault, const struct call *call,
+                        const struct ending *ending)
 {
     FILE *const err = work->io->err;
     /* the lines before it come before the message */
@@ -50,9 +51,8 @@ static enum step refuse(struct work *work, const struct fault *fault, const stru
     const int told = report_refuse(&work->report);
     if (told && fault != NULL) {
         fault_print(err, fault);
-    } else if (told && ending != NULL) {
-        fputs(": ", err);
-        refusal_print_head(err, ending->code, ending->position);
+    } else if (told && call != NULL) {
+        refusal_print_row(err, call, ending->code, ending->position);
     } else if (told) {
         const uint64_t longest = work->rows.longest;
         print_numbers(err, ": a row has at most ~:d bytes, and this one has more~%", &longest, 1);
@@ -65,7 +65,7 @@ static enum step write_long(struct work *work, const struct call *call)
 {
     const struct learned learned = line_learn(call);
     if (learned.ending.code != TILDE_DONE)
-        return refuse(work, NULL, &learned.ending);
+        return refuse(work, NULL, call, &learned.ending);
     line_write(call, work->io->out);
     if (ferror(work->io->out) || fflush(work->io->out) != 0)
         return fail(work, "write the lines");
@@ -95,7 +95,7 @@ static enum step take_call(struct work *work, const struct call *call)
     if (ending.code == TILDE_NO_ROOM)
         return write_long(work, call);
     if (ending.code != TILDE_DONE)
-        return refuse(work, NULL, &ending);
+        return refuse(work, NULL, call, &ending);
     work->used += written;
     work->unended = written > 0 && work->lines[work->used - 1] != '\n';
     return GOES_ON;
@@ -107,7 +107,7 @@ static enum step take_row(struct work *work, const uint8_t *row, size_t length)
     struct fault fault;
     tilde_table_begin(&table, work->table, sizeof work->table);
     if (!fields_read(&table, &work->job->kinds, row, length, &fault))
-        return refuse(work, &fault, NULL);
+        return refuse(work, &fault, NULL, NULL);
     const size_t table_length = tilde_table_end(&table);
     return take_call(work, &(struct call){work->job->format, work->job->format_length, work->table, table_length});
 }
@@ -134,7 +134,7 @@ static enum step take_rows(struct work *work)
             continue;
         }
         report_row(&work->report);
-        step = row == ROW_READ ? take_row(work, bytes, length) : refuse(work, NULL, NULL);
+        step = row == ROW_READ ? take_row(work, bytes, length) : refuse(work, NULL, NULL, NULL);
     }
     return step;
 }

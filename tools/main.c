@@ -5,7 +5,7 @@
 
 int main(int argc, char **argv)
 {
-    /* a reader that is gone is an error of a write, which is told, and not a signal */
+    /* a reader that is gone is an error of a write, with its status, and not a signal */
     signal(SIGPIPE, SIG_IGN);
     const int status = tilde_command(argc, argv, stdin, stdout, stderr);
     if (fclose(stdout) == 0 || status == STATUS_USAGE)

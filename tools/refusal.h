@@ -7,11 +7,11 @@
 
 #include <stdio.h>
 
-/* Prints the first line of a refusal: code, words and position. */
-void refusal_print_head(FILE *err, uint32_t code, size_t position);
-
 /* Prints the refusal of a call of format, with what was written before it. */
 void refusal_print(FILE *err, const struct call *call, uint32_t code, size_t position);
+
+/* Prints the refusal of a call over the fields of a row as the rest of a line that names the row. */
+void refusal_print_row(FILE *err, const struct call *call, uint32_t code, size_t position);
 
 /* What a vet is asked. */
 struct question {

@@ -69,9 +69,11 @@ int report_refuse(struct report *report)
 
 void report_failure(struct report *report, const char *what)
 {
-    const char *const cause = strerror(errno);
+    const int cause = errno;
     clear_progress(report);
-    fprintf(report->err, "tilde lines: cannot %s: %s; stopped after ", what, cause);
+    if (cause == EPIPE)
+        return;
+    fprintf(report->err, "tilde lines: cannot %s: %s; stopped after ", what, strerror(cause));
     print_numbers(report->err, "~:d row~:p~%", &report->rows, 1);
 }
 

@@ -29,7 +29,7 @@ int report_tells(const struct report *report);
 /* Refuses the row in hand. Answers whether that is told: then its number is printed, and the caller prints why. */
 int report_refuse(struct report *report);
 
-/* Says what cannot be done, and the cause that errno has. */
+/* Says what cannot be done, and the cause that errno has; nothing where that is a reader who has gone. */
 void report_failure(struct report *report, const char *what);
 
 /* Prints the summary where rows were refused; to a person, also that the last line lacks a newline. */

@@ -1,4 +1,5 @@
 #include "options.h"
+#include "rules.h"
 #include "show.h"
 #include "verbs.h"
 
@@ -34,7 +35,8 @@ static void print_overview(FILE *to)
         fprintf(to, "  tilde %-11s %s\n", verbs[i].name, verbs[i].summary);
     fputs("  tilde help VERB   what to type behind a verb\n"
           "  tilde --version   the version\n\n"
-          "Status: 0 done, 1 refused, 2 wrong usage, or an input or output that failed.\n",
+          "Status: 0 done, 1 refused, 2 wrong usage, or an input or output that failed; a\n"
+          "reader of the output that is gone, as head, is not told.\n",
           to);
 }
 
@@ -60,22 +62,42 @@ static size_t distance(const char *one, const char *other)
     return row[length];
 }
 
+/* How far a word is from the name that it may be meant as; the start of a name is near, and so are capitals. */
+static size_t farness(const char *word, const char *name)
+{
+    char small[32];
+    size_t length = 0;
+    for (; word[length] != '\0' && length + 1 < sizeof small; length++)
+        small[length] = (char)lower((uint8_t)word[length]);
+    small[length] = '\0';
+    return length > 2 && strncmp(small, name, length) == 0 ? 0 : distance(small, name);
+}
+
+/* The name of a verb, or an option in its place, that a word is meant as; null where it is far from all of them. */
+static const char *nearest(const char *word)
+{
+    const char *near = "--help";
+    if (farness(word, "--version") < farness(word, near))
+        near = "--version";
+    for (size_t i = 0; i < VERBS; i++)
+        if (farness(word, verbs[i].name) < farness(word, near))
+            near = verbs[i].name;
+    return farness(word, near) <= 2 ? near : NULL;
+}
+
 static int complain_verb(const char *name, FILE *err)
 {
-    size_t nearest = 0;
-    for (size_t i = 1; i < VERBS; i++)
-        if (distance(name, verbs[i].name) < distance(name, verbs[nearest].name))
-            nearest = i;
+    const char *const near = nearest(name);
     fputs("tilde: ", err);
     show_word(err, name, strlen(name));
-    if (name[0] == '-') {
+    if (near != NULL && strchr(name, '~') == NULL) {
+        fprintf(err, " is no %s; did you mean tilde %s?\n", name[0] == '-' ? "option" : "verb", near);
+    } else if (name[0] == '-') {
         fputs(" is no option; there are --help and --version, and those of a verb, which stand behind it\n", err);
     } else if (strchr(name, '~') != NULL) {
         fputs(" is no verb; to see the line of a format type tilde try ", err);
         show_word(err, name, strlen(name));
         fputs(" VALUE..\n", err);
-    } else if (distance(name, verbs[nearest].name) <= 2) {
-        fprintf(err, " is no verb; did you mean tilde %s?\n", verbs[nearest].name);
     } else {
         fputs(" is no verb; there are", err);
         for (size_t i = 0; i < VERBS; i++)
@@ -125,11 +147,16 @@ static int run(int argc, char **argv, const struct streams *io)
 int tilde_command(int argc, char **argv, FILE *in, FILE *out, FILE *err)
 {
     const struct streams io = {in, out, err};
-    const int status = run(argc, argv, &io);
     errno = 0;
-    /* a verb that answers STATUS_USAGE has told why */
-    if ((fflush(out) != 0 || ferror(out)) && status != STATUS_USAGE) {
-        fprintf(err, "tilde: cannot write the output: %s\n", errno != 0 ? strerror(errno) : "a write failed");
+    const int status = run(argc, argv, &io);
+    /* where a write failed on the way, errno is still what it set */
+    int cause = ferror(out) ? errno : 0;
+    const int flushed = fflush(out) == 0;
+    cause = flushed ? cause : errno;
+    /* a verb that answers STATUS_USAGE has told why, and a reader who has gone is told nothing */
+    if ((!flushed || ferror(out)) && status != STATUS_USAGE) {
+        if (cause != EPIPE)
+            fprintf(err, "tilde: cannot write the output: %s\n", cause != 0 ? strerror(cause) : "a write failed");
         return STATUS_USAGE;
     }
     return fflush(err) != 0 || ferror(err) ? STATUS_USAGE : status;

@@ -1,14 +1,18 @@
+#include "entries.h"
+#include "hand.h"
 #include "options.h"
 #include "refusal.h"
 #include "running.h"
 #include "values.h"
 #include "verbs.h"
+#include "walking.h"
+#include "wording.h"
 
 const char try_help[] =
     "usage: tilde try [--raw] FORMAT [VALUE]...\n"
     "\n"
     "Prints the line that a format makes of the values, and a newline where the line\n"
-    "has none at its end; or what is wrong with it. Values are\n"
+    "has none at its end; or, on standard error, what is wrong with it. Values are\n"
     "\n"
     "  850           a whole number of 64 bits\n"
     "  \"wind\"        a string\n"
@@ -25,8 +29,9 @@ const char try_help[] =
     "  tilde try \"~5,'0d\" 42\n"
     "\n"
     "A line with bytes that are no text for a terminal is shown with these escapes,\n"
-    "and a note says so.\n"
-    "  --raw  writes the bytes as they are, and adds no newline\n"
+    "and a note on standard error says so; text is UTF-8, whatever the locale. Another\n"
+    "note says how many values the line did not use.\n"
+    "  --raw  writes the bytes as they are, and adds no newline and no note\n"
     "  --     ends the options; a negative number is a value anyway\n"
     "\n"
     "Status: 0 done, 1 refused, 2 wrong usage, or an output that failed.\n";
@@ -46,21 +51,49 @@ static size_t read_values(int argc, char **argv, uint8_t *room, size_t size, FIL
     return tilde_table_end(&table);
 }
 
+/* Whether a directive looks at arguments without taking them, or goes to others: what is left then may have been used. */
+static int looks_around(const struct directive *directive)
+{
+    for (size_t i = 0; i < directive->count && i < MOST_PLACES; i++)
+        if (directive->parameters[i].form == FORM_REMAINING)
+            return 1;
+    return directive->code == '*' || (directive->code == '[' && directive->at);
+}
+
+/* Says how many values the line did not use, where that is known. */
+static void note_left(const struct call *call, FILE *err)
+{
+    const struct format format = {call->format, call->format_length};
+    struct walk walk = {.format = &format};
+    struct directive directive;
+    struct hand hand;
+    for (; walk_find(&walk, &directive); walk_past(&walk, &directive))
+        if (looks_around(&directive))
+            return;
+    if (arguments_of(call->table) == 0 || !hand_at_end(call, &hand) || hand.next == hand.count)
+        return;
+    fputs("tilde: ", err);
+    print_count(err, hand.count - hand.next, "value");
+    fprintf(err, " %s not used\n", hand.count - hand.next == 1 ? "was" : "were");
+}
+
 static void print_line(const struct call *call, const struct learned *learned, const struct streams *io)
 {
     if (!learned->is_text) {
         line_show(call, io->out);
         fputc('\n', io->out);
-        /* the note comes behind the line; whether it could be written is looked at in the end */
-        fflush(io->out);
+    } else {
+        line_write(call, io->out);
+        if (learned->tail_length == 0 || learned->tail[learned->tail_length - 1] != '\n')
+            fputc('\n', io->out);
+    }
+    /* notes come behind the line; whether it could be written is looked at in the end */
+    fflush(io->out);
+    if (!learned->is_text)
         fputs("tilde: the line has bytes that are no text for a terminal, so it is shown escaped; "
               "--raw writes it as it is\n",
               io->err);
-        return;
-    }
-    line_write(call, io->out);
-    if (learned->tail_length == 0 || learned->tail[learned->tail_length - 1] != '\n')
-        fputc('\n', io->out);
+    note_left(call, io->err);
 }
 
 int verb_try(int argc, char **argv, const struct streams *io)

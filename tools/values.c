@@ -93,12 +93,6 @@ static int complain_parted(struct source *source, size_t at)
     return complain(source, at, "values of a list are parted by a space", "(1 \"a\" (2))");
 }
 
-/* Whether a byte stands here that parts nothing, though it looks like a space. */
-static int other_blank(const struct source *source, size_t at)
-{
-    return source->text[at] != '\0' && strchr("\n\r\v\f", source->text[at]) != NULL && source->text[0] == '(';
-}
-
 static int complain_digits(struct source *source, size_t from, size_t end)
 {
     size_t at = from + (is_digit(source->text[from]) ? 0 : 1);
@@ -109,7 +103,7 @@ static int complain_digits(struct source *source, size_t from, size_t end)
     if (at == end)
         return complain(source, from, "it does not fit in 64 bits",
                         "whole numbers go from -9223372036854775808 to 9223372036854775807");
-    if (other_blank(source, at))
+    if (source->text[0] == '(' && strchr("\n\r\v\f", source->text[at]) != NULL)
         return complain_parted(source, at);
     if (source->text[at] == ',')
         return complain(source, at, "a whole number has no comma", "values of a list are parted by spaces: (1 2)");
@@ -241,8 +235,6 @@ static int read_scalar(struct source *source, tilde_table *table)
         return read_hash(source, table);
     if (is_digit(first) || first == '-' || first == '+')
         return read_number(source, table);
-    if (other_blank(source, source->at))
-        return complain_parted(source, source->at);
     return complain(source, source->at, first == ')' ? "this bracket closes no list" : "no value begins so",
                     "a string stands in double quotes");
 }

@@ -6,7 +6,7 @@
 
 #define JOBS 1200
 
-static size_t runs, faults, counts, longs, refusals[TILDE_NO_ROOM];
+static size_t runs, faults, counts, longs, named, refusals[TILDE_NO_ROOM];
 
 /* A check of the job in hand, which is shown with what was told where it does not hold. */
 static void check(int holds, const char *what, const struct made *made, const char *told)
@@ -38,7 +38,11 @@ static int expect_line(const struct made *made, const uint8_t *table, size_t tab
         fwrite(line, 1, written, out);
         return 1;
     }
-    fprintf(err, "row %zu: refused (%u): %s, at byte %zu\n", made->all, (unsigned)code, tilde_words(code), position);
+    fprintf(err, "row %zu%c: refused (%u): %s, at byte %zu", made->all, ANY_FIELD, (unsigned)code, tilde_words(code),
+            position);
+    if (code > TILDE_BAD_PARAMETER)
+        fprintf(err, ": %c", ANY_REST);
+    fputc('\n', err);
     return 0;
 }
 
@@ -141,10 +145,26 @@ static FILE *rows_open(const struct made *made)
     return in;
 }
 
+/* The length of the field that is named here, which is one of the job; 0 where none is, or it is not. */
+static size_t field_told(const struct made *made, const char *told)
+{
+    char name[64];
+    const size_t field = strncmp(told, ", field ", 8) == 0 ? strtoul(told + 8, NULL, 10) : 0;
+    if (field == 0 || field > made->job.kinds.count)
+        return 0;
+    snprintf(name, sizeof name, ", field %zu (%s)", field, kind_words[made->job.kinds.tags[field - 1]]);
+    named += strncmp(told, name, strlen(name)) == 0 ? 1 : 0;
+    return strncmp(told, name, strlen(name)) == 0 ? strlen(name) : 0;
+}
+
 /* Whether what was told is as expected, and shows no control. */
-static int as_expected(const char *expected, const char *told)
+static int as_expected(const struct made *made, const char *expected, const char *told)
 {
     for (; *expected != '\0'; expected++, told++) {
+        if (*expected == ANY_FIELD) {
+            told += field_told(made, told);
+            expected++;
+        }
         if (*expected == ANY_REST) {
             while ((unsigned char)*told >= 32)
                 told++;
@@ -166,7 +186,7 @@ static void run(const struct made *made, size_t chunk, size_t held)
     if (fclose(io.in) != 0 || fclose(io.out) != 0 || fclose(io.err) != 0)
         exit(2);
     check(out_length == made->out_length && memcmp(out, made->out, out_length) == 0, "other lines", made, err);
-    check(as_expected(made->err, err), "other messages", made, err);
+    check(as_expected(made, made->err, err), "other messages", made, err);
     check(status == made->status, "another status", made, err);
     free(out);
     free(err);
@@ -223,6 +243,6 @@ int main(void)
            JOBS, runs, rows, lines, faults, counts, longs);
     for (uint32_t code = TILDE_LONG_FORMAT; code < TILDE_NO_ROOM; code++)
         printf(", %zu refused (%u)", refusals[code], (unsigned)code);
-    printf("; %zu checks\n", checks);
+    printf("; %zu fields of these named; %zu checks\n", named, checks);
     return 0;
 }

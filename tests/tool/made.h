@@ -13,6 +13,8 @@
 
 /* In what is expected on standard error: the rest of the line may be any text. */
 #define ANY_REST '\1'
+/* A field may be named here by its number and kind. */
+#define ANY_FIELD '\2'
 #define LONGEST_LINE ((size_t)4 << 20)
 
 static int once_in(size_t times)

@@ -18,7 +18,7 @@ struct ran {
 static struct typed words[MOST_WORDS];
 static uint8_t room[TILDE_MOST_TABLE];
 static uint8_t buffer[ROOM];
-static size_t met[CODES], vets[CODES], usages, helps;
+static size_t met[CODES], vets[CODES], usages, helps, notes;
 
 /* The command of the first words; `tilde` itself goes before them. */
 static struct ran run(size_t count)
@@ -77,15 +77,40 @@ static void expect_line(struct ran *ran, int raw, size_t written)
 {
     expect(ran->status == 0, "status 0", number);
     if (!raw) {
-        const int added = ran->err_length > 0 || written == 0 || buffer[written - 1] != '\n';
+        const int escaped = strstr(ran->err, "shown escaped") != NULL;
+        const int added = escaped || written == 0 || buffer[written - 1] != '\n';
         expect(ran->out_length > 0 && ran->out[ran->out_length - 1] == '\n', "a newline at the end", number);
         ran->out_length -= added ? 1 : 0;
-        if (ran->err_length > 0)
+        if (escaped)
             ran->out_length = unescape(ran->out, ran->out_length);
     } else {
         expect(ran->err_length == 0, "no note", number);
     }
     expect(ran->out_length == written && memcmp(ran->out, buffer, written) == 0, "the line of the library", number);
+}
+
+/* Without the values that a note says were not used the line is the same, unless ~^ or ~@{ asks whether there are any;
+   without a note the last one was needed. */
+static void expect_note(const char *err, const struct typed *format, const struct typed *values, size_t count,
+                        size_t written)
+{
+    static uint8_t fewer[TILDE_MOST_TABLE], line[ROOM];
+    const char *note = strstr(err, " not used\n");
+    const size_t left = note == NULL ? 0 : strtoul(strstr(err, "tilde: ") + 7, NULL, 10);
+    const int known = strpbrk(format->bytes, left > 0 ? "^" : "*#@^") == NULL && strstr(format->bytes, "@{") == NULL;
+    size_t position, steps, now;
+    expect((note == NULL) == (left == 0) && left <= count, "a number of values that are there", number);
+    if (!known || count == 0 || format->length + 2 > TILDE_MOST_FORMAT)
+        return;
+    const size_t kept = count - (left > 0 ? left : 1);
+    const size_t length = table_with(values, kept, TILDE_MOST_ENTRIES, "", fewer, sizeof fewer);
+    const uint32_t code = tilde_format((const uint8_t *)format->bytes, format->length, fewer, length, line, ROOM,
+                                       &position, &steps, &now);
+    if (left > 0)
+        expect(code == TILDE_DONE && now == written && memcmp(line, buffer, now) == 0, "values not used", number);
+    else
+        expect(code != TILDE_DONE, "a note of values not used", number);
+    notes += left > 0 ? 1 : 0;
 }
 
 static void expect_refused(const struct ran *ran, const struct typed *format, uint32_t code, size_t position)
@@ -120,7 +145,10 @@ static void try_once(void)
     struct ran ran = run(count);
     if (code == TILDE_DONE)
         expect_line(&ran, raw, written);
-    else if (code != TILDE_NO_ROOM)
+    if (code == TILDE_DONE && !raw)
+        expect_note(strstr(ran.err, "as it is\n") != NULL ? strstr(ran.err, "as it is\n") : ran.err, format, format + 1,
+                    (size_t)(words + count - format) - 1, written);
+    if (code != TILDE_DONE && code != TILDE_NO_ROOM)
         expect_refused(&ran, format, code, position);
     if (code > TILDE_BAD_PARAMETER && code < TILDE_NO_ROOM)
         expect_written(ran.err, written);
@@ -224,7 +252,7 @@ int main(int argc, char **argv)
     print_counts("vet", vets);
     printf("tests/tool/random.c: %zu command lines, %zu checks; %zu wrong usages, %zu helps; %zu proposals, of which "
            "%zu make "
-           "the whole format right; %zu arguments named\n",
-           most, checks, usages, helps, proposals, repaired, named);
+           "the whole format right; %zu arguments named; %zu notes of values not used\n",
+           most, checks, usages, helps, proposals, repaired, named, notes);
     return 0;
 }

@@ -25,7 +25,7 @@ static const char *line_at(const char *text, size_t i)
 static int is_simple(const struct typed *word)
 {
     for (size_t i = 0; i < word->length; i++)
-        if (word->bytes[i] < 32 || word->bytes[i] == 127 || word->bytes[i] == '\\')
+        if (word->bytes[i] < 32 || word->bytes[i] == 127)
             return 0;
     return word->length <= 72;
 }
@@ -48,15 +48,13 @@ static uint32_t fault_with(const struct typed *format, size_t from, size_t taken
    none before them that is not there without them. */
 static void expect_repaired(const struct typed *format, size_t position, size_t marked, const char *hint)
 {
-    const size_t length = strcspn(hint, "\n");
     const char *proposal = NULL;
     size_t place, without;
-    for (size_t i = 0; i + 3 < length; i++)
-        if (memcmp(hint + i, ": ~", 3) == 0)
-            proposal = hint + i + 2;
+    for (const char *found = strstr(hint, ": ~"); found != NULL; found = strstr(found + 1, ": ~"))
+        proposal = found + 2;
     if (proposal == NULL)
         return;
-    const size_t size = (size_t)(hint + length - proposal);
+    const size_t size = strcspn(proposal, "\n");
     const uint32_t code = fault_with(format, position, marked, proposal, size, &place);
     const uint32_t left = fault_with(format, position, marked, "", 0, &without);
     expect(code == TILDE_DONE || place >= position + size || (place < position && code == left && place == without),
@@ -88,8 +86,10 @@ static void expect_refusal(const char *err, const struct typed *format, uint32_t
 
 static void expect_written(const char *err, uint64_t written)
 {
-    const char *line = line_at(err, 3);
+    const char *line = strstr(err, written > 0 ? "\n  before it " : "\n  nothing was written");
     unsigned long long told = 0;
+    expect(line != NULL, "a line of what was written before", number);
+    line++;
     for (const char *digit = line + strlen("  before it "); written > 0 && *digit != ' '; digit++)
         told = *digit == ',' ? told : 10 * told + (unsigned long long)(*digit - '0');
     expect(written > 0 ? told == written : strcmp(line, "  nothing was written before it\n") == 0,
