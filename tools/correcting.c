@@ -90,8 +90,8 @@ static void fit_number(struct parameter *parameter, const struct place *place)
     parameter->badness = NUMBER_GOOD;
 }
 
-/* What may stand in a place for characters where a number was written: # and 0 are meant as bytes. Any other digit would
-   be read as one of the number that is padded. */
+/* What may stand in a place for characters where a number was written: # and 0 are meant as bytes. Any other digit
+   would be read as one of the number that is padded. */
 static struct parameter as_byte(const struct parameter *parameter)
 {
     if (parameter->form == FORM_REMAINING)

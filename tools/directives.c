@@ -52,12 +52,11 @@ static int complain(const char *word, FILE *err)
     fputs("tilde directives: ", err);
     show_word(err, word, strlen(word));
     if (instead != NULL)
-        fprintf(err, " is not supported: in Guile it is %s\n", instead);
-    else {
+        fprintf(err, " is not supported: in Guile it is %s\n  directives are ", instead);
+    else
         fputs(" is no directive; there are ", err);
-        print_all_directives(err);
-        fputc('\n', err);
-    }
+    print_all_directives(err);
+    fputc('\n', err);
     return STATUS_USAGE;
 }
 

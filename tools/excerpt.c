@@ -6,8 +6,8 @@
 #define MOST_COLUMNS ((size_t)72)
 #define COLUMNS_BEFORE ((size_t)30)
 
-/* Where the place stands, in columns from the start of the format, and how many columns it has; and whether bytes of the
-   format are escaped. */
+/* Where the place stands, in columns from the start of the format, and how many columns it has; and whether bytes of
+   the format are escaped. */
 struct columns {
     size_t before, under, all;
     int escaped;

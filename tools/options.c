@@ -30,8 +30,7 @@ static int complain_unknown(const char *verb, const char *word, const struct opt
 {
     fprintf(err, "tilde %s: ", verb);
     show_word(err, word, strlen(word));
-    fputs(count == 0 ? " is no option; there is none" : count == 1 ? " is no option; there is " : " is no option; there are ",
-          err);
+    fprintf(err, " is no option; there %s", count == 0 ? "is none" : count == 1 ? "is " : "are ");
     for (size_t i = 0; i < count; i++)
         fprintf(err, "%s%s", i == 0 ? "" : i + 1 < count ? ", " : " and ", options[i].name);
     fprintf(err, ".\n  What begins with a dash and is no option comes after --: tilde %s -- ", verb);

@@ -37,38 +37,39 @@ static uint32_t number_of(const uint8_t *bytes, size_t taken)
     return number;
 }
 
-/* Characters from one to another that have so many columns. */
+/* Characters from one to another, and the columns of each where these matter. */
 struct range {
     uint32_t first, last;
     size_t columns;
 };
 
-/* The columns of a character by some ranges; 0 where it is in none of them. */
-static size_t columns_in(const struct range *ranges, size_t count, uint32_t number)
+/* The range that a character is in; null where it is in none of them. */
+static const struct range *range_of(const struct range *ranges, size_t count, uint32_t number)
 {
     for (size_t i = 0; i < count; i++)
         if (number >= ranges[i].first && number <= ranges[i].last)
-            return ranges[i].columns;
-    return 0;
+            return ranges + i;
+    return NULL;
 }
 
 int is_text(const uint8_t *bytes, size_t taken)
 {
-    /* controls, and those of the direction of a text */
-    static const struct range none[] = {{0, 8, 1},          {11, 31, 1},          {127, 0x9f, 1},      {0x61c, 0x61c, 1},
-                                        {0x200e, 0x200f, 1}, {0x202a, 0x202e, 1}, {0x2066, 0x2069, 1}};
-    return taken > 0 && columns_in(none, sizeof none / sizeof none[0], number_of(bytes, taken)) == 0;
+    static const struct range controls[] = {
+        {0, 8, 0},           {11, 31, 0},         {127, 0x9f, 0},     {0x61c, 0x61c, 0},
+        {0x200e, 0x200f, 0}, {0x202a, 0x202e, 0}, {0x2066, 0x2069, 0}};
+    return taken > 0 && range_of(controls, sizeof controls / sizeof controls[0], number_of(bytes, taken)) == NULL;
 }
 
-/* The columns of a text character that every terminal agrees on; 0 for all others, as combining marks and emoji. */
+/* The columns of a text character that terminals agree on; 0 for all others, as combining marks and emoji. */
 static size_t sure_columns(uint32_t number)
 {
-    static const struct range ranges[] = {
-        {32, 126, 1},         {0xa0, 0xac, 1},      {0xae, 0x2ff, 1},     {0x370, 0x482, 1},    {0x48a, 0x52f, 1},
-        {0x1e00, 0x1fff, 1},  {0x2010, 0x2027, 1},  {0x2030, 0x205e, 1},  {0x20a0, 0x20bf, 1},  {0x2190, 0x2193, 1},
-        {0x2200, 0x22ff, 1},  {0x2500, 0x257f, 1},  {0x3001, 0x3029, 2},  {0x3041, 0x3096, 2},  {0x30a1, 0x30fa, 2},
-        {0x4e00, 0x9fff, 2},  {0xac00, 0xd7a3, 2},  {0xff01, 0xff60, 2}};
-    return columns_in(ranges, sizeof ranges / sizeof ranges[0], number);
+    static const struct range known[] = {
+        {32, 126, 1},        {0xa0, 0xac, 1},     {0xae, 0x2ff, 1},    {0x370, 0x482, 1},   {0x48a, 0x52f, 1},
+        {0x1e00, 0x1fff, 1}, {0x2010, 0x2027, 1}, {0x2030, 0x205e, 1}, {0x20a0, 0x20bf, 1}, {0x2190, 0x2193, 1},
+        {0x2200, 0x22ff, 1}, {0x2500, 0x257f, 1}, {0x3001, 0x3029, 2}, {0x3041, 0x3096, 2}, {0x30a1, 0x30fa, 2},
+        {0x4e00, 0x9fff, 2}, {0xac00, 0xd7a3, 2}, {0xff01, 0xff60, 2}};
+    const struct range *range = range_of(known, sizeof known / sizeof known[0], number);
+    return range == NULL ? 0 : range->columns;
 }
 
 static struct shown show_escaped(uint8_t byte)

@@ -25,8 +25,8 @@ struct shown show_next(const uint8_t *bytes, size_t length);
 /* The same inside a string, where a quote is escaped too. */
 struct shown show_quoted(const uint8_t *bytes, size_t length);
 
-/* Whether a byte of a format is shown by an escape, a backslash aside. Only then is a backslash doubled: else the format
-   is shown as it was typed. */
+/* Whether a byte of a format is shown by an escape, a backslash aside. Only then is a backslash doubled: else the
+   format is shown as it was typed. */
 int format_escaped(const uint8_t *bytes, size_t length);
 
 /* The first character of a format, where columns are counted: one whose columns are not known for sure is escaped. */

@@ -51,7 +51,7 @@ static size_t read_values(int argc, char **argv, uint8_t *room, size_t size, FIL
     return tilde_table_end(&table);
 }
 
-/* Whether a directive looks at arguments without taking them, or goes to others: what is left then may have been used. */
+/* Whether a directive looks at arguments without taking them, or goes to others: what is left may have been used. */
 static int looks_around(const struct directive *directive)
 {
     for (size_t i = 0; i < directive->count && i < MOST_PLACES; i++)
