@@ -34,8 +34,8 @@ static const char help[] =
     "\n"
     "A file is left out if it cannot be read, is no regular file, changes while it is\n"
     "read, or has a longer name. PACK is replaced when the new one is whole and on the\n"
-    "disk; until then that is PACK.new. A run that is killed leaves it, and the next\n"
-    "one uses it again.\n"
+    "disk, and the new one has its mode; until then that is PACK.new, which its owner\n"
+    "alone can read. A run that is killed leaves it, and the next one uses it again.\n"
     "\n"
     "Status: 0 done; 1 refused, as a format or a damaged pack, or files were left out;\n"
     "2 wrong usage, or something cannot be read or written.\n";

@@ -53,21 +53,40 @@ static void set_room(struct line *line, size_t room)
     line->room = room;
 }
 
-/* The vet's count is enough for every member, so a buffer of that size is made once, and no line is refused. It cannot
-   count formats with jumps, iterations, escapes or v: for these the buffer starts small, and line_make enlarges it.
-   What is wrong in the text of a format it finds either way. */
+/* Whether there is a ~], which ends a conditional and no other block. After ~~ it is none, and then a format that could
+   be refused at once is refused with the line of its first member. */
+static int has_conditional(const char *format, size_t length)
+{
+    for (size_t i = 1; i < length; i++)
+        if (format[i - 1] == '~' && format[i] == ']')
+            return 1;
+    return 0;
+}
+
+/* Whether a vet's code says that no member can have a line. Codes 6 to 8 do not where there is a conditional: the vet
+   judges every clause, and the one that fails may never be picked. */
+static int refuses_all(uint32_t code, const char *format, size_t length)
+{
+    if (code >= TILDE_NO_ARGUMENT && code <= TILDE_OUT_OF_RANGE)
+        return !has_conditional(format, length);
+    return code != TILDE_DONE && code != TILDE_NOT_PLAIN;
+}
+
+/* The vet's count is enough for every member, so a buffer of that size is made once, and no line is refused. Where it
+   cannot count, as with jumps, iterations, escapes or v, the buffer starts small, and line_make enlarges it. What is
+   wrong in the text of a format it finds either way. */
 void line_begin(struct line *line, const char *name, const char *format, size_t format_length)
 {
     size_t position, count;
     const uint32_t code = tilde_vet((const uint8_t *)format, format_length, kinds, sizeof kinds, LONGEST_NAME,
                                     &position, &count);
-    if (code != TILDE_DONE && code != TILDE_NOT_PLAIN)
-        stop(REFUSED, NULL, "%s is refused (%u): %s, at byte %zu; more about it says\n"
+    if (refuses_all(code, format, format_length))
+        stop(REFUSED, NULL, "%s is refused (%u): %s, at byte %zu; for more, type\n"
              "  tilde vet FORMAT string integer integer integer integer boolean list --longest %d",
              name, (unsigned)code, tilde_words(code), position, LONGEST_NAME);
     *line = (struct line){.format = format, .format_length = format_length};
     /* a byte more, since a room of none may have no address */
-    set_room(line, code == TILDE_NOT_PLAIN ? 128 : count + 1);
+    set_room(line, code == TILDE_DONE ? count + 1 : 128);
 }
 
 void line_make(struct line *line, const struct member *member, int pack)

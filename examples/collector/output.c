@@ -9,10 +9,13 @@
 #include <sys/stat.h>
 #include <unistd.h>
 
-/* The path of the pack and its folder, the new file, and whether that one has to be removed. */
+/* The path of the pack and its folder, whether a pack stands there, the mode of the new one, its file, and whether that
+   has to be removed. */
 static struct {
     const char *path;
     int folder;
+    int replaces;
+    mode_t mode;
     char *new_path;
     FILE *file;
     uint32_t offset;
@@ -25,7 +28,10 @@ static void remove_unfinished(void)
         return;
     if (unlink(out.new_path) != 0)
         complain(NULL, "cannot remove %s: %s", out.new_path, strerror(errno));
-    complain(NULL, "%s is as it was", out.path);
+    if (out.replaces)
+        complain(NULL, "%s is as it was", out.path);
+    else
+        complain(NULL, "no pack was written");
 }
 
 static void name_new(void)
@@ -43,14 +49,15 @@ static void name_new(void)
 
 /* All runs use one name for the new file, so that what a killed one left is written over and nothing piles up. A lock,
    which goes when its process does, keeps two runs from writing there at a time; a file that another run has put in
-   place between open and lock is not this run's to write on. */
+   place between open and lock is not this run's to write on. Until it is whole only its owner can read it, since its
+   mode may be as narrow as that. */
 static void open_new(void)
 {
     struct flock all = {.l_type = F_WRLCK, .l_whence = SEEK_SET};
     struct stat opened, named;
     int file = -1;
     if (atexit(remove_unfinished) == 0)
-        file = open(out.new_path, O_RDWR | O_CREAT | O_NOFOLLOW | O_CLOEXEC, 0666);
+        file = open(out.new_path, O_RDWR | O_CREAT | O_NOFOLLOW | O_CLOEXEC, 0600);
     if (file < 0)
         cannot("write", out.new_path);
     if (fcntl(file, F_SETLK, &all) != 0 || fstat(file, &opened) != 0 || lstat(out.new_path, &named) != 0 ||
@@ -62,9 +69,23 @@ static void open_new(void)
         cannot("write", out.new_path);
 }
 
+/* The new pack has the mode of the old one or, where there is none, that of any new file. */
+static void find_old(void)
+{
+    struct stat old;
+    out.replaces = lstat(out.path, &old) == 0;
+    if (!out.replaces && errno != ENOENT)
+        cannot("replace", out.path);
+    if (out.replaces && !S_ISREG(old.st_mode))
+        stop(FAILED, NULL, "%s is there and no regular file: name another pack", out.path);
+    const mode_t mask = umask(0);
+    umask(mask);
+    out.mode = out.replaces ? old.st_mode & 07777 : 0666 & ~mask;
+}
+
 void output_begin(const char *path, int source)
 {
-    struct stat to, from, old;
+    struct stat to, from;
     if (path[0] == '\0')
         stop(FAILED, NULL, "the pack has no name: type one");
     out.path = path;
@@ -74,8 +95,7 @@ void output_begin(const char *path, int source)
     /* the pack would be a member of the next one */
     if (to.st_dev == from.st_dev && to.st_ino == from.st_ino)
         stop(FAILED, NULL, "%s would lie in the folder that is packed: name a pack in another", path);
-    if (lstat(path, &old) == 0 && !S_ISREG(old.st_mode))
-        stop(FAILED, NULL, "%s is there and no regular file: name another pack", path);
+    find_old();
     open_new();
 }
 
@@ -117,7 +137,7 @@ int output_flush(void)
 void output_end(uint32_t end)
 {
     const int file = output_flush();
-    if (ftruncate(file, (off_t)end) != 0 || fsync(file) != 0)
+    if (ftruncate(file, (off_t)end) != 0 || fchmod(file, out.mode) != 0 || fsync(file) != 0)
         cannot("write", out.new_path);
     if (rename(out.new_path, out.path) != 0)
         cannot("replace", out.path);

@@ -208,11 +208,13 @@ static void replace_file(void)
 static void meet(void)
 {
     struct answer answer;
+    struct stat unfinished;
     write_whole("new.pack", old.at, old.length);
     const struct child first = start(pack, STOPPED, 60);
     int status;
     expect(waitpid(first.number, &status, WUNTRACED) == first.number && WIFSTOPPED(status), "stopped", 0, NULL);
-    expect(access("new.pack.new", F_OK) == 0, "stopped while it writes", 0, NULL);
+    expect(stat("new.pack.new", &unfinished) == 0, "stopped while it writes", 0, NULL);
+    expect((unfinished.st_mode & 0777) == 0600, "its owner's alone until it is whole", 0, NULL);
     answer = run(pack, PLAIN, 0);
     expect(answer.status == 2 && says(&answer, "cannot lock new.pack.new: "), "one at a time", 0, &answer);
     expect(stands(old), "the old pack", 0, &answer);
