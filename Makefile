@@ -31,7 +31,8 @@ INCLUDEDIR ?= $(PREFIX)/include
 DATADIR ?= $(PREFIX)/share
 MANDIR ?= $(DATADIR)/man
 
-VERSION := $(shell sed -n 's/^.define TILDE_VERSION "\(.*\)"$$/\1/p' include/tilde.h)
+# The header alone says it; the name of the shared library follows.
+override VERSION := $(shell sed -n 's/^.define TILDE_VERSION "\(.*\)"$$/\1/p' include/tilde.h)
 SONAME := libtilde.so.$(firstword $(subst ., ,$(VERSION)))
 SHARED := libtilde.so.$(VERSION)
 # When the manual was last changed.
@@ -97,7 +98,8 @@ build/tools/exports.o: private PLACED := -fPIC
 $(TOOLS): build/tools/%.o: tools/%.c Makefile | build/tools
 	$(CC) -std=c11 -Wall -Wextra -Iinclude $(CPPFLAGS) $(CFLAGS) $(PLACED) -MMD -MP -c -o $@ $<
 -include $(TOOLS:.o=.d)
-build/proved build/tools build/man:
+# What rt has to make comes first, so that without rt nothing is built.
+build/proved build/tools build/man: | target/bin/jobs
 	mkdir -p $@
 
 build/libtilde.a: $(PROVED) build/tools/exports.o
@@ -143,7 +145,6 @@ put = install -d "$(DESTDIR)$2" && install -m $1 $3 "$(DESTDIR)$2"
 take = rm -f $(foreach file,$2,"$(DESTDIR)$1/$(notdir $(file))")
 section = $(filter %.$1,$(MANUAL))
 PC = "$(DESTDIR)$(LIBDIR)/pkgconfig/tilde.pc"
-in_pc = $(subst $(space),\\$(space),$1)
 
 install: $(BUILT) $(BINDINGS) tilde.pc.in
 	$(checked)
@@ -156,11 +157,14 @@ install: $(BUILT) $(BINDINGS) tilde.pc.in
 	$(call put,644,$(MANDIR)/man7,$(call section,7))
 	$(call put,644,$(DATADIR)/tilde,$(BINDINGS))
 	install -d "$(DESTDIR)$(LIBDIR)/pkgconfig"
-	sed -e 's|@PREFIX@|$(call in_pc,$(PREFIX))|' -e 's|@LIBDIR@|$(call in_pc,$(LIBDIR))|' \
-	    -e 's|@INCLUDEDIR@|$(call in_pc,$(INCLUDEDIR))|' -e 's|@DATADIR@|$(call in_pc,$(DATADIR))|' \
-	    -e 's|@VERSION@|$(VERSION)|' tilde.pc.in >$(PC)
+	sed -e 's|@PREFIX@|$(PREFIX)|' -e 's|@LIBDIR@|$(LIBDIR)|' -e 's|@INCLUDEDIR@|$(INCLUDEDIR)|' \
+	    -e 's|@DATADIR@|$(DATADIR)|' -e 's|@VERSION@|$(VERSION)|' tilde.pc.in >$(PC)
 	chmod 644 $(PC)
-	@echo 'tilde $(VERSION) is installed; the bindings for Python and Fortran are in $(DATADIR)/tilde.'
+	@echo 'tilde $(VERSION) is installed. Programs in C, Fortran and Python use it by'
+	@echo '  cc program.c $$(pkg-config --cflags --libs tilde)'
+	@echo '  gfortran "$$(pkg-config --variable=bindings tilde)/tilde.f90" program.f90 $$(pkg-config --libs tilde)'
+	@echo '  PYTHONPATH=$$(pkg-config --variable=bindings tilde) python3 program.py'
+	@echo 'Where pkg-config does not find tilde: set PKG_CONFIG_PATH to $(LIBDIR)/pkgconfig.'
 	@echo 'Where programs do not find $(SONAME): run ldconfig as root, or set LD_LIBRARY_PATH to $(LIBDIR).'
 
 uninstall:

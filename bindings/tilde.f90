@@ -21,9 +21,13 @@
 !
 !     Harlingen is open, members 3 14
 !
-! and is built by `gfortran tilde.f90 station.f90 -ltilde`. A blank at the end of a format or a string is a byte like
-! any other: give trim(line) where it is not wanted. The calls ask nothing of what they are given, and include/tilde.h
-! says what each answers. Threads that have each a table and a line of their own do not disturb each other.
+! and is built, where tilde is installed, by
+!
+!     gfortran "$(pkg-config --variable=bindings tilde)/tilde.f90" program.f90 $(pkg-config --libs tilde)
+!
+! A blank at the end of a format or a string is a byte like any other: give trim(line) where it is not wanted. The calls
+! ask nothing of what they are given, and include/tilde.h says what each answers. Threads that have each a table and a
+! line of their own do not disturb each other.
 
 ! The calls of the library as they are in C, and its structs.
 module tilde_c

@@ -27,9 +27,13 @@ A line that is long goes out in windows:
 >>> list(tilde.windows("~a!", "Harlingen", size=4))
 [b'Harl', b'inge', b'n!']
 
+Where tilde is installed, Python finds this file by
+
+    PYTHONPATH=$(pkg-config --variable=bindings tilde) python3 program.py
+
 The library is the one that the environment variable TILDE_LIBRARY names; else libtilde.so.0 or libtilde.so beside this
-file; else libtilde.so.0 where the system looks for libraries. Calls from several threads do not disturb each other, but
-a Line belongs to one thread at a time.
+file, or in ../../lib from there, as make install puts them; else libtilde.so.0 where the system looks for libraries.
+Calls from several threads do not disturb each other, but a Line belongs to one thread at a time.
 """
 
 import ctypes
@@ -74,8 +78,9 @@ _SET = "set the environment variable TILDE_LIBRARY to the path of libtilde.so"
 
 def _load() -> ctypes.CDLL:
     here = os.path.dirname(os.path.abspath(__file__))
-    beside = filter(os.path.exists, (os.path.join(here, name) for name in ("libtilde.so.0", "libtilde.so")))
-    path = os.environ.get("TILDE_LIBRARY") or next(beside, "libtilde.so.0")
+    near = (os.path.join(folder, name) for folder in (here, os.path.join(here, os.pardir, os.pardir, "lib"))
+            for name in ("libtilde.so.0", "libtilde.so"))
+    path = os.environ.get("TILDE_LIBRARY") or next(filter(os.path.exists, near), "libtilde.so.0")
     try:
         return ctypes.CDLL(path)
     except OSError as error:
@@ -186,6 +191,13 @@ def _number(value: Any) -> int:
     return number
 
 
+def _count(of: Any) -> int:
+    try:
+        return operator.index(of)
+    except TypeError:
+        raise TypeError(f"a number of bytes is an int, not {type(of).__name__}") from None
+
+
 def _add(made: _Table, value: Value) -> int:
     if isinstance(value, _TEXTS):
         text = _bytes(value)
@@ -235,6 +247,7 @@ class Answer(NamedTuple):
 
 
 def _answer(call: Callable[..., int], size: int, *given: Any) -> Answer:
+    size = _count(size)
     window = (c_char * size)()
     position, steps, written = c_size_t(), c_size_t(), c_size_t()
     code = call(*given, window, size, byref(position), byref(steps), byref(written))
@@ -289,7 +302,7 @@ def _drain(line: Line, size: int) -> Iterator[bytes]:
 def windows(fmt: Text, *values: Value, size: int = 512) -> Iterator[bytes]:
     """The text of a format over some values, in parts of `size` bytes, the last of which may be shorter. A refusal is
     raised after the last part of what is kept."""
-    if size < 1:
+    if _count(size) < 1:
         raise ValueError("a window has at least 1 byte")
     return _drain(Line(fmt, table(*values)), size)
 
@@ -318,9 +331,10 @@ def _tag(kind: Any) -> int:
     raise TypeError(f"{kind!r} is no kind: give bool, int, tilde.Char, str, bytes, list or a tilde.Kind")
 
 
-def vet(fmt: Text, kinds: Iterable[Union[type, int]], longest: int = MOST_LONGEST) -> int:
+def vet(fmt: Text, kinds: Iterable[Union[type, int]], longest: int) -> int:
     """How many bytes are enough for the text of a format over any values of these kinds, each a type or a Kind, whose
     strings have at most `longest` bytes. The format may have conditionals, but no jump, iteration, escape or v."""
+    longest = _count(longest)
     if longest < 0:
         raise ValueError("the longest string has 0 bytes or more")
     text, tags = _bytes(fmt), bytes(map(_tag, kinds))

@@ -130,6 +130,9 @@ class Windows(unittest.TestCase):
         for size in 0, -1:
             with self.assertRaisesRegex(ValueError, "at least 1 byte"):
                 tilde.windows("abc", size=size)
+        for call in tilde.windows, lambda fmt, size: tilde.format_table(fmt, tilde.table(), size):
+            with self.assertRaisesRegex(TypeError, "a number of bytes is an int, not float"):
+                call("abc", size=2.5)
         self.assertEqual(list(tilde.windows("")), [])
         self.assertEqual(list(tilde.windows("abc", size=10**6)), [b"abc"])
         self.assertEqual(max(map(len, tilde.windows("~4096_"))), 512)
@@ -176,18 +179,26 @@ class Vets(unittest.TestCase):
                                               tilde.Kind.BOOLEAN, tilde.Kind.LIST]), 5), count)
         for kinds in "si", [float], [None], [1.0], [{}]:
             with self.assertRaisesRegex(TypeError, "is no kind: give"):
-                tilde.vet("", kinds)
+                tilde.vet("", kinds, 0)
 
     def test_limits(self):
-        self.assertEqual(tilde.vet("~a", [str]), tilde.MOST_LONGEST)
-        self.assertEqual(tilde.vet("x", [int] * tilde.MOST_KINDS), 1)
+        self.assertEqual(tilde.vet("~a", [str], tilde.MOST_LONGEST), tilde.MOST_LONGEST)
+        self.assertEqual(tilde.vet("x", [int] * tilde.MOST_KINDS, 0), 1)
         for kind in 5, 255, 256, 259, -1, -253, 10**5000:
-            self.assertEqual(self.refused("", [kind]), tilde.Code.BAD_KINDS)
-        for given in ("", [int] * (tilde.MOST_KINDS + 1)), ("", [], tilde.MOST_LONGEST + 1), ("", [], 2**64):
+            self.assertEqual(self.refused("", [kind], 0), tilde.Code.BAD_KINDS)
+        for given in ("", [int] * (tilde.MOST_KINDS + 1), 0), ("", [], tilde.MOST_LONGEST + 1), ("", [], 2**64):
             self.assertEqual(self.refused(*given), tilde.Code.BAD_KINDS)
         with self.assertRaisesRegex(ValueError, "0 bytes or more"):
             tilde.vet("", [], -1)
-        self.assertEqual(self.refused("~*", [int]), tilde.Code.NOT_PLAIN)
+        self.assertEqual(self.refused("~*", [int], 0), tilde.Code.NOT_PLAIN)
+
+    def test_a_count_is_as_good_as_its_longest(self):
+        with self.assertRaisesRegex(TypeError, "longest"):
+            tilde.vet("~a", [str])
+        self.assertEqual(tilde.vet("~a", [str], Index(7)), 7)
+        for longest in 2.5, None, "7":
+            with self.assertRaisesRegex(TypeError, "a number of bytes is an int, not "):
+                tilde.vet("~a", [str], longest)
 
 
 class Loading(unittest.TestCase):
@@ -212,6 +223,18 @@ class Loading(unittest.TestCase):
             with tempfile.TemporaryDirectory() as folder:
                 source = shutil.copy(SOURCE, folder)
                 shutil.copy(LIBRARY, os.path.join(folder, name))
+                self.assertEqual(self.run_alone(source), f"{source} b'5'")
+
+    def test_in_the_prefix_where_it_is_installed(self):
+        for name in "libtilde.so.0", "libtilde.so":
+            with tempfile.TemporaryDirectory() as prefix:
+                for folder in "lib", "share/tilde":
+                    os.makedirs(os.path.join(prefix, folder))
+                source = shutil.copy(SOURCE, os.path.join(prefix, "share/tilde"))
+                installed = shutil.copy(LIBRARY, os.path.join(prefix, "lib", name))
+                self.assertEqual(self.run_alone(source), f"{source} b'5'")
+                shutil.move(installed, os.path.dirname(source))
+                shutil.copy(SOURCE, installed)
                 self.assertEqual(self.run_alone(source), f"{source} b'5'")
 
     def test_missing_or_another(self):

@@ -16,6 +16,7 @@ check_folders() {
     same "the files with other folders" "$(sed 's,^lib/,lib64/,; s,^share/man/,man/,' <<<"$expected" | sort)" \
         "$(files_of "$room/other")"
     check "LIBDIR in tilde.pc" grep -qx "libdir=$room/other/lib64" "$room/other/lib64/pkgconfig/tilde.pc"
+    same "the version is that of the header" "" "$(make -n install VERSION=9.9 | grep -F 9.9 || true)"
     check "the version in tilde.pc" grep -qx "Version: $version" "$room/other/lib64/pkgconfig/tilde.pc"
 }
 

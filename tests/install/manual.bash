@@ -25,6 +25,7 @@ check_manual() {
     check_values
     for page in man/*.3; do check_example "$(basename "$page" .3)"; done
     check_console
+    check_used
     there mandoc || skip "mandoc is not there: its lint"
 }
 
@@ -104,4 +105,13 @@ check_console() {
         inside && !/^           / { print "```"; inside = 0 }
         inside { print substr($0, 12) }' "$room"/text/*.1 >"$room/examples.md"
     check "the commands in the manual" tests/examples "$room/examples.md"
+}
+
+# The commands in the manual that use the bindings, over the programs of check_told.
+check_used() {
+    [ -d "$room/told" ] || return 0
+    same "the bindings as the manual uses them" $'b\'wind: 5\'\nHarlingen is open, members 3 14' "$(told "$(awk '
+        / are used by$/ { inside = 1 }
+        inside && /^           / { print substr($0, 12) }
+        /^[^ ]/ { inside = 0 }' "$room/text/tilde_format.3")")"
 }

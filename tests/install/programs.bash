@@ -49,6 +49,7 @@ check_programs() {
     done
     check_space
     check_bindings
+    check_told
     same "the installed tilde" "$version" "$("$prefix/bin/tilde" --version | awk '{ print $NF }')"
     same "the line of the installed tilde" "$line" \
         "$("$prefix/bin/tilde" try '~12a ~5d hPa, ~d gust~:p' '"Harlingen"' 1013 3)"
@@ -62,6 +63,9 @@ check_space() {
     check "make install with a space" make install "PREFIX=$prefix"
     built gcc c99 shared "$prefix" examples/first.c
     built gcc c99 static "$prefix" examples/first.c
+    if there pkg-config; then
+        same "the folder of the bindings with a space" "$prefix/share/tilde" "$(flags "$prefix" --variable=bindings)"
+    fi
     check "make uninstall with a space" make uninstall "PREFIX=$prefix"
     same "no file is left" "" "$(files_of "$prefix")"
 }
@@ -75,7 +79,37 @@ check_bindings() {
     done
     there python3 || { skip "python3 is not there: the installed tilde.py"; return; }
     same "a line by the installed tilde.py" "b'Harlingen: 3 gusts'" "$(env -u TILDE_LIBRARY \
-        -u PYTHONDONTWRITEBYTECODE -u PYTHONPYCACHEPREFIX PYTHONPATH="$folder" LD_LIBRARY_PATH="$prefix/lib" \
+        -u PYTHONDONTWRITEBYTECODE -u PYTHONPYCACHEPREFIX -u LD_LIBRARY_PATH PYTHONPATH="$folder" \
         python3 -c 'import tilde; print(tilde.format("~a: ~d gust~:p", "Harlingen", 3))')"
     check "Python keeps something for uninstall to remove" test -d "$folder/__pycache__"
+}
+
+# What a program prints that these commands build and run: program.c, program.f90 or program.py.
+told() (
+    cd "$room/told"
+    rm -f a.out
+    unset TILDE_LIBRARY LD_LIBRARY_PATH
+    export PKG_CONFIG_PATH="$prefix/lib/pkgconfig"
+    eval "$1"
+    [ ! -e a.out ] || LD_LIBRARY_PATH="$prefix/lib" ./a.out
+)
+
+# The commands that make install says make programs in the three languages; those for the bindings are at the head of
+# these too.
+check_told() {
+    local program commands
+    for program in pkg-config cc gfortran python3; do
+        there "$program" || { skip "$program is not there: what make install says"; return; }
+    done
+    mkdir "$room/told"
+    cp examples/first.c "$room/told/program.c"
+    sed -n '/^!     program/,/^!     end program/s/^!     //p' bindings/tilde.f90 >"$room/told/program.f90"
+    echo 'import tilde; print(tilde.format("~a: ~d", "wind", 5))' >"$room/told/program.py"
+    mapfile -t commands < <(sed -n '/ is installed\. /,$s/^  //p' "$room/installed")
+    same "what make install says" 3 "${#commands[@]}"
+    same "a program in C" 'Harlingen     1013 hPa, 3 gusts' "$(told "${commands[0]}")"
+    same "a program in Fortran" 'Harlingen is open, members 3 14' "$(told "${commands[1]}")"
+    same "a program in Python" "b'wind: 5'" "$(told "${commands[2]}")"
+    check "the head of tilde.f90" grep -qxF "!     ${commands[1]}" bindings/tilde.f90
+    check "the head of tilde.py" grep -qxF "    ${commands[2]}" bindings/tilde.py
 }
