@@ -3,10 +3,10 @@
        pipe FORMAT [ARGUMENT]...
 
    An ARGUMENT that is a whole number is an integer, any other a string. The other process is cat, which prints what
-   arrives. From the top of the repository, after `rt staticlib tilde_windows`:
+   arrives. From the top of the repository, after `make`:
 
-       gcc -std=c11 -O2 -Iinclude -o pipe examples/pipe.c target/staticlib/libtilde_windows.a
-       ./pipe '~a: ~@{~4d~^,~}~%' wind 5 12 17 */
+       gcc -std=c11 -O2 -Iinclude -o build/pipe examples/pipe.c build/libtilde.a
+       build/pipe '~a: ~@{~4d~^,~}~%' wind 5 12 17 */
 #define _POSIX_C_SOURCE 200809L
 #include <errno.h>
 #include <signal.h>

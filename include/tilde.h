@@ -136,10 +136,10 @@ enum tilde_tag {
 uint32_t tilde_format(const uint8_t *format, size_t format_length, const uint8_t *table, size_t table_length,
                       uint8_t *buffer, size_t buffer_length, size_t *position, size_t *steps, size_t *written);
 
-/* Where a line stands between two windows. All zeros is a fresh one: `tilde_state state = {0};`. The numbers serve the
-   next call alone, with the same build of the library. A state holds no pointer: it may be copied, kept, and gone on
-   from twice, and format, table and window may be moved between calls. There is padding between its fields, so memcmp
-   does not compare states. */
+/* Where a line stands between two windows. All zeros is a fresh one: `tilde_state state = {0};`, in C++ `= {};`. The
+   numbers serve the next call alone, with the same build of the library. A state holds no pointer: it may be copied,
+   kept, and gone on from twice, and format, table and window may be moved between calls. There is padding between its
+   fields, so memcmp does not compare states. */
 typedef struct {
     /* 0 fresh, 1 begun, any other ended */
     size_t stage;

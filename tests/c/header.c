@@ -1,5 +1,5 @@
-/* What the headers say by themselves, in C99 and in C++17: the words for the codes, the version, and the table of the
-   example in tilde_table.h. */
+/* What the headers say by themselves, in C99 and in C++17: the words for the codes, the version, a fresh state, and
+   the table of the example in tilde_table.h. */
 #include "expect.h"
 #include <ctype.h>
 #include <tilde_table.h>
@@ -46,6 +46,20 @@ static void version(void)
     expect(numbers == 3 && *from == '\0', "three numbers", numbers);
 }
 
+/* A fresh state, as tilde.h has it for each language, has no warning and no number but zero. */
+static void fresh(void)
+{
+#ifdef __cplusplus
+    const tilde_state state = {};
+#else
+    const tilde_state state = {0};
+#endif
+    static tilde_state zeros;
+
+    expect(state.stage == 0 && state.code == 0 && state.place == 0 && state.depth == 0, "a fresh state", 0);
+    expect(memcmp(state.positions, zeros.positions, sizeof state.positions) == 0 && state.pad == 0, "all of it", 0);
+}
+
 static void table(void)
 {
     static const uint8_t wanted[] = {
@@ -76,6 +90,7 @@ int main(void)
 {
     words();
     version();
+    fresh();
     table();
     printf("%lu checks\n", (unsigned long)checks);
     return 0;

@@ -48,7 +48,7 @@ check_removal() {
 check_without_rt() {
     local program bare="$room/bare"
     mkdir "$bare"
-    for program in bash sh sed find uname gcc make awk grep echo; do
+    for program in bash sh sed find uname gcc make awk grep echo mkdir; do
         ln -s "$(command -v "$program")" "$bare/$program"
     done
     same "make calls neither rt nor gcc again" "" "$(make -n | grep -E '^(rt|gcc) ' || true)"
@@ -57,4 +57,7 @@ check_without_rt() {
     cp target/staticlib/libtilde.a "$room/before.a"
     PATH="$bare" refused "sources newer than the archives, without rt" "install the Rattle kit" -W crates.txt
     check "the archive is still there" cmp "$room/before.a" target/staticlib/libtilde.a
+    cp -r Makefile crates.txt crates include tools man docs bindings tilde.pc.in "$bare"
+    PATH="$bare" refused "no archives and no rt" "target/staticlib/libtilde.a is missing" -C "$bare" -j 4
+    same "nothing is built before that" "" "$(ls -d "$bare/build" 2>/dev/null || true)"
 }

@@ -53,6 +53,8 @@ check_programs() {
     same "the installed tilde" "$version" "$("$prefix/bin/tilde" --version | awk '{ print $NF }')"
     same "the line of the installed tilde" "$line" \
         "$("$prefix/bin/tilde" try '~12a ~5d hPa, ~d gust~:p' '"Harlingen"' 1013 3)"
+    same "a refusal is not on standard output" "" "$("$prefix/bin/tilde" try '~d' '"calm"' 2>/dev/null || true)"
+    same "tilde-jobs takes no options" ff "$(echo wind | "$prefix/bin/tilde-jobs" --help)"
     check "the installed tilde is that of build/" cmp build/tilde "$prefix/bin/tilde"
     check "the installed tilde-jobs is that of target/" cmp target/bin/jobs "$prefix/bin/tilde-jobs"
 }
