@@ -2,6 +2,7 @@
 #include "lines_run.h"
 #include "options.h"
 #include "refusal.h"
+#include "walking.h"
 #include "wording.h"
 
 #include <string.h>
@@ -60,6 +61,19 @@ static int read_kinds(struct kinds *kinds, int argc, char **argv, FILE *err)
     return 1;
 }
 
+static int has_conditional(const struct lines_job *job)
+{
+    const struct format format = {job->format, job->format_length};
+    struct walk walk = {.format = &format};
+    struct directive directive;
+    while (walk_find(&walk, &directive)) {
+        if (directive.code == '[')
+            return 1;
+        walk_past(&walk, &directive);
+    }
+    return 0;
+}
+
 /* Whether no row can have a line, which is told: the text is wrong, or it is plain and wrong for the kinds. Of a format
    with a conditional the vet judges clauses that no row may pick. */
 static int refuses_all(const struct lines_job *job, FILE *err)
@@ -68,8 +82,7 @@ static int refuses_all(const struct lines_job *job, FILE *err)
     size_t position, count;
     const uint32_t code = tilde_vet(question.format, question.format_length, question.kinds, question.kinds_length,
                                     question.longest, &position, &count);
-    const int conditional = memchr(job->format, '[', job->format_length) != NULL;
-    if (code < TILDE_LONG_FORMAT || code > (conditional ? TILDE_BAD_PARAMETER : TILDE_OUT_OF_RANGE))
+    if (code < TILDE_LONG_FORMAT || code > (has_conditional(job) ? TILDE_BAD_PARAMETER : TILDE_OUT_OF_RANGE))
         return 0;
     refusal_print_vet(err, &question, code, position);
     return 1;
@@ -89,5 +102,5 @@ int verb_lines(int argc, char **argv, const struct streams *io)
         return STATUS_USAGE;
     job.format = (const uint8_t *)argv[0];
     job.format_length = strlen(argv[0]);
-    return refuses_all(&job, io->err) ? STATUS_REFUSED : lines_run(&job, &usual, io);
+    return refuses_all(&job, io->err) ? STATUS_REFUSED : lines_run(&job, &usual, report_clock, io);
 }

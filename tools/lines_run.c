@@ -1,7 +1,6 @@
 #include "lines_run.h"
 
 #include "refusal.h"
-#include "report.h"
 #include "rows.h"
 #include "running.h"
 #include "wording.h"
@@ -15,7 +14,7 @@ struct work {
     const struct streams *io;
     struct rows rows;
     struct report report;
-    /* lines that are done and still to be written, and whether the last one lacks a newline at its end */
+    /* lines that are done and still to be written, and whether the lines so far end without a newline */
     uint8_t *lines;
     size_t held, used;
     int unended;
@@ -97,7 +96,8 @@ static enum step take_call(struct work *work, const struct call *call)
     if (ending.code != TILDE_DONE)
         return refuse(work, NULL, call, &ending);
     work->used += written;
-    work->unended = written > 0 && work->lines[work->used - 1] != '\n';
+    if (written > 0)
+        work->unended = work->lines[work->used - 1] != '\n';
     return GOES_ON;
 }
 
@@ -139,13 +139,13 @@ static enum step take_rows(struct work *work)
     return step;
 }
 
-int lines_run(const struct lines_job *job, const struct lines_sizes *sizes, const struct streams *io)
+int lines_run(const struct lines_job *job, const struct lines_sizes *sizes, clock_read *now, const struct streams *io)
 {
     struct work work = {.job = job, .io = io, .lines = malloc(sizes->held), .held = sizes->held};
     const int ready = rows_begin(&work.rows, io->in, sizes->longest, sizes->chunk) && work.lines != NULL;
     enum step step = FAILS;
     if (ready) {
-        report_begin(&work.report, io, job->all);
+        report_begin(&work.report, io, job->all, now);
         step = take_rows(&work);
     } else {
         fputs("tilde lines: there is no memory for the rows\n", io->err);

@@ -3,7 +3,7 @@
 #define TOOLS_LINES_RUN_H
 
 #include "fields.h"
-#include "verbs.h"
+#include "report.h"
 
 /* What is to be done. */
 struct lines_job {
@@ -19,7 +19,8 @@ struct lines_sizes {
     size_t longest, chunk, held;
 };
 
-/* Reads rows and writes lines until the rows end; answers a status of the command. */
-int lines_run(const struct lines_job *job, const struct lines_sizes *sizes, const struct streams *io);
+/* Reads rows and writes lines until the rows end; answers a status of the command. The clock says when progress is
+   shown. */
+int lines_run(const struct lines_job *job, const struct lines_sizes *sizes, clock_read *now, const struct streams *io);
 
 #endif

@@ -14,7 +14,7 @@
 #define PATIENCE 1000
 #define PAUSE 250
 
-static int64_t now(void)
+int64_t report_clock(void)
 {
     struct timespec time;
     if (clock_gettime(CLOCK_MONOTONIC, &time) != 0)
@@ -22,9 +22,10 @@ static int64_t now(void)
     return (int64_t)time.tv_sec * 1000 + time.tv_nsec / 1000000;
 }
 
-void report_begin(struct report *report, const struct streams *io, int all)
+void report_begin(struct report *report, const struct streams *io, int all, clock_read *now)
 {
-    *report = (struct report){.err = io->err, .most_told = all ? UINT64_MAX : TOLD, .seen = isatty(fileno(io->err))};
+    *report = (struct report){.err = io->err, .now = now, .most_told = all ? UINT64_MAX : TOLD};
+    report->seen = isatty(fileno(io->err));
     report->followed = report->seen && !isatty(fileno(io->out));
     report->next = now() + PATIENCE;
     if (report->seen && isatty(fileno(io->in)))
@@ -42,13 +43,14 @@ static void clear_progress(struct report *report)
 void report_row(struct report *report)
 {
     report->rows++;
-    if (!report->followed || now() < report->next)
+    const int64_t time = report->followed ? report->now() : 0;
+    if (!report->followed || time < report->next)
         return;
     const uint64_t counts[] = {report->rows, report->refused};
     fputc('\r', report->err);
     report->columns = print_numbers(report->err, "~:d row~:p, ~:d refused", counts, 2);
     fflush(report->err);
-    report->next = now() + PAUSE;
+    report->next = time + PAUSE;
 }
 
 int report_tells(const struct report *report)

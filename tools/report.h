@@ -6,8 +6,15 @@
 
 #include <stdint.h>
 
+/* The milliseconds of a clock that only goes forward. */
+typedef int64_t clock_read(void);
+
+/* That of the machine. */
+int64_t report_clock(void);
+
 struct report {
     FILE *err;
+    clock_read *now;
     /* the rows so far, those of them that were refused, and how many of these are told */
     uint64_t rows, refused, most_told;
     /* whether a terminal shows what is said, and whether it shows progress; when that is shown next, in milliseconds,
@@ -18,7 +25,7 @@ struct report {
 };
 
 /* Progress is shown where standard error is a terminal to which no lines go. */
-void report_begin(struct report *report, const struct streams *io, int all);
+void report_begin(struct report *report, const struct streams *io, int all, clock_read *now);
 
 /* Call it for every row: it shows how far it has come where it is time for that. */
 void report_row(struct report *report);

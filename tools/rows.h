@@ -20,7 +20,7 @@ enum row {
 
 struct rows {
     FILE *in;
-    /* the bytes of the longest row, and of what is read at once; the buffer has room for both */
+    /* the bytes of the longest row, and of what is read at once; the buffer has room for both and a return */
     size_t longest, chunk;
     uint8_t *buffer;
     /* what was read and is still to be handed out stands from `from` to `to`, with no newline before `searched` */

@@ -1,6 +1,7 @@
 /* Runs examples/pipe.c, whose program and what runs it are the words of the command line, and compares what comes out
    at the other end of its pipe with one call of tilde_format. */
 #define _GNU_SOURCE
+#include "needed.h"
 #include "tables.h"
 #include <errno.h>
 #include <inttypes.h>
@@ -55,8 +56,8 @@ static size_t read_all(int from, uint8_t *into)
         ssize_t taken = read(from, into + length, PLENTY - length);
         if (taken < 0 && errno == EINTR)
             continue;
-        if (taken < 0 || length + (size_t)taken == PLENTY)
-            exit(2);
+        need(taken >= 0, "read");
+        expect(length + (size_t)taken < PLENTY, "room for all that arrives", lines);
         if (taken == 0)
             return length;
         length += (size_t)taken;
@@ -74,12 +75,10 @@ struct run {
 static void run(struct run *run)
 {
     int ends[2];
-    FILE *said = tmpfile();
-    if (said == NULL || pipe(ends) != 0)
-        exit(2);
+    FILE *said = file_open();
+    need(pipe(ends) == 0, "pipe");
     pid_t child = fork();
-    if (child < 0)
-        exit(2);
+    need(child >= 0, "fork");
     if (child == 0) {
         if (dup2(ends[1], STDOUT_FILENO) >= 0 && dup2(fileno(said), STDERR_FILENO) >= 0 && close(ends[0]) == 0 &&
             close(ends[1]) == 0)

@@ -12,7 +12,8 @@
 #define THREADS 4
 #define ROUNDS 4000
 #define SIGNALS 1000
-#define SECONDS 60
+/* Only against waiting forever: a slow machine may take long. */
+#define SECONDS 600
 #define PLENTY ((size_t)8192)
 
 /* A line, and what was answered when one call ran at a time. */

@@ -1,7 +1,8 @@
 /* Random rows through tilde lines in one process, with buffers of many sizes: what it writes, what it tells and its
    status are compared with what made.h has from direct calls of tilde_format. */
-#define _POSIX_C_SOURCE 200809L
+#define _GNU_SOURCE
 #include "../c/expect.h"
+#include "../c/needed.h"
 #include "made.h"
 
 #define JOBS 1200
@@ -20,8 +21,7 @@ static void check(int holds, const char *what, const struct made *made, const ch
 static FILE *text_open(char **text, size_t *length)
 {
     FILE *file = open_memstream(text, length);
-    if (file == NULL)
-        exit(2);
+    need(file != NULL, "open_memstream");
     return file;
 }
 
@@ -46,7 +46,7 @@ static int expect_line(const struct made *made, const uint8_t *table, size_t tab
     return 0;
 }
 
-/* Why a row that gives no table is refused; answers 0 where it gives one. */
+/* Why a row of this length without its return, which gives no table, is refused; answers 0 where it gives one. */
 static int expect_refusal(const struct made *made, size_t length, size_t more, size_t field, FILE *err)
 {
     const struct kinds *kinds = &made->job.kinds;
@@ -68,20 +68,20 @@ static int expect_refusal(const struct made *made, size_t length, size_t more, s
 static int make_row(struct made *made, FILE *rows, FILE *out, FILE *err, int bad, int newline)
 {
     static uint8_t room[TILDE_MOST_TABLE];
-    const size_t more = bad && once_in(3) ? 1 + below(2) : 0;
+    const size_t more = bad && once_in(3) ? 1 + below(2) : 0, returns = once_in(10) ? 1 : 0;
     char *bytes;
     size_t length;
     tilde_table table;
     tilde_table_begin(&table, room, sizeof room);
     FILE *row = text_open(&bytes, &length);
     const size_t field = make_fields(&made->job.kinds, row, &table, bad && more == 0);
-    fprintf(row, "%.*s%s", (int)more, "\t\t", once_in(10) ? "\r" : "");
-    fclose(row);
+    fprintf(row, "%.*s%s", (int)more, "\t\t", returns ? "\r" : "");
+    need(fclose(row) == 0, "fclose");
     made->all++;
     fwrite(bytes, 1, length, rows);
     fputs(newline || length == 0 ? "\n" : "", rows);
     free(bytes);
-    return !expect_refusal(made, length, more, field, err) &&
+    return !expect_refusal(made, length - returns, more, field, err) &&
            expect_line(made, room, tilde_table_end(&table), out, err);
 }
 
@@ -101,7 +101,8 @@ static void make_rows(struct made *made, size_t count, size_t odds)
 {
     FILE *rows = text_open(&made->rows, &made->rows_length), *out = text_open(&made->out, &made->out_length);
     FILE *err = text_open(&made->err, &made->err_length), *nowhere = fopen("/dev/null", "w");
-    int stopped = nowhere == NULL;
+    int stopped = 0;
+    need(nowhere != NULL, "/dev/null");
     for (size_t i = 0; i < count && !stopped; i++) {
         FILE *const told = made->job.all || made->refused < 20 ? err : nowhere;
         const int has_line = make_row(made, rows, out, told, once_in(odds), i + 1 < count || once_in(2));
@@ -112,8 +113,7 @@ static void make_rows(struct made *made, size_t count, size_t odds)
     fputs(stopped ? "\n\t\nrest" : "", rows);
     make_summary(made, err, stopped);
     made->status = made->refused > 0 ? STATUS_REFUSED : STATUS_DONE;
-    if (nowhere == NULL || fclose(rows) != 0 || fclose(out) != 0 || fclose(err) != 0 || fclose(nowhere) != 0)
-        exit(2);
+    need(fclose(rows) == 0 && fclose(out) == 0 && fclose(err) == 0 && fclose(nowhere) == 0, "fclose");
 }
 
 static void make_job(struct made *made)
@@ -138,9 +138,9 @@ static void make_job(struct made *made)
 static FILE *rows_open(const struct made *made)
 {
     const int file = made->rows_length == 0 || once_in(2);
-    FILE *in = file ? tmpfile() : fmemopen(made->rows, made->rows_length, "r");
-    if (in == NULL || (file && fwrite(made->rows, 1, made->rows_length, in) < made->rows_length))
-        exit(2);
+    FILE *in = file ? file_open() : fmemopen(made->rows, made->rows_length, "r");
+    need(in != NULL, "fmemopen");
+    need(!file || fwrite(made->rows, 1, made->rows_length, in) == made->rows_length, "fwrite");
     rewind(in);
     return in;
 }
@@ -182,9 +182,8 @@ static void run(const struct made *made, size_t chunk, size_t held)
     char *out, *err;
     size_t out_length, err_length;
     const struct streams io = {rows_open(made), text_open(&out, &out_length), text_open(&err, &err_length)};
-    const int status = lines_run(&made->job, &sizes, &io);
-    if (fclose(io.in) != 0 || fclose(io.out) != 0 || fclose(io.err) != 0)
-        exit(2);
+    const int status = lines_run(&made->job, &sizes, report_clock, &io);
+    need(fclose(io.in) == 0 && fclose(io.out) == 0 && fclose(io.err) == 0, "fclose");
     check(out_length == made->out_length && memcmp(out, made->out, out_length) == 0, "other lines", made, err);
     check(as_expected(made, made->err, err), "other messages", made, err);
     check(status == made->status, "another status", made, err);
@@ -199,13 +198,11 @@ static void run_full(const struct made *made, size_t held)
     const struct lines_sizes sizes = {made->longest, 64, held};
     char *const took = calloc(made->out_length, 1), *err;
     size_t err_length;
-    if (took == NULL)
-        exit(2);
+    need(took != NULL, "calloc");
     const struct streams io = {rows_open(made), fmemopen(took, 1 + below(made->out_length - 1), "w"),
                                text_open(&err, &err_length)};
-    if (io.out == NULL)
-        exit(2);
-    const int status = lines_run(&made->job, &sizes, &io);
+    need(io.out != NULL, "fmemopen");
+    const int status = lines_run(&made->job, &sizes, report_clock, &io);
     fclose(io.in);
     fclose(io.out);
     fclose(io.err);

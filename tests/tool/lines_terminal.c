@@ -1,34 +1,22 @@
 /* What tilde lines shows a person: progress, and notes, on a terminal that is the other end of a pseudo-terminal. */
-#define _XOPEN_SOURCE 700
+#define _GNU_SOURCE
 #include "../../tools/lines_run.h"
 #include "../c/expect.h"
+#include "../c/needed.h"
 
 #include <errno.h>
 #include <fcntl.h>
-#include <stdlib.h>
 #include <string.h>
-#include <sys/wait.h>
 #include <termios.h>
-#include <time.h>
 #include <unistd.h>
 
 #define UNENDED "tilde lines: the last line has no newline at its end, and none is added; ~% writes one\n"
-/* Longer than progress waits, in milliseconds, so that a busy machine does not matter. */
-#define SLOWLY 1500
 
 static void check(int holds, const char *what, const char *shown)
 {
     if (!holds)
         fprintf(stderr, "shown: %s\n", shown);
     expect(holds, what, checks);
-}
-
-static void need(int holds, const char *what)
-{
-    if (!holds) {
-        perror(what);
-        exit(2);
-    }
 }
 
 /* A terminal that adds nothing to what is written to it: the end of the person, and that of the command. */
@@ -71,100 +59,88 @@ static void write_text(int to, const char *text)
     need(write(to, text, strlen(text)) == (ssize_t)strlen(text), "write");
 }
 
-/* Rows from another process, which pauses before the second part of them. */
-static FILE *rows_from(const char *first, long pause, const char *second)
+/* A few rows at the end of a pipe. */
+static FILE *rows_from(const char *rows)
 {
     int ends[2];
     need(pipe(ends) == 0, "pipe");
-    const pid_t child = fork();
-    need(child >= 0, "fork");
-    if (child == 0) {
-        write_text(ends[1], first);
-        nanosleep(&(struct timespec){pause / 1000, pause % 1000 * 1000000}, NULL);
-        write_text(ends[1], second);
-        _exit(0);
-    }
+    write_text(ends[1], rows);
     close(ends[1]);
     FILE *in = fdopen(ends[0], "r");
     need(in != NULL, "fdopen");
     return in;
 }
 
-/* One integer a row. */
-static int run(const char *format, FILE *in, FILE *out, FILE *err)
+#define MOST_ROWS 6
+
+/* A run over rows of one integer, and what a person then sees. The clock says these milliseconds at the start and at each
+   row, so that no machine is too slow. */
+struct run {
+    const char *what, *format, *rows;
+    /* whether the lines go to the terminal too, and not only what is said */
+    int both, status;
+    int64_t times[1 + MOST_ROWS];
+    const char *shown;
+};
+
+static const struct run runs[] = {
+    {"progress after a second, and again after a quarter of one", "~d~%", "1\n2\n3\n4\nx\n6\n", 0, STATUS_REFUSED,
+     {0, 1, 2, 999, 1000, 1249, 1250},
+     "\r4 rows, 0 refused\r                 \rrow 5, field 1 (integer): \"x\" is no whole number\n"
+     "\r6 rows, 1 refused\r                 \r6 rows: 5 lines, 1 refused\n"},
+    {"no progress within a second", "~d~%", "1\n2\n3\n", 0, STATUS_DONE, {5000, 5000, 5998, 5999}, ""},
+    {"no progress between lines, which show it", "~d~%", "1\n2\n3\n", 1, STATUS_DONE, {0, 5000, 6000, 7000},
+     "1\n2\n3\n"},
+    {"a note of the newline", "~d,", "1\n2\n3\n", 0, STATUS_DONE, {0}, UNENDED},
+    {"a note of the newline on a line of its own", "~d,", "1\n2\n3\n", 1, STATUS_DONE, {0}, "1,2,3,\n" UNENDED},
+    {"a note of the newline before an empty line", "~[calm~;~]", "0\n1\n", 0, STATUS_DONE, {0}, UNENDED},
+    {"no note where nothing is written", "~[calm~;~]", "1\n1\n", 0, STATUS_DONE, {0}, ""},
+};
+
+static const int64_t *times;
+static size_t asked;
+
+static int64_t next_time(void)
+{
+    expect(asked <= MOST_ROWS, "a clock that is asked once for each row", asked);
+    return times[asked++];
+}
+
+static int lines_of(const struct run *run, FILE *in, FILE *out, FILE *err)
 {
     const struct lines_sizes sizes = {1000, 100, 100};
-    const struct lines_job job = {.format = (const uint8_t *)format,
-                                  .format_length = strlen(format),
+    const struct lines_job job = {.format = (const uint8_t *)run->format,
+                                  .format_length = strlen(run->format),
                                   .kinds = {.tags = {TILDE_INTEGER}, .count = 1}};
-    const int status = lines_run(&job, &sizes, &(struct streams){in, out, err});
+    times = run->times;
+    asked = 0;
+    const int status = lines_run(&job, &sizes, next_time, &(struct streams){in, out, err});
     need(fflush(out) == 0 && fflush(err) == 0, "fflush");
     return status;
 }
 
-static void check_progress(void)
+static void check_run(const struct run *run)
 {
     char shown[1000];
     struct terminal terminal = terminal_open();
-    FILE *in = rows_from("1\n2\n3\n", SLOWLY, "4\nx\n5\n"), *out = tmpfile();
-    need(out != NULL, "tmpfile");
-    check(run("~d~%", in, out, terminal.command) == STATUS_REFUSED, "the status of a bad row", "");
-    terminal_close(terminal, shown, sizeof shown);
-    check(strncmp(shown, "\r4 rows, 0 refused\r", 19) == 0, "progress after a second", shown);
-    const char *message = strstr(shown, "row 5, field 1 (integer): \"x\" is no whole number\n"
-                                        "6 rows: 5 lines, 1 refused\n");
-    check(message != NULL && message - shown >= 37, "a message behind the progress", shown);
-    check(memcmp(message - 19, "\r                 \r", 19) == 0, "a cleared line before the message", shown);
+    FILE *in = rows_from(run->rows), *out = run->both ? terminal.command : file_open();
+    const int status = lines_of(run, in, out, terminal.command);
     fclose(in);
-    fclose(out);
-}
-
-/* Lines on the terminal show by themselves how far it has come. */
-static void check_lines_shown(void)
-{
-    char shown[1000];
-    struct terminal terminal = terminal_open();
-    FILE *in = rows_from("1\n2\n", SLOWLY, "3\n");
-    check(run("~d~%", in, terminal.command, terminal.command) == STATUS_DONE, "the status of lines", "");
-    terminal_close(terminal, shown, sizeof shown);
-    check(strcmp(shown, "1\n2\n3\n") == 0, "no progress between lines", shown);
-    fclose(in);
-}
-
-static void check_quiet(void)
-{
-    char shown[1000];
-    struct terminal terminal = terminal_open();
-    FILE *in = rows_from("1\n2\n", 0, "3\n"), *out = tmpfile();
-    need(out != NULL, "tmpfile");
-    check(run("~d~%", in, out, terminal.command) == STATUS_DONE, "the status of lines", "");
-    terminal_close(terminal, shown, sizeof shown);
-    check(strcmp(shown, "") == 0, "nothing is said", shown);
-    fclose(in);
-    fclose(out);
-}
-
-static void check_unended(int both)
-{
-    char shown[1000];
-    struct terminal terminal = terminal_open();
-    FILE *in = rows_from("1\n2\n", 0, "3\n"), *out = both ? terminal.command : tmpfile();
-    need(out != NULL, "tmpfile");
-    check(run("~d,", in, out, terminal.command) == STATUS_DONE, "the status of lines", "");
-    if (!both)
+    if (!run->both)
         fclose(out);
     terminal_close(terminal, shown, sizeof shown);
-    check(strcmp(shown, both ? "1,2,3,\n" UNENDED : UNENDED) == 0, "a note of the newline", shown);
-    fclose(in);
+    check(strcmp(shown, run->shown) == 0, run->what, shown);
+    check(status == run->status, "another status", shown);
 }
 
 /* Rows that a person types. */
 static void check_typed(void)
 {
+    static const struct run typed = {.format = "~d~%"};
     char shown[1000];
     struct terminal terminal = terminal_open();
     write_text(terminal.person, "7\n8\n\4");
-    check(run("~d~%", terminal.command, terminal.command, terminal.command) == STATUS_DONE, "the status of lines", "");
+    check(lines_of(&typed, terminal.command, terminal.command, terminal.command) == STATUS_DONE, "another status", "");
     terminal_close(terminal, shown, sizeof shown);
     check(strcmp(shown, "tilde lines: type rows, with a tab between two fields; Ctrl-D ends them\n7\n8\n") == 0,
            "a word to who types rows", shown);
@@ -172,14 +148,9 @@ static void check_typed(void)
 
 int main(void)
 {
-    check_progress();
-    check_lines_shown();
-    check_quiet();
-    check_unended(0);
-    check_unended(1);
+    for (size_t i = 0; i < sizeof runs / sizeof runs[0]; i++)
+        check_run(runs + i);
     check_typed();
-    while (wait(NULL) > 0)
-        ;
     printf("lines_terminal: %zu checks\n", checks);
     return 0;
 }
