@@ -1,5 +1,6 @@
 #include "fields.h"
 
+#include "digits.h"
 #include "kinds.h"
 #include "show.h"
 #include "wording.h"
@@ -43,7 +44,7 @@ static int add_integer(tilde_table *table, struct field field, struct fault *fau
         return tilde_table_integer(table, number) || no_room(fault);
     const size_t sign = begins(field, "+") || begins(field, "-") ? 1 : 0;
     size_t digits = sign;
-    while (digits < field.length && field.bytes[digits] >= '0' && field.bytes[digits] <= '9')
+    while (digits < field.length && is_digit(field.bytes[digits]))
         digits++;
     return wrong(fault, sign < digits && digits == field.length ? "is no number of 64 bits" : "is no whole number");
 }

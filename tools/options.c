@@ -1,12 +1,13 @@
 #include "options.h"
 
+#include "digits.h"
 #include "show.h"
 
 #include <string.h>
 
 static int is_option(const char *word)
 {
-    return word[0] == '-' && word[1] != '\0' && !(word[1] >= '0' && word[1] <= '9') && strchr(word, '~') == NULL;
+    return word[0] == '-' && word[1] != '\0' && !is_digit(word[1]) && strchr(word, '~') == NULL;
 }
 
 int options_ask_help(int argc, char **argv)

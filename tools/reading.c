@@ -1,5 +1,7 @@
 #include "reading.h"
 
+#include "digits.h"
+
 /* The format, and how far the directive is read. */
 struct source {
     const struct format *format;
@@ -15,11 +17,6 @@ static int at_end(const struct source *source)
 static uint8_t peek(const struct source *source)
 {
     return at_end(source) ? 0 : source->format->bytes[source->next];
-}
-
-static int is_digit(uint8_t byte)
-{
-    return byte >= '0' && byte <= '9';
 }
 
 static int is_modifier(uint8_t byte)

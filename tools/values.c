@@ -1,5 +1,6 @@
 #include "values.h"
 
+#include "digits.h"
 #include "show.h"
 
 #include <string.h>
@@ -37,11 +38,6 @@ static int ahead(const struct source *source, char byte)
 static int is_blank(char byte)
 {
     return byte == ' ' || byte == '\t';
-}
-
-static int is_digit(char byte)
-{
-    return byte >= '0' && byte <= '9';
 }
 
 /* The value of a hexadecimal digit; 16 for any other byte. */

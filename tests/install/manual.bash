@@ -14,6 +14,11 @@ check_manual() {
         skip "man or groff is not there: the manual"
         return
     fi
+    # minimized images have a man that only says so
+    if [ -e "$prefix/share/man/man1/tilde.1" ] && [ ! -e "$(man -M "$prefix/share/man" -w 1 tilde 2>/dev/null)" ]; then
+        skip "this man finds no page: the manual"
+        return
+    fi
     mkdir "$room/text"
     for page in $(cd "$prefix/share/man" && ls -d man?/*); do
         if [[ $(head -n 1 "$prefix/share/man/$page") == .so* ]]; then continue; fi
