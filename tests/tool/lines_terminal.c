@@ -73,8 +73,8 @@ static FILE *rows_from(const char *rows)
 
 #define MOST_ROWS 6
 
-/* A run over rows of one integer, and what a person then sees. The clock says these milliseconds at the start and at each
-   row, so that no machine is too slow. */
+/* A run over rows of one integer, and what a person then sees. The clock says these milliseconds at the start and at
+   each row, so that no machine is too slow. */
 struct run {
     const char *what, *format, *rows;
     /* whether the lines go to the terminal too, and not only what is said */
