@@ -18,10 +18,10 @@ static int messages_open(void)
 
 int main(int argc, char **argv)
 {
-    if (!messages_open())
-        return STATUS_USAGE;
     /* a reader that is gone is an error of a write, with its status, and not a signal */
     signal(SIGPIPE, SIG_IGN);
+    if (!messages_open())
+        return STATUS_USAGE;
     const int status = tilde_command(argc, argv, stdin, stdout, stderr);
     if (fclose(stdout) == 0 || status == STATUS_USAGE)
         return status;

@@ -2,9 +2,7 @@
    answers to the same format and values, drawn beside the words. */
 #define _GNU_SOURCE
 #include "../../tools/verbs.h"
-#include "told.h"
-
-#include <signal.h>
+#include "failing.h"
 
 #define ROOM ((size_t)1 << 20)
 #define MOST_WORDS 12
@@ -21,62 +19,17 @@ static struct typed words[MOST_WORDS];
 static uint8_t room[TILDE_MOST_TABLE];
 static uint8_t buffer[ROOM];
 static size_t met[CODES], vets[CODES], usages, helps, notes;
-/* For the message of a failure: the seed, the words of the command line in hand, and whether all went well. */
-static uint64_t seed_given;
-static size_t words_given;
-static int passed;
-
-static void print_word(const struct typed *word)
-{
-    fputs(" $'", stderr);
-    for (size_t i = 0; i < word->length; i++) {
-        const unsigned char byte = (unsigned char)word->bytes[i];
-        fprintf(stderr, byte < 32 || byte > 126 || byte == '\'' || byte == '\\' ? "\\x%02x" : "%c", byte);
-    }
-    fputs("'", stderr);
-}
-
-/* At the end of the program. */
-static void show_failure(void)
-{
-    if (passed)
-        return;
-    fprintf(stderr, "seed %llu, command line %zu:\ntilde", (unsigned long long)seed_given, number);
-    for (size_t i = 0; i < words_given; i++)
-        print_word(words + i);
-    fputc('\n', stderr);
-}
-
-/* A sanitizer aborts, so that the failure is shown, which is done once. */
-static void on_abort(int signal)
-{
-    (void)signal;
-    show_failure();
-    passed = 1;
-}
-
-const char *__asan_default_options(void);
-const char *__ubsan_default_options(void);
-
-const char *__asan_default_options(void)
-{
-    return "abort_on_error=1";
-}
-
-const char *__ubsan_default_options(void)
-{
-    return "abort_on_error=1:print_stacktrace=1";
-}
 
 /* The command of the first words; `tilde` itself goes before them. */
 static struct ran run(size_t count)
 {
-    words_given = count;
     struct ran ran = {NULL, NULL, 0, 0, 0};
     char *argv[MOST_WORDS + 2] = {"tilde"};
     FILE *in = fopen("/dev/null", "r"), *out = open_memstream(&ran.out, &ran.out_length),
          *err = open_memstream(&ran.err, &ran.err_length);
     expect(in != NULL && out != NULL && err != NULL, "streams", number);
+    words_given = words;
+    words_count = count;
     for (size_t i = 0; i < count; i++)
         argv[i + 1] = words[i].bytes;
     ran.status = tilde_command((int)count + 1, argv, in, out, err);
@@ -298,21 +251,22 @@ static void run_seed(uint64_t given, size_t most)
     }
 }
 
-/* The words are how many command lines there are for each seed, and the seeds. */
+/* Its words are how many command lines to draw from each seed, and the seeds. */
 int main(int argc, char **argv)
 {
-    const size_t most = argc > 1 ? strtoul(argv[1], NULL, 10) : 50000;
-    expect(atexit(show_failure) == 0 && signal(SIGABRT, on_abort) != SIG_ERR, "what shows a failure", 0);
-    for (int i = 2; i < argc; i++)
-        run_seed(strtoull(argv[i], NULL, 10), most);
-    if (argc <= 2)
-        run_seed(20240229, most);
+    static char usual[] = "20240229", *const usual_seeds[] = {usual};
+    char *const *seeds = argc > 2 ? argv + 2 : usual_seeds;
+    const size_t each = argc > 1 ? strtoul(argv[1], NULL, 10) : 50000, count = argc > 2 ? (size_t)argc - 2 : 1;
+    const size_t most = each * count;
+    show_failures();
+    for (size_t i = 0; i < count; i++)
+        run_seed(strtoull(seeds[i], NULL, 10), each);
     passed = 1;
     print_counts("try", met);
     print_counts("vet", vets);
     printf("tests/tool/random.c: %zu command lines, %zu checks; %zu wrong usages, %zu helps; %zu proposals, of which "
            "%zu make "
            "the whole format right; %zu arguments named; %zu notes of values not used\n",
-           argc > 2 ? most * (size_t)(argc - 2) : most, checks, usages, helps, proposals, repaired, named, notes);
+           most, checks, usages, helps, proposals, repaired, named, notes);
     return 0;
 }
