@@ -179,8 +179,10 @@ void hint_steps(FILE *to, const struct format *format, size_t position)
     const int opens = walk_find(&walk, &loop) && loop.start == position && loop.code == '{';
     while (!opens && walk.depth > 0 && walk.open[walk.depth - 1].opener.code != '{')
         walk.depth--;
-    if (!opens && walk.depth == 0)
+    if (!opens && walk.depth == 0) {
+        fputs("each byte of text, each directive and each pass is a step, those of the loops before it too", to);
         return;
+    }
     if (!opens) {
         loop = walk.open[--walk.depth].opener;
         walk.next = loop.start;
@@ -188,7 +190,8 @@ void hint_steps(FILE *to, const struct format *format, size_t position)
     fputs("in the loop ", to);
     directive_name(to, &loop);
     fprintf(to, " at byte %zu; ", loop.start);
-    fputs(takes_nothing(&walk, &loop) ? "no pass of it takes an argument, so it never ends"
-                                      : "each byte of text, each directive and each pass is a step",
+    const int ends = loop.parameters[0].form != FORM_EMPTY || !takes_nothing(&walk, &loop);
+    fputs(ends ? "each byte of text, each directive and each pass is a step"
+               : "no pass of it takes an argument, so it never ends",
           to);
 }

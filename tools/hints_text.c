@@ -138,20 +138,22 @@ static void hint_closer(FILE *to, const struct format *format, const struct dire
     propose(to, "", format, directive->start, directive->end, &closer);
 }
 
-/* A conditional with a number of clauses that it does not have: another one has that number. */
+/* A conditional with a number of clauses that it does not have: another one has that number, or one is missing. */
 static void hint_clauses(FILE *to, const struct format *format, const struct directive *opener, size_t clauses)
 {
-    struct directive other = *opener;
-    other.colon = clauses == 2;
-    other.at = clauses == 1;
-    const struct spelling spelling = directive_spell(&other);
     directive_name(to, opener);
     fputs(opener->colon ? " has two clauses, for #f and for all else" : " has one clause, for all but #f", to);
     fprintf(to, clauses == 1 ? ", and here is %zu" : ", and here are %zu", clauses);
-    propose(to,
-            clauses == 1   ? "; one for all but #f is begun by"
-            : clauses == 2 ? "; two for #f and all else are begun by"
-                           : "; more of them, picked by number, are begun by",
+    if (clauses == 1) {
+        /* it may be meant for either */
+        fputs("; put ~; behind it, or before it where it is for all else", to);
+        return;
+    }
+    struct directive other = *opener;
+    other.colon = clauses == 2;
+    other.at = 0;
+    const struct spelling spelling = directive_spell(&other);
+    propose(to, clauses == 2 ? "; two for #f and all else are begun by" : "; more of them, picked by number, are begun by",
             format, opener->start, opener->end, &spelling);
 }
 
