@@ -19,7 +19,8 @@ static const char help[] =
     "\n"
     "pack joins the files of FOLDER in the order of their names, with a line for each.\n"
     "check reads all of PACK back, and compares each line with its member.\n"
-    "list prints the lines, each in a row, with control bytes as \\n or \\xHH.\n"
+    "list prints the lines, each in a row, with controls and what is no UTF-8 as \\n\n"
+    "or \\xHH.\n"
     "\n"
     "FORMAT makes a line out of these values, in this order:\n"
     "  name       string    of the file, at most 200 bytes\n"
@@ -77,7 +78,8 @@ static void check(const char *path)
     }
     progress(0, 0);
     pack_end(&pack);
-    printf("%s: %u member%s, each beside its own line\n", path, (unsigned)pack.count, pack.count == 1 ? "" : "s");
+    show(stdout, path, strlen(path));
+    printf(": %u member%s, each beside its own line\n", (unsigned)pack.count, pack.count == 1 ? "" : "s");
     free(line.bytes);
     pack_close(&pack);
 }

@@ -80,10 +80,13 @@ void line_begin(struct line *line, const char *name, const char *format, size_t 
     size_t position, count;
     const uint32_t code = tilde_vet((const uint8_t *)format, format_length, kinds, sizeof kinds, LONGEST_NAME,
                                     &position, &count);
-    if (refuses_all(code, format, format_length))
-        stop(REFUSED, NULL, "%s is refused (%u): %s, at byte %zu; for more, type\n"
-             "  tilde vet FORMAT string integer integer integer integer boolean list --longest %d",
-             name, (unsigned)code, tilde_words(code), position, LONGEST_NAME);
+    if (refuses_all(code, format, format_length)) {
+        complain(NULL, "%s is refused (%u): %s, at byte %zu; for more, type", name, (unsigned)code, tilde_words(code),
+                 position);
+        fprintf(stderr, "  tilde vet FORMAT string integer integer integer integer boolean list --longest %d\n",
+                LONGEST_NAME);
+        exit(REFUSED);
+    }
     *line = (struct line){.format = format, .format_length = format_length};
     /* a byte more, since a room of none may have no address */
     set_room(line, code == TILDE_DONE ? count + 1 : 128);

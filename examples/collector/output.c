@@ -47,25 +47,56 @@ static void name_new(void)
     free(copy);
 }
 
-/* All runs use one name for the new file, so that what a killed one left is written over and nothing piles up. A lock,
-   which goes when its process does, keeps two runs from writing there at a time; a file that another run has put in
-   place between open and lock is not this run's to write on. Until it is whole only its owner can read it, since its
-   mode may be as narrow as that. */
-static void open_new(void)
+static _Noreturn void in_the_way(void)
 {
-    struct flock all = {.l_type = F_WRLCK, .l_whence = SEEK_SET};
-    struct stat opened, named;
-    int file = -1;
-    if (atexit(remove_unfinished) == 0)
-        file = open(out.new_path, O_RDWR | O_CREAT | O_NOFOLLOW | O_CLOEXEC, 0600);
+    stop(FAILED, NULL, "%s is no file that a run of yours left: move it away, or name another pack", out.new_path);
+}
+
+static int open_path(void)
+{
+    const int file = open(out.new_path, O_RDWR | O_CREAT | O_NOFOLLOW | O_NONBLOCK | O_CLOEXEC, 0600);
+    /* a link, a socket or a folder */
+    if (file < 0 && (errno == ELOOP || errno == ENXIO || errno == EISDIR))
+        in_the_way();
     if (file < 0)
         cannot("write", out.new_path);
-    if (fcntl(file, F_SETLK, &all) != 0 || fstat(file, &opened) != 0 || lstat(out.new_path, &named) != 0 ||
-        opened.st_dev != named.st_dev || opened.st_ino != named.st_ino)
+    return file;
+}
+
+/* Whether the lock is had, and the file then still has its name: another run may have put it in place before. */
+static int lock(int file, struct stat *opened)
+{
+    struct flock all = {.l_type = F_WRLCK, .l_whence = SEEK_SET};
+    struct stat named;
+    if (fcntl(file, F_SETLK, &all) != 0) {
+        if (errno != EACCES && errno != EAGAIN)
+            cannot("lock", out.new_path);
+        return 0;
+    }
+    const int there = fstat(file, opened) == 0 && lstat(out.new_path, &named) == 0;
+    if (!there && errno != ENOENT)
+        cannot("lock", out.new_path);
+    return there && opened->st_dev == named.st_dev && opened->st_ino == named.st_ino;
+}
+
+/* All runs use one name for the new file, so that what a killed one left is written over and nothing piles up. A lock,
+   which goes when its process does, keeps two runs from writing there at a time. What another user, or another than a
+   run, has put there is neither written on nor removed. A second link would also take the lock away if it lies in the
+   folder that is packed: that goes when any descriptor of the file is closed. Until the file is whole only its owner
+   can read it, since its mode may be as narrow as that. */
+static void open_new(void)
+{
+    struct stat opened;
+    if (atexit(remove_unfinished) != 0)
+        cannot("write", out.new_path);
+    const int file = open_path();
+    if (!lock(file, &opened))
         stop(FAILED, NULL, "cannot lock %s: try again when no other run writes it", out.new_path);
+    if (!S_ISREG(opened.st_mode) || opened.st_nlink != 1 || opened.st_uid != geteuid())
+        in_the_way();
     out.unfinished = 1;
     out.file = fdopen(file, "wb");
-    if (out.file == NULL || ftruncate(file, 0) != 0)
+    if (out.file == NULL || fchmod(file, 0600) != 0 || ftruncate(file, 0) != 0)
         cannot("write", out.new_path);
 }
 
@@ -80,7 +111,7 @@ static void find_old(void)
         stop(FAILED, NULL, "%s is there and no regular file: name another pack", out.path);
     const mode_t mask = umask(0);
     umask(mask);
-    out.mode = out.replaces ? old.st_mode & 07777 : 0666 & ~mask;
+    out.mode = out.replaces ? old.st_mode & 0777 : 0666 & ~mask;
 }
 
 void output_begin(const char *path, int source)

@@ -8,6 +8,19 @@
 #include <sys/stat.h>
 #include <unistd.h>
 
+/* The parts are in order, and no larger than their members can make them: they are held in memory. */
+static void check_parts(const struct pack *pack)
+{
+    if (pack->size > PACK_MOST || pack->size < pack->index || pack->index < pack->lines ||
+        pack->lines < pack->format || pack->format < PACK_HEADER_BYTES)
+        stop(REFUSED, NULL, "%s is damaged: its parts do not follow each other", pack->path);
+    if (pack->lines - pack->format > TILDE_MOST_FORMAT)
+        stop(REFUSED, NULL, "%s is damaged: its format has more than %d bytes", pack->path, TILDE_MOST_FORMAT);
+    const uint64_t index = pack->size - pack->index, least = (uint64_t)pack->count * PACK_ENTRY_BYTES;
+    if (index < least || index - least > (uint64_t)pack->count * LONGEST_NAME)
+        stop(REFUSED, NULL, "%s is damaged: its index is not one of %u members", pack->path, (unsigned)pack->count);
+}
+
 void pack_open(struct pack *pack, const char *path)
 {
     uint8_t header[PACK_HEADER_BYTES] = {0};
@@ -26,9 +39,7 @@ void pack_open(struct pack *pack, const char *path)
     pack->format = get_number(header + 12);
     pack->lines = get_number(header + 16);
     pack->next_entry = pack->index = get_number(header + 20);
-    if (pack->size > PACK_MOST || pack->size < pack->index || pack->index < pack->lines ||
-        pack->lines < pack->format || pack->format < PACK_HEADER_BYTES)
-        stop(REFUSED, NULL, "%s is damaged: its parts do not follow each other", path);
+    check_parts(pack);
     pack->member = (struct member){.offset = PACK_HEADER_BYTES, .line = pack->lines};
     pack->tail = malloc(pack->size - pack->format + 1);
     if (pack->tail == NULL)

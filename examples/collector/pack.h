@@ -115,12 +115,12 @@ _Noreturn void pack_damaged(const struct pack *pack, const char *how);
 /* Reads exactly so many bytes of a pack. */
 void read_at(int pack, void *into, size_t length, uint32_t offset);
 
-/* Says what is wrong, with a member's name where it is of one; stop also ends the program. */
+/* Says what is wrong in one row, as show does, with a member's name where it is of one; stop also ends the program. */
 void complain(const struct member *of, const char *format, ...);
 _Noreturn void stop(enum status status, const struct member *of, const char *format, ...);
 /* Stops because of errno. */
 _Noreturn void cannot(const char *what, const char *path);
-/* Writes bytes as one row: control bytes and backslashes as \n, \t, \r, \\ and \xHH. */
+/* Writes bytes as one row: controls, backslashes and what is no UTF-8 as \n, \t, \r, \\ and \xHH. */
 void show(FILE *to, const char *bytes, size_t length);
 /* Says how far a run is, where standard error is a terminal; a complaint takes that away, and so does 0 of 0. */
 void progress(size_t done, size_t of);

@@ -172,7 +172,8 @@ enum status pack_folder(const char *format, const char *folder, const char *path
     output_begin(path, input.folder);
     length = write_pack(&input, &line);
     output_end(length);
-    printf("%s: %u member%s, %u bytes", path, (unsigned)input.count, input.count == 1 ? "" : "s", (unsigned)length);
+    show(stdout, path, strlen(path));
+    printf(": %u member%s, %u bytes", (unsigned)input.count, input.count == 1 ? "" : "s", (unsigned)length);
     if (input.left_out > 0)
         printf(", %zu left out", input.left_out);
     puts(input.left_out > MOST_NAMED ? ", not all of them named" : "");

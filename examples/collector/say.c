@@ -20,18 +20,57 @@ void progress(size_t done, size_t of)
     }
 }
 
+/* How many bytes the character of UTF-8 at the start has; 0 where none stands there, or a control: 127, and what is
+   below the least of one and of two bytes. */
+static size_t text_length(const uint8_t *bytes, size_t left)
+{
+    static const uint32_t least[] = {0, 0x20, 0xa0, 0x800, 0x10000};
+    const uint8_t lead = bytes[0];
+    const size_t length = lead < 0x80 ? 1 : lead < 0xc2 ? 0 : lead < 0xe0 ? 2 : lead < 0xf0 ? 3 : lead < 0xf5 ? 4 : 0;
+    uint32_t code = length == 1 ? lead : lead & 0x7fu >> length;
+    if (length > left)
+        return 0;
+    for (size_t i = 1; i < length; i++) {
+        if ((bytes[i] & 0xc0) != 0x80)
+            return 0;
+        code = code << 6 | (bytes[i] & 0x3f);
+    }
+    return code < least[length] || code == 127 ? 0 : length;
+}
+
 void show(FILE *to, const char *bytes, size_t length)
 {
     static const char escaped[] = "\n\t\r\\", letters[] = "ntr\\";
+    size_t text = 0;
     for (size_t i = 0; i < length; i++) {
         const char *const found = memchr(escaped, bytes[i], sizeof escaped - 1);
+        if (text == 0)
+            text = text_length((const uint8_t *)bytes + i, length - i);
         if (found != NULL)
             fprintf(to, "\\%c", letters[found - escaped]);
-        else if ((unsigned char)bytes[i] < 32 || bytes[i] == 127)
-            fprintf(to, "\\x%02x", (unsigned)bytes[i]);
+        else if (text == 0)
+            fprintf(to, "\\x%02x", (unsigned)(uint8_t)bytes[i]);
         else
             putc(bytes[i], to);
+        text -= text > 0;
     }
+}
+
+/* Says a message, which may have a path in it, as one row; without its values where there is no memory for them. */
+static void say_text(const char *format, va_list values)
+{
+    va_list again;
+    va_copy(again, values);
+    const int length = vsnprintf(NULL, 0, format, again);
+    va_end(again);
+    char *const text = length < 0 ? NULL : malloc((size_t)length + 1);
+    if (text == NULL) {
+        fputs(format, stderr);
+        return;
+    }
+    vsnprintf(text, (size_t)length + 1, format, values);
+    show(stderr, text, (size_t)length);
+    free(text);
 }
 
 static void say(const struct member *of, const char *format, va_list values)
@@ -43,7 +82,7 @@ static void say(const struct member *of, const char *format, va_list values)
         show(stderr, of->name, of->name_length);
         fputs("\": ", stderr);
     }
-    vfprintf(stderr, format, values);
+    say_text(format, values);
     putc('\n', stderr);
 }
 

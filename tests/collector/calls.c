@@ -184,6 +184,13 @@ int __wrap_fcntl(int file, int command, ...)
     return due() ? -1 : __real_fcntl(file, command, lock);
 }
 
+uid_t __real_geteuid(void);
+uid_t __wrap_geteuid(void);
+uid_t __wrap_geteuid(void)
+{
+    return __real_geteuid() + (plan == OTHERS);
+}
+
 int __real_isatty(int file);
 int __wrap_isatty(int file);
 int __wrap_isatty(int file)

@@ -25,6 +25,8 @@ enum plan {
     UNREADABLE,
     /* another run puts the new pack in place before it is locked */
     RACED,
+    /* the files of this user are those of another */
+    OTHERS,
     /* standard error is a terminal */
     TERMINAL
 };

@@ -5,6 +5,7 @@
 #include "calls.h"
 #include "runs.h"
 #include <errno.h>
+#include <fcntl.h>
 #include <signal.h>
 #include <sys/mman.h>
 #include <sys/resource.h>
@@ -157,6 +158,7 @@ static void fail_calls(void)
             expect(stands(late ? new : old), "the old pack, or a new one that is told", i, &answer);
             failed++;
         }
+        expect(!says(&answer, "no other run"), "the cause, where there is no other run", i, &answer);
         /* without the lock it may be the file of another run */
         expect(access("new.pack.new", F_OK) != 0 || says(&answer, "cannot lock"), "nothing is left behind", i, &answer);
         calls->came = came;
@@ -179,11 +181,14 @@ static void limit_size(void)
     most = RLIM_INFINITY;
 }
 
-/* A file that changes is left out, and told; the others are packed. */
+/* A file that changes is left out, and told; the others are packed. Its time is an old one before, since a coarse clock
+   may not go on between two writes. */
 static void change_file(enum plan its_plan, const char *why)
 {
-    struct answer answer = run(pack, its_plan, 0);
+    const struct timespec times[2] = {{.tv_sec = 1000000000}, {.tv_sec = 1000000000}};
     char told[128];
+    expect(utimensat(AT_FDCWD, "files/" FILE_IN_PLAN, times, 0) == 0, "an old time", its_plan, NULL);
+    struct answer answer = run(pack, its_plan, 0);
     snprintf(told, sizeof told, "collector: \"%s\": left out: %s\n", FILE_IN_PLAN, why);
     expect(answer.status == 1 && strncmp(answer.said, told, strlen(told)) == 0, "told", its_plan, &answer);
     expect(says(&answer, ": 11 members, ") && says(&answer, ", 1 left out\n"), "counted", its_plan, &answer);
@@ -210,21 +215,37 @@ static void meet(void)
     struct answer answer;
     struct stat unfinished;
     write_whole("new.pack", old.at, old.length);
+    /* as a run leaves it that is killed before the new name */
+    write_whole("new.pack.new", old.at, old.length);
+    expect(chmod("new.pack.new", 0644) == 0, "a file that is left", 0, NULL);
     const struct child first = start(pack, STOPPED, 60);
     int status;
     expect(waitpid(first.number, &status, WUNTRACED) == first.number && WIFSTOPPED(status), "stopped", 0, NULL);
     expect(stat("new.pack.new", &unfinished) == 0, "stopped while it writes", 0, NULL);
     expect((unfinished.st_mode & 0777) == 0600, "its owner's alone until it is whole", 0, NULL);
     answer = run(pack, PLAIN, 0);
-    expect(answer.status == 2 && says(&answer, "cannot lock new.pack.new: "), "one at a time", 0, &answer);
+    expect(answer.status == 2 && says(&answer, "cannot lock new.pack.new: try again"), "one at a time", 0, &answer);
     expect(stands(old), "the old pack", 0, &answer);
     kill(first.number, SIGCONT);
     answer = end(first);
     expect(answer.status == 0 && stands(new), "the first ends well", 0, &answer);
     write_whole("new.pack", old.at, old.length);
     answer = run(pack, RACED, 0);
-    expect(answer.status == 2 && says(&answer, "cannot lock new.pack.new: "), "raced", 0, &answer);
+    expect(answer.status == 2 && says(&answer, "cannot lock new.pack.new: try again"), "raced", 0, &answer);
     expect(stands(old) && unlink("other.pack") == 0, "the old pack, and what the other run put in place", 0, &answer);
+}
+
+/* What another user left is neither written on nor removed. */
+static void leave_others(void)
+{
+    write_whole("new.pack", old.at, old.length);
+    write_whole("new.pack.new", "theirs", 6);
+    const struct answer answer = run(pack, OTHERS, 0);
+    const struct bytes theirs = read_whole("new.pack.new");
+    expect(answer.status == 2 && says(&answer, "new.pack.new is no file that a run of yours left"), "told", 0, &answer);
+    expect(theirs.length == 6 && memcmp(theirs.at, "theirs", 6) == 0, "as it was", 0, &answer);
+    expect(stands(old) && unlink("new.pack.new") == 0, "the old pack", 0, &answer);
+    free(theirs.at);
 }
 
 static void show_progress(void)
@@ -266,6 +287,7 @@ int main(void)
     change_file(GONE, "No such file or directory");
     change_file(UNREADABLE, "Permission denied");
     meet();
+    leave_others();
     show_progress();
     printf("tests/collector/faults.c: %zu checks\n", checks);
     free(old.at);
