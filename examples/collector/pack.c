@@ -8,7 +8,7 @@
 #include <sys/stat.h>
 #include <unistd.h>
 
-/* The parts are in order, and no larger than their members can make them: they are held in memory. */
+/* The parts are in order, and the format and the index no larger than they can be, before they are held in memory. */
 static void check_parts(const struct pack *pack)
 {
     if (pack->size > PACK_MOST || pack->size < pack->index || pack->index < pack->lines ||
