@@ -100,7 +100,8 @@ static void open_new(void)
         cannot("write", out.new_path);
 }
 
-/* The new pack has the mode of the old one or, where there is none, that of any new file. */
+/* The new pack has the mode of the old one or, where there is none, that of any new file. The old one may be another
+   user's, so the bits that would run the new one as its owner are not taken over. */
 static void find_old(void)
 {
     struct stat old;
