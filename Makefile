@@ -75,18 +75,18 @@ PROVED_FROM := crates.txt $(shell find crates \( -name edits -o -name must-fail 
 rt_there = @command -v rt >/dev/null || { echo 'make: $@ is missing or older than crates/, and rt, which' \
     'builds it, is not there: install the Rattle kit and put its rt on the PATH' >&2; exit 1; }
 
+# rt proves two crates at a time where it is told of all of them at once: then an archive proves its own crate again.
+target/bin/jobs: $(PROVED_FROM)
+	$(rt_there)
+	rt check jobs tilde tilde_windows
+	touch $@
 ARCHIVES := $(patsubst %,target/staticlib/lib%.a,tilde tilde_windows probe)
-$(ARCHIVES): target/staticlib/lib%.a: $(PROVED_FROM)
+$(ARCHIVES): target/staticlib/lib%.a: $(PROVED_FROM) | target/bin/jobs
 	$(rt_there)
 	rt staticlib $*
 	touch $@
-target/bin/jobs: $(PROVED_FROM)
-	$(rt_there)
-	rt check jobs
-	touch $@
 target/staticlib/libtilde_windows.a: | target/staticlib/libtilde.a
-target/bin/jobs: | target/staticlib/libtilde_windows.a
-target/staticlib/libprobe.a: | target/bin/jobs
+target/staticlib/libprobe.a: | target/staticlib/libtilde_windows.a
 
 # Objects: those that rt built, as they are, and those of tools/. exports.o is also part of the shared library.
 PROVED := build/proved/tilde.o build/proved/tilde_windows.o

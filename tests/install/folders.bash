@@ -52,12 +52,12 @@ check_without_rt() {
         ln -s "$(command -v "$program")" "$bare/$program"
     done
     same "make calls neither rt nor gcc again" "" "$(make -n | grep -E '^(rt|gcc) ' || true)"
-    same "what rt proves after a change" $'rt staticlib tilde\nrt staticlib tilde_windows\nrt check jobs' \
+    same "what rt proves after a change" $'rt check jobs tilde tilde_windows\nrt staticlib tilde\nrt staticlib tilde_windows' \
         "$(make -n -W crates.txt | grep '^rt ')"
     cp target/staticlib/libtilde.a "$room/before.a"
     PATH="$bare" refused "sources newer than the archives, without rt" "install the Rattle kit" -W crates.txt
     check "the archive is still there" cmp "$room/before.a" target/staticlib/libtilde.a
     cp -r Makefile crates.txt crates include tools man docs bindings tilde.pc.in "$bare"
-    PATH="$bare" refused "no archives and no rt" "target/staticlib/libtilde.a is missing" -C "$bare" -j 4
+    PATH="$bare" refused "no archives and no rt" "target/bin/jobs is missing" -C "$bare" -j 4
     same "nothing is built before that" "" "$(ls -d "$bare/build" 2>/dev/null || true)"
 }
