@@ -146,8 +146,22 @@ static void check_typed(void)
            "a word to who types rows", shown);
 }
 
+/* Whether this machine gives terminals. */
+static int has_terminals(void)
+{
+    const int person = posix_openpt(O_RDWR | O_NOCTTY);
+    if (person < 0)
+        return 0;
+    close(person);
+    return 1;
+}
+
 int main(void)
 {
+    if (!has_terminals()) {
+        puts("lines_terminal: skipped, since this machine gives no terminal");
+        return 0;
+    }
     for (size_t i = 0; i < sizeof runs / sizeof runs[0]; i++)
         check_run(runs + i);
     check_typed();
