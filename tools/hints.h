@@ -16,7 +16,7 @@ void hint_parameter(FILE *to, const struct format *format, const struct directiv
 void hint_argument(FILE *to, const struct directive *directive, uint32_t code, const struct hand *hand);
 
 /* Code 9, at any byte. */
-void hint_steps(FILE *to, const struct format *format, size_t position);
+void hint_steps(FILE *to, const struct call *call, size_t position);
 
 /* Code 11 of a vet. */
 void hint_not_plain(FILE *to, const struct format *format, const struct directive *directive, const struct hand *hand);

@@ -1,8 +1,10 @@
 #include "hints.h"
 #include "judging.h"
+#include "running.h"
 #include "wording.h"
 
 #include <inttypes.h>
+#include <string.h>
 #include <tilde.h>
 
 /* How many there are, as `is 1`. */
@@ -162,8 +164,7 @@ static int takes_nothing(struct walk *walk, const struct directive *opener)
     const size_t depth = walk->depth;
     walk_past(walk, opener);
     while (walk_find(walk, &directive) && walk->depth > depth) {
-        const struct rule *rule = directive_rule(&directive);
-        if (rule == NULL || rule->kinds != 0 || rule->letter == '*' || rule->letter == '{' ||
+        if (takes_argument(&directive) || directive.code == '*' || directive.code == '{' ||
             directive_v(&directive) < MOST_PLACES)
             return 0;
         walk_past(walk, &directive);
@@ -171,12 +172,35 @@ static int takes_nothing(struct walk *walk, const struct directive *opener)
     return 1;
 }
 
-void hint_steps(FILE *to, const struct format *format, size_t position)
+/* Where the last step before the limit was done: a byte put before the format is a step as well, so there the limit is
+   met at that one. Where the format has no room for the byte, the place of the refused step. */
+static size_t step_before(const struct call *call, size_t position)
 {
-    struct walk walk = walk_to(format, position);
+    uint8_t bytes[TILDE_MOST_FORMAT];
+    if (call->format_length >= sizeof bytes)
+        return position;
+    bytes[0] = 'x';
+    memcpy(bytes + 1, call->format, call->format_length);
+    const struct call later = {bytes, call->format_length + 1, call->table, call->table_length};
+    return line_learn(&later).ending.position - 1;
+}
+
+/* Whether the step that was refused at a loop is a pass of it: only then was the step before done in the loop. */
+static int is_pass(const struct call *call, struct walk walk, const struct directive *opener)
+{
+    struct directive closer;
+    size_t separators;
+    const size_t before = step_before(call, opener->start);
+    return before >= opener->start && walk_to_closer(&walk, opener, &closer, &separators) && before < closer.start;
+}
+
+void hint_steps(FILE *to, const struct call *call, size_t position)
+{
+    const struct format format = {call->format, call->format_length};
+    struct walk walk = walk_to(&format, position);
     struct directive loop;
-    /* a pass is refused at its opener */
-    const int opens = walk_find(&walk, &loop) && loop.start == position && loop.code == '{';
+    const int opens = walk_find(&walk, &loop) && loop.start == position && loop.code == '{' &&
+                      is_pass(call, walk, &loop);
     while (!opens && walk.depth > 0 && walk.open[walk.depth - 1].opener.code != '{')
         walk.depth--;
     if (!opens && walk.depth == 0) {

@@ -102,6 +102,8 @@ struct refused {
     size_t position;
     struct directive directive;
     const struct hand *hand;
+    /* null for a vet */
+    const struct call *call;
 };
 
 static void print_hint(FILE *to, const struct refused *refused)
@@ -109,7 +111,7 @@ static void print_hint(FILE *to, const struct refused *refused)
     if (refused->code <= TILDE_BAD_PARAMETER)
         print_text_hint(to, &refused->format, refused->code, &refused->directive);
     else if (refused->code == TILDE_STEP_LIMIT)
-        hint_steps(to, &refused->format, refused->position);
+        hint_steps(to, refused->call, refused->position);
     else if (refused->code == TILDE_NOT_PLAIN)
         hint_not_plain(to, &refused->format, &refused->directive, refused->hand);
     else
@@ -140,7 +142,7 @@ static void print_place(FILE *err, struct refused *refused)
 
 void refusal_print(FILE *err, const struct call *call, uint32_t code, size_t position)
 {
-    struct refused refused = {{call->format, call->format_length}, code, position, {.start = position}, NULL};
+    struct refused refused = {{call->format, call->format_length}, code, position, {.start = position}, NULL, call};
     struct hand hand;
     print_head(err, code, position);
     fputc('\n', err);
@@ -168,7 +170,7 @@ static void print_field(FILE *err, const struct refused *refused)
 
 void refusal_print_row(FILE *err, const struct call *call, uint32_t code, size_t position)
 {
-    struct refused refused = {{call->format, call->format_length}, code, position, {.start = position}, NULL};
+    struct refused refused = {{call->format, call->format_length}, code, position, {.start = position}, NULL, call};
     struct hand hand;
     if (code > TILDE_BAD_PARAMETER && code < TILDE_STEP_LIMIT) {
         refused.directive = directive_read(&refused.format, position);
@@ -203,7 +205,8 @@ static void print_question(FILE *err, const struct question *question)
 
 void refusal_print_vet(FILE *err, const struct question *question, uint32_t code, size_t position)
 {
-    struct refused refused = {{question->format, question->format_length}, code, position, {.start = position}, NULL};
+    const struct format format = {question->format, question->format_length};
+    struct refused refused = {format, code, position, {.start = position}, NULL, NULL};
     const struct walk walk = walk_to(&refused.format, position);
     const struct hand hand = {NULL, question->kinds, 0, question->kinds_length, walk.taken};
     refused.hand = &hand;
