@@ -56,28 +56,33 @@ static void hint_letter(FILE *to, const struct format *format, const struct dire
     const size_t at = directive->end - 1;
     const uint8_t code = directive->code;
     const char *instead = guile_only(code);
-    const struct shown shown = show_next(format->bytes + at, format->length - at);
-    if (instead != NULL) {
-        fprintf(to, "~%c is not supported: in Guile it is %s\n  directives are ", code, instead);
-        print_all_directives(to);
-    } else if (code == '\r') {
+    const int blank = code == ' ' || code == '\t', escaped = format_escaped(format->bytes, format->length);
+    const struct shown shown = show_format(format->bytes + at, format->length - at, escaped);
+    if (instead != NULL)
+        fprintf(to, "~%c is not supported: in Guile it is %s", code, instead);
+    else if (code == '\r')
         fputs("a tilde at the end of a line stands right before the newline, and here a return is between", to);
-    } else if (code == '.') {
+    else if (code == '.')
         fputs("parameters are parted by commas, and there are no fractions here", to);
-    } else {
-        fprintf(to, "~%s", code == ' ' || code == '\t' ? " and a blank" : shown.text);
-        fputs(" is no directive; to print a tilde, write ~~\n  directives are ", to);
-        print_all_directives(to);
-    }
+    else if (blank && at > directive->start + 1)
+        fputs("no blank stands inside a directive; to print a tilde, write ~~", to);
+    else
+        fprintf(to, "~%s is no directive; to print a tilde, write ~~", blank ? " and a blank" : shown.text);
+    fputs("\n  directives are ", to);
+    print_all_directives(to);
 }
 
-/* A character of several bytes in a place: behind a quote its first byte is taken, and the next one is no directive. */
+/* A character of several bytes where one belongs: behind a quote its first byte is taken, and the next one is no
+   directive; the quote may be missing behind a comma. */
 static int hint_wide(FILE *to, const struct format *format, const struct directive *directive)
 {
     const size_t end = directive->end;
     if (directive->code < 0x80 || directive->count == 0)
         return 0;
-    const size_t at = format->bytes[end - 3] == '\'' ? end - 2 : end - 1;
+    const int quoted = format->bytes[end - 3] == '\'';
+    if (!quoted && format->bytes[end - 2] != ',')
+        return 0;
+    const size_t at = quoted ? end - 2 : end - 1;
     const size_t bytes = utf8_length(format->bytes + at, format->length - at);
     const struct shown shown = show_next(format->bytes + at, format->length - at);
     if (bytes > 1)
@@ -90,10 +95,11 @@ void hint_unknown(FILE *to, const struct format *format, const struct directive 
     struct meaning meaning;
     if (directive->slip == SLIP_END) {
         hint_end(to, format, directive);
+    } else if (directive_meaning(format, directive, &meaning) &&
+               propose(to, meaning.wrong, format, directive->start, meaning.end, &meaning.instead)) {
+        return;
     } else if (directive->slip == SLIP_NONE || directive->slip == SLIP_NUMBER) {
-        if (!(directive_meaning(format, directive, &meaning) &&
-              propose(to, meaning.wrong, format, directive->start, meaning.end, &meaning.instead)) &&
-            !hint_wide(to, format, directive))
+        if (!hint_wide(to, format, directive))
             hint_letter(to, format, directive);
     } else {
         hint_shape(to, directive);
@@ -131,11 +137,15 @@ static void hint_closer(FILE *to, const struct format *format, const struct dire
                 directive->code == ']' ? '[' : '{');
         return;
     }
-    const struct spelling closer = {.bytes = {'~', closer_of(inside->opener.code)}, .length = 2};
+    const uint8_t letter = closer_of(inside->opener.code);
+    const struct spelling closer = {.bytes = {'~', letter}, .length = 2};
+    const struct spelling both = {.bytes = {'~', letter, '~', directive->code}, .length = 4};
     fputs("the block open here is the ", to);
     directive_name(to, &inside->opener);
-    fprintf(to, " at byte %zu, which ~%c closes", inside->opener.start, closer.bytes[1]);
-    propose(to, "", format, directive->start, directive->end, &closer);
+    fprintf(to, " at byte %zu, which ~%c closes", inside->opener.start, letter);
+    /* in its place, or before it where it closes a block around that one */
+    if (!propose(to, "", format, directive->start, directive->end, &closer))
+        propose(to, "", format, directive->start, directive->end, &both);
 }
 
 /* A conditional with a number of clauses that it does not have: another one has that number, or one is missing. */

@@ -11,8 +11,8 @@ struct meaning {
     struct spelling instead;
 };
 
-/* Finds a quote that is missing or mistyped before a character, or a blank before the letter: without that mistake the
-   directive fits. Answers 0 where there is none. */
+/* Finds a quote that is missing or mistyped before a character, or stands behind it too, or a blank before the letter:
+   without that mistake the directive fits. Answers 0 where there is none. */
 int directive_meaning(const struct format *format, const struct directive *directive, struct meaning *meaning);
 
 #endif
