@@ -115,27 +115,52 @@ static int as_number(struct parameter *parameter, const struct rule *rule, int p
     return 1;
 }
 
-/* The first place for characters that nothing is written in; MOST_PLACES where there is none. */
+static int is_empty(const struct parameter *parameter)
+{
+    return parameter->form == FORM_EMPTY || parameter->badness == SIGN_ALONE;
+}
+
+/* The padchar, if nothing is written there, else with : the commachar; MOST_PLACES where a byte would do nothing. */
 static size_t free_character(const struct directive *directive, const struct rule *rule)
 {
-    size_t i = 0;
-    while (i < places_of(rule) && !(rule->places[i].character && directive->parameters[i].form == FORM_EMPTY))
-        i++;
-    return i < places_of(rule) ? i : MOST_PLACES;
+    for (size_t i = 0, characters = 0; i < places_of(rule); i++) {
+        if (!rule->places[i].character)
+            continue;
+        if (is_empty(directive->parameters + i) && (characters == 0 || directive->colon))
+            return i;
+        characters++;
+    }
+    return MOST_PLACES;
+}
+
+/* Whether a padchar has something to fill: a minwidth or, for ~a and ~s, a minpad. */
+static int has_padding(const struct directive *directive, const struct rule *rule)
+{
+    return !is_empty(directive->parameters) || (!rule->places[2].character && !is_empty(directive->parameters + 2));
 }
 
 /* A number where a character belongs. Before a place for numbers, as commachar before commawidth, it is one place too
-   early. */
+   early. Right behind the minwidth it is a precision, which there is not, and a byte behind that one the padchar. */
 static void fit_character(struct directive *directive, const struct rule *rule, size_t i)
 {
     struct parameter *parameter = directive->parameters + i;
+    const struct parameter was = *parameter;
     const int early = i + 1 < places_of(rule) && !rule->places[i + 1].character;
-    if (early && parameter->form == FORM_NUMBER && parameter->value > 0 && parameter[1].form == FORM_EMPTY)
-        parameter[1] = *parameter;
-    if (early && parameter->form == FORM_NUMBER)
-        *parameter = (struct parameter){.form = FORM_EMPTY};
-    else
-        *parameter = as_byte(parameter);
+    *parameter = (struct parameter){.form = FORM_EMPTY};
+    if (was.badness == SIGN_ALONE)
+        return;
+    if (early && was.form == FORM_NUMBER && was.value > 0 && is_empty(parameter + 1)) {
+        parameter[1] = was;
+    } else if (i == 1 && was.form == FORM_NUMBER && was.value > 0 && !is_empty(directive->parameters)) {
+        if (!directive->colon && parameter[1].form == FORM_BYTE) {
+            parameter[0] = parameter[1];
+            parameter[1] = (struct parameter){.form = FORM_EMPTY};
+        }
+    } else {
+        if (!early || was.form != FORM_NUMBER)
+            *parameter = as_byte(&was);
+        directive->lost = directive->lost || is_empty(parameter);
+    }
 }
 
 /* Makes the parameter in place i fit. A byte among numbers goes to the place for characters, and a number that stands
@@ -156,17 +181,22 @@ static void fit_place(struct directive *directive, const struct rule *rule, size
     const struct parameter byte = *parameter;
     *parameter = exchanged ? parameter[1] : (struct parameter){.form = FORM_EMPTY};
     to = exchanged ? i + 1 : to;
-    if (to < MOST_PLACES)
+    if (to < MOST_PLACES && has_padding(directive, rule))
         directive->parameters[to] = byte;
+    else
+        directive->lost = 1;
 }
 
-/* The directive with its parameters made to fit the rule. */
-static struct directive fitted(const struct directive *directive, const struct rule *rule)
+/* The directive with its parameters made to fit the rule. Those beyond its places may go where the hint tells of them. */
+static struct directive fitted(const struct directive *directive, const struct rule *rule, int told)
 {
     struct directive made = *directive;
     const size_t places = places_of(rule);
-    for (size_t i = places; i < MOST_PLACES; i++)
+    made.lost = made.lost && !told;
+    for (size_t i = places; i < MOST_PLACES; i++) {
+        made.lost = made.lost || (!told && !is_empty(made.parameters + i));
         made.parameters[i] = (struct parameter){.form = FORM_EMPTY};
+    }
     made.count = places;
     for (size_t i = 0; i < places; i++)
         fit_place(&made, rule, i);
@@ -183,13 +213,14 @@ static int propose_with(FILE *to, const struct format *format, const struct dire
     made.colon = colon;
     made.at = at;
     const struct rule *rule = directive_rule(&made);
+    const struct parameter *first = made.parameters;
     /* the nearest charnum is another character, and of no use */
-    if (rule == NULL || (rule->letter == 'c' && made.parameters[0].form == FORM_NUMBER &&
-                         made.parameters[0].value > rule->places[0].most))
+    if (rule == NULL || (rule->letter == 'c' && first->form == FORM_NUMBER &&
+                         (first->badness == NUMBER_BELOW || first->value > rule->places[0].most)))
         return 0;
-    made = fitted(&made, rule);
+    made = fitted(&made, rule, directive->slip == SLIP_NONE && directive_rule(directive) == rule);
     const struct spelling spelling = directive_spell(&made);
-    return propose(to, "", format, directive->start, directive->end, &spelling);
+    return !made.lost && propose(to, "", format, directive->start, directive->end, &spelling);
 }
 
 int propose_fitting(FILE *to, const struct format *format, const struct directive *directive)
@@ -199,7 +230,7 @@ int propose_fitting(FILE *to, const struct format *format, const struct directiv
     if (lower(directive->code) == 'c' && directive->count > 1) {
         struct directive shown = *directive;
         shown.code = 'a';
-        return directive->slip == SLIP_NONE && propose_with(to, format, &shown, 0, at);
+        return directive->slip == SLIP_NONE && !directive->lost && propose_with(to, format, &shown, 0, at);
     }
     /* a jump by a number below 0 is one back */
     if (directive->code == '*' && directive->parameters[0].badness == NUMBER_BELOW && !colon && !at)

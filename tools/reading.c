@@ -70,6 +70,21 @@ static struct parameter read_parameter(struct source *source)
     return quoted;
 }
 
+/* A number right behind a parameter: behind the byte of the first place it is the width, which belongs there, and behind
+   the same digit as a byte it is nothing more. Any other has no place. */
+static void take_loose(struct directive *directive, struct parameter number)
+{
+    const size_t last = directive->count - 1;
+    const int byte = last < MOST_PLACES && directive->parameters[last].form == FORM_BYTE;
+    if (byte && last == 0) {
+        directive->parameters[1] = directive->parameters[0];
+        directive->parameters[0] = number;
+        directive->count = 2;
+    } else if (!byte || number.value + '0' != directive->parameters[last].value) {
+        directive->lost = 1;
+    }
+}
+
 /* Puts a parameter into the place in hand, and says what is wrong with where it stands. */
 static void take_parameter(struct directive *directive, struct source *source, int filled)
 {
@@ -80,13 +95,16 @@ static void take_parameter(struct directive *directive, struct source *source, i
     const struct parameter parameter = read_parameter(source);
     if (parameter.badness != NUMBER_GOOD)
         slip(directive, SLIP_NUMBER);
-    /* a number without a comma is more likely a mistake than a parameter of its own */
-    if (filled && parameter.form == FORM_NUMBER)
+    if (filled && parameter.form == FORM_NUMBER) {
+        take_loose(directive, parameter);
         return;
+    }
     if (directive->count == 0 || filled)
         directive->count++;
     if (directive->count <= MOST_PLACES)
         directive->parameters[directive->count - 1] = parameter;
+    else
+        directive->lost = 1;
 }
 
 static void take_comma(struct directive *directive, struct source *source)

@@ -34,6 +34,8 @@ struct directive {
     uint8_t code;
     /* a bad number, a modifier again, a parameter behind a modifier, one without its comma, or the end of the format */
     enum slip slip;
+    /* whether a parameter was written that is not among those that are kept */
+    int lost;
 };
 
 /* Reads the directive whose tilde is at `start`. */
