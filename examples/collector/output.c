@@ -9,6 +9,8 @@
 #include <sys/stat.h>
 #include <unistd.h>
 
+#define NEW ".new"
+
 /* The path of the pack and its folder, whether a pack stands there, the mode of the new one, its file, and whether that
    has to be removed. */
 static struct {
@@ -37,14 +39,24 @@ static void remove_unfinished(void)
 static void name_new(void)
 {
     char *const copy = strdup(out.path);
-    out.new_path = malloc(strlen(out.path) + sizeof ".new");
+    out.new_path = malloc(strlen(out.path) + sizeof NEW);
     if (copy == NULL || out.new_path == NULL)
         cannot("write", out.path);
-    strcat(strcpy(out.new_path, out.path), ".new");
+    strcat(strcpy(out.new_path, out.path), NEW);
     out.folder = open(dirname(copy), O_RDONLY | O_DIRECTORY | O_CLOEXEC);
     if (out.folder < 0)
         cannot("write", out.path);
     free(copy);
+}
+
+/* A pack with the name of an unfinished one would be taken for what a killed run left. */
+static void refuse_name(const char *path)
+{
+    const size_t length = strlen(path), ending = strlen(NEW);
+    if (length == 0)
+        stop(FAILED, NULL, "the pack has no name: type one");
+    if (length >= ending && strcmp(path + length - ending, NEW) == 0)
+        stop(FAILED, NULL, "%s has the name of a pack that is not whole yet: name one that does not end in " NEW, path);
 }
 
 static _Noreturn void in_the_way(void)
@@ -79,11 +91,23 @@ static int lock(int file, struct stat *opened)
     return there && opened->st_dev == named.st_dev && opened->st_ino == named.st_ino;
 }
 
+/* Whether a file begins as a run that was killed leaves it: with zeros for the header, which comes last, or with the
+   header, right before it gets its name. */
+static int is_left(int file)
+{
+    static const uint8_t zeros[PACK_MAGIC_BYTES] = {0};
+    uint8_t bytes[PACK_MAGIC_BYTES];
+    const ssize_t taken = pread(file, bytes, sizeof bytes, 0);
+    if (taken < 0)
+        cannot("read", out.new_path);
+    return memcmp(bytes, zeros, (size_t)taken) == 0 || memcmp(bytes, PACK_MAGIC, (size_t)taken) == 0;
+}
+
 /* All runs use one name for the new file, so that what a killed one left is written over and nothing piles up. A lock,
-   which goes when its process does, keeps two runs from writing there at a time. What another user, or another than a
-   run, has put there is neither written on nor removed. A second link would also take the lock away if it lies in the
-   folder that is packed: that goes when any descriptor of the file is closed. Until the file is whole only its owner
-   can read it, since its mode may be as narrow as that. */
+   which goes when its process does, keeps two runs from writing there at a time. What another user put there, or what
+   does not begin as a run leaves it, is neither written on nor removed. A second link would also take the lock away if
+   it lies in the folder that is packed: that goes when any descriptor of the file is closed. Until the file is whole
+   only its owner can read it, since its mode may be as narrow as that. */
 static void open_new(void)
 {
     struct stat opened;
@@ -93,6 +117,8 @@ static void open_new(void)
     if (!lock(file, &opened))
         stop(FAILED, NULL, "cannot lock %s: try again when no other run writes it", out.new_path);
     if (!S_ISREG(opened.st_mode) || opened.st_nlink != 1 || opened.st_uid != geteuid())
+        in_the_way();
+    if (opened.st_size > 0 && !is_left(file))
         in_the_way();
     out.unfinished = 1;
     out.file = fdopen(file, "wb");
@@ -118,8 +144,7 @@ static void find_old(void)
 void output_begin(const char *path, int source)
 {
     struct stat to, from;
-    if (path[0] == '\0')
-        stop(FAILED, NULL, "the pack has no name: type one");
+    refuse_name(path);
     out.path = path;
     name_new();
     if (fstat(out.folder, &to) != 0 || fstat(source, &from) != 0)

@@ -20,8 +20,8 @@ void progress(size_t done, size_t of)
     }
 }
 
-/* How many bytes the character of UTF-8 at the start has; 0 where none stands there, or a control: 127, and what is
-   below the least of one and of two bytes. */
+/* How many bytes the character of UTF-8 at the start has; 0 where none stands there, as for a surrogate or above
+   0x10ffff, or a control: 127, and what is below the least of one and of two bytes. */
 static size_t text_length(const uint8_t *bytes, size_t left)
 {
     static const uint32_t least[] = {0, 0x20, 0xa0, 0x800, 0x10000};
@@ -35,7 +35,8 @@ static size_t text_length(const uint8_t *bytes, size_t left)
             return 0;
         code = code << 6 | (bytes[i] & 0x3f);
     }
-    return code < least[length] || code == 127 ? 0 : length;
+    const int none = (code >= 0xd800 && code < 0xe000) || code > 0x10ffff;
+    return none || code < least[length] || code == 127 ? 0 : length;
 }
 
 void show(FILE *to, const char *bytes, size_t length)
@@ -59,18 +60,22 @@ void show(FILE *to, const char *bytes, size_t length)
 /* Says a message, which may have a path in it, as one row; without its values where there is no memory for them. */
 static void say_text(const char *format, va_list values)
 {
+    char some[256], *text = some;
     va_list again;
     va_copy(again, values);
-    const int length = vsnprintf(NULL, 0, format, again);
+    const int length = vsnprintf(some, sizeof some, format, again);
     va_end(again);
-    char *const text = length < 0 ? NULL : malloc((size_t)length + 1);
-    if (text == NULL) {
-        fputs(format, stderr);
-        return;
+    if (length >= (int)sizeof some) {
+        text = malloc((size_t)length + 1);
+        if (text != NULL)
+            vsnprintf(text, (size_t)length + 1, format, values);
     }
-    vsnprintf(text, (size_t)length + 1, format, values);
-    show(stderr, text, (size_t)length);
-    free(text);
+    if (length < 0 || text == NULL)
+        fputs(format, stderr);
+    else
+        show(stderr, text, (size_t)length);
+    if (text != some)
+        free(text);
 }
 
 static void say(const struct member *of, const char *format, va_list values)
