@@ -140,21 +140,24 @@ class Refused(Exception):
     position  the byte of the format, for Code.BAD_TABLE of the table
     steps     the steps done
     written   the bytes of the pieces before the refused one; for windows empty, since those were handed out
+    cause     which of the causes of Code.BAD_KINDS it is; else empty
     words     the words for the code
     """
 
-    def __init__(self, code: int, position: int, steps: int = 0, written: bytes = b"") -> None:
-        super().__init__(code, position, steps, written)
+    def __init__(self, code: int, position: int, steps: int = 0, written: bytes = b"", cause: str = "") -> None:
+        super().__init__(code, position, steps, written, cause)
         self.code = Code(code)
         self.position = position
         self.steps = steps
         self.written = written
+        self.cause = cause
         self.words = words(code)
 
     def __str__(self) -> str:
         of = "table" if self.code == Code.BAD_TABLE else "format"
         where = "" if self.code == Code.BAD_KINDS else f", at byte {self.position} of the {of}"
-        return f"{self.words}{where} (code {int(self.code)})"
+        cause = self.cause and f": {self.cause}"
+        return f"{self.words}{where}{cause} (code {int(self.code)})"
 
 
 class Char(int):
@@ -187,7 +190,7 @@ def _number(value: Any) -> int:
         raise TypeError(f"{type(value).__name__} is no kind of value: give a bool, int, str, bytes or tilde.Char, or a "
                         "list or tuple of them") from None
     if not -2**63 <= number < 2**63:
-        raise ValueError(f"an integer of {number.bit_length()} bits is outside the signed 64 bits of a value")
+        raise ValueError("an integer has 64 bits, -2**63 to 2**63 - 1, and this one is outside")
     return number
 
 
@@ -248,6 +251,8 @@ class Answer(NamedTuple):
 
 def _answer(call: Callable[..., int], size: int, *given: Any) -> Answer:
     size = _count(size)
+    if size < 0:
+        raise ValueError("the room for a text has 0 bytes or more")
     window = (c_char * size)()
     position, steps, written = c_size_t(), c_size_t(), c_size_t()
     code = call(*given, window, size, byref(position), byref(steps), byref(written))
@@ -318,17 +323,25 @@ def format(fmt: Text, *values: Value) -> bytes:
     return b"".join(parts)
 
 
-_KINDS = {bool: Kind.BOOLEAN, int: Kind.INTEGER, Char: Kind.CHARACTER, str: Kind.STRING, bytes: Kind.STRING,
-          list: Kind.LIST, tuple: Kind.LIST}
+_KINDS = {bool: Kind.BOOLEAN, int: Kind.INTEGER, Char: Kind.CHARACTER, list: Kind.LIST, tuple: Kind.LIST,
+          **dict.fromkeys(_TEXTS, Kind.STRING)}
 
 
 def _tag(kind: Any) -> int:
     if isinstance(kind, type) and kind in _KINDS:
         return _KINDS[kind]
-    if isinstance(kind, int):
+    # a value where its type is meant
+    if isinstance(kind, int) and not isinstance(kind, (bool, Char)):
         # no kind has the tag 255
         return kind if 0 <= kind <= 255 else 255
     raise TypeError(f"{kind!r} is no kind: give bool, int, tilde.Char, str, bytes, list or a tilde.Kind")
+
+
+def _bad_kinds(tags: bytes) -> str:
+    if len(tags) > MOST_KINDS:
+        return f"there are {len(tags):,} kinds"
+    unknown = (i for i, tag in enumerate(tags) if tag > max(Kind))
+    return next((f"kind {i}, the first being 0, is no tilde.Kind" for i in unknown), "the longest is above 4,096")
 
 
 def vet(fmt: Text, kinds: Iterable[Union[type, int]], longest: int) -> int:
@@ -341,5 +354,5 @@ def vet(fmt: Text, kinds: Iterable[Union[type, int]], longest: int) -> int:
     position, count = c_size_t(), c_size_t()
     code = _vet(text, len(text), tags, len(tags), min(longest, MOST_LONGEST + 1), byref(position), byref(count))
     if code != Code.DONE:
-        raise Refused(code, position.value)
+        raise Refused(code, position.value, cause=_bad_kinds(tags) if code == Code.BAD_KINDS else "")
     return count.value

@@ -141,7 +141,8 @@ static inline int tilde_table_character(tilde_table *table, unsigned character)
 static inline int tilde_table_string(tilde_table *table, const void *bytes, size_t length)
 {
     /* until the end its offset is counted from the end of the pool backwards */
-    if (!tilde_table_add(table, TILDE_STRING, (uint64_t)(table->pool + length) << 32 | length, length))
+    const uint64_t offset = table->pool + length;
+    if (!tilde_table_add(table, TILDE_STRING, offset << 32 | length, length))
         return 0;
     if (length > 0)
         memcpy(table->room + table->size - table->pool, bytes, length);
@@ -152,7 +153,8 @@ static inline int tilde_table_string(tilde_table *table, const void *bytes, size
 static inline int tilde_table_list_begin(tilde_table *table)
 {
     /* until the end it holds the list around it, and how many values it has */
-    if (!tilde_table_add(table, TILDE_LIST, (uint64_t)table->list << 32, 0))
+    const uint64_t around = table->list;
+    if (!tilde_table_add(table, TILDE_LIST, around << 32, 0))
         return 0;
     table->list = table->entries;
     return 1;

@@ -48,11 +48,11 @@ static void print_met(FILE *to, const struct hand *hand, size_t argument, unsign
     hand_show(to, hand, argument);
 }
 
-/* Which directive takes the kind that was met. */
-static void print_instead(FILE *to, const struct rule *rule, unsigned kind)
+/* Which directive takes the kind that was met; a vet refuses the one for a list. */
+static void print_instead(FILE *to, const struct rule *rule, const struct hand *hand, unsigned kind)
 {
     if (kind == TILDE_LIST)
-        fputs("; ~{ goes over a list", to);
+        fputs(hand->table == NULL ? "; lines with the values of a list cannot be counted" : "; ~{ goes over a list", to);
     else if (rule->letter == '[')
         fputs("; ~:[ tells #f from all else", to);
     else if (rule->letter != '{')
@@ -120,7 +120,7 @@ static void print_finding(FILE *to, const struct directive *directive, const str
         print_missing(to, hand, finding->argument);
     } else {
         print_met(to, hand, finding->argument, rule->kinds);
-        print_instead(to, rule, hand_kind(hand, finding->argument));
+        print_instead(to, rule, hand, hand_kind(hand, finding->argument));
         if (directive->count > 1 && directive->count <= places_of(rule) &&
             directive->parameters[directive->count - 1].form == FORM_EMPTY)
             fprintf(to, "; if %c is meant as a character, write '%c", directive->code, directive->code);

@@ -126,12 +126,17 @@ static int run(int argc, char **argv, const struct streams *io)
         print_overview(io->err);
         return STATUS_USAGE;
     }
-    if (strcmp(name, "help") == 0 && argc > 3) {
+    const int asks_help = strcmp(name, "--help") == 0 || strcmp(name, "-h") == 0 || strcmp(name, "help") == 0;
+    if (asks_help && argc > 3) {
         fputs("tilde help: one verb at a time; type tilde help VERB\n", io->err);
         return STATUS_USAGE;
     }
-    if (strcmp(name, "--help") == 0 || strcmp(name, "-h") == 0 || strcmp(name, "help") == 0)
+    if (asks_help)
         return help(argc > 2 && !options_ask_help(1, argv + 2) ? argv[2] : NULL, io);
+    if (strcmp(name, "--version") == 0 && argc > 2) {
+        fputs("tilde --version: nothing stands behind it\n", io->err);
+        return STATUS_USAGE;
+    }
     if (strcmp(name, "--version") == 0) {
         fprintf(io->out, "tilde %s\n", TILDE_VERSION);
         return STATUS_DONE;

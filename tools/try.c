@@ -51,6 +51,15 @@ static size_t read_values(int argc, char **argv, uint8_t *room, size_t size, FIL
     return tilde_table_end(&table);
 }
 
+/* Whether a walk is inside a loop over a list, whose values are what a directive sees there. */
+static int in_list(const struct walk *walk)
+{
+    for (size_t i = 0; i < walk->depth; i++)
+        if (walk->open[i].opener.code == '{' && !walk->open[i].opener.at)
+            return 1;
+    return 0;
+}
+
 /* Whether a directive looks at arguments without taking them, or goes to others: what is left may have been used. */
 static int looks_around(const struct directive *directive)
 {
@@ -67,9 +76,16 @@ static void note_left(const struct call *call, FILE *err)
     struct walk walk = {.format = &format};
     struct directive directive;
     struct hand hand;
-    for (; walk_find(&walk, &directive); walk_past(&walk, &directive))
+    /* how many were taken where a ~^ last looked at the next one */
+    size_t looked = SIZE_MAX;
+    for (; walk_find(&walk, &directive); walk_past(&walk, &directive)) {
         if (looks_around(&directive))
             return;
+        if (directive.code == '^' && !in_list(&walk))
+            looked = walk.taken;
+    }
+    if (looked == walk.taken)
+        return;
     if (arguments_of(call->table) == 0 || !hand_at_end(call, &hand) || hand.next == hand.count)
         return;
     fputs("tilde: ", err);

@@ -47,7 +47,7 @@ class Values(unittest.TestCase):
         self.assertEqual(tilde.format("~d ~d", least, greatest), b"%d %d" % (least, greatest))
         self.assertEqual(tilde.format("~d", Index(7)), b"7")
         for number in greatest + 1, least - 1, 10**5000, Index(greatest + 1):
-            self.refused("64 bits", number)
+            self.refused("64 bits, -2..63 to 2..63 - 1, and this one is outside", number)
 
     def test_characters(self):
         self.assertEqual(tilde.format("~c~c~c", tilde.Char("A"), tilde.Char(b"B"), tilde.Char(67)), b"ABC")
@@ -133,6 +133,10 @@ class Windows(unittest.TestCase):
         for call in tilde.windows, lambda fmt, size: tilde.format_table(fmt, tilde.table(), size):
             with self.assertRaisesRegex(TypeError, "a number of bytes is an int, not float"):
                 call("abc", size=2.5)
+        for call in lambda size: tilde.format_table("abc", tilde.table(), size), tilde.Line("abc", tilde.table()).window:
+            with self.assertRaisesRegex(ValueError, "the room for a text has 0 bytes or more"):
+                call(-1)
+            self.assertEqual(call(0).written, b"")
         self.assertEqual(list(tilde.windows("")), [])
         self.assertEqual(list(tilde.windows("abc", size=10**6)), [b"abc"])
         self.assertEqual(max(map(len, tilde.windows("~4096_"))), 512)
@@ -177,7 +181,9 @@ class Vets(unittest.TestCase):
         self.assertEqual(tilde.vet(fmt, (bytes, int, tilde.Char, bool, tuple), longest=5), count)
         self.assertEqual(tilde.vet(fmt, iter([tilde.Kind.STRING, tilde.Kind.INTEGER, tilde.Kind.CHARACTER,
                                               tilde.Kind.BOOLEAN, tilde.Kind.LIST]), 5), count)
-        for kinds in "si", [float], [None], [1.0], [{}]:
+        for text in bytearray, memoryview:
+            self.assertEqual(tilde.vet(fmt, [text, int, tilde.Char, bool, list], 5), count)
+        for kinds in "si", [float], [None], [1.0], [{}], [True], [False], [tilde.Char(1)]:
             with self.assertRaisesRegex(TypeError, "is no kind: give"):
                 tilde.vet("", kinds, 0)
 
@@ -188,6 +194,13 @@ class Vets(unittest.TestCase):
             self.assertEqual(self.refused("", [kind], 0), tilde.Code.BAD_KINDS)
         for given in ("", [int] * (tilde.MOST_KINDS + 1), 0), ("", [], tilde.MOST_LONGEST + 1), ("", [], 2**64):
             self.assertEqual(self.refused(*given), tilde.Code.BAD_KINDS)
+        for kinds, longest, cause in (([int] * 1025, 5, "there are 1,025 kinds"), ([int, 5], 9999, "kind 1, "),
+                                      ([int], 4097, "the longest is above 4,096")):
+            with self.assertRaises(tilde.Refused) as caught:
+                tilde.vet("", kinds, longest)
+            self.assertTrue(caught.exception.cause.startswith(cause))
+            self.assertIn(f"above 4,096: {cause}", str(caught.exception))
+            self.assertEqual(str(pickle.loads(pickle.dumps(caught.exception))), str(caught.exception))
         with self.assertRaisesRegex(ValueError, "0 bytes or more"):
             tilde.vet("", [], -1)
         self.assertEqual(self.refused("~*", [int], 0), tilde.Code.NOT_PLAIN)
