@@ -92,6 +92,6 @@ int main(void)
     version();
     fresh();
     table();
-    printf("%lu checks\n", (unsigned long)checks);
+    printf("%zu checks\n", checks);
     return 0;
 }
