@@ -115,6 +115,12 @@ static int as_number(struct parameter *parameter, const struct rule *rule, int p
     return 1;
 }
 
+static void lose(struct directive *directive, enum loss loss)
+{
+    if (directive->lost < loss)
+        directive->lost = loss;
+}
+
 static int is_empty(const struct parameter *parameter)
 {
     return parameter->form == FORM_EMPTY || parameter->badness == SIGN_ALONE;
@@ -152,6 +158,7 @@ static void fit_character(struct directive *directive, const struct rule *rule, 
     if (early && was.form == FORM_NUMBER && was.value > 0 && is_empty(parameter + 1)) {
         parameter[1] = was;
     } else if (i == 1 && was.form == FORM_NUMBER && was.value > 0 && !is_empty(directive->parameters)) {
+        lose(directive, LOST_PRECISION);
         if (!directive->colon && parameter[1].form == FORM_BYTE) {
             parameter[0] = parameter[1];
             parameter[1] = (struct parameter){.form = FORM_EMPTY};
@@ -159,7 +166,8 @@ static void fit_character(struct directive *directive, const struct rule *rule, 
     } else {
         if (!early || was.form != FORM_NUMBER)
             *parameter = as_byte(&was);
-        directive->lost = directive->lost || is_empty(parameter);
+        if (is_empty(parameter))
+            lose(directive, LOST_PARAMETER);
     }
 }
 
@@ -184,17 +192,19 @@ static void fit_place(struct directive *directive, const struct rule *rule, size
     if (to < MOST_PLACES && has_padding(directive, rule))
         directive->parameters[to] = byte;
     else
-        directive->lost = 1;
+        lose(directive, LOST_PARAMETER);
 }
 
-/* The directive with its parameters made to fit the rule. Those beyond its places may go where the hint tells of them. */
+/* The directive with its parameters made to fit the rule. Those beyond its places may go where the hint tells of
+   them. */
 static struct directive fitted(const struct directive *directive, const struct rule *rule, int told)
 {
     struct directive made = *directive;
     const size_t places = places_of(rule);
-    made.lost = made.lost && !told;
+    made.lost = told ? LOST_NOTHING : made.lost;
     for (size_t i = places; i < MOST_PLACES; i++) {
-        made.lost = made.lost || (!told && !is_empty(made.parameters + i));
+        if (!told && !is_empty(made.parameters + i))
+            lose(&made, LOST_PARAMETER);
         made.parameters[i] = (struct parameter){.form = FORM_EMPTY};
     }
     made.count = places;
@@ -218,9 +228,13 @@ static int propose_with(FILE *to, const struct format *format, const struct dire
     if (rule == NULL || (rule->letter == 'c' && first->form == FORM_NUMBER &&
                          (first->badness == NUMBER_BELOW || first->value > rule->places[0].most)))
         return 0;
-    made = fitted(&made, rule, directive->slip == SLIP_NONE && directive_rule(directive) == rule);
+    const int told = directive->slip == SLIP_NONE && directive_rule(directive) == rule;
+    made = fitted(&made, rule, told);
     const struct spelling spelling = directive_spell(&made);
-    return !made.lost && propose(to, "", format, directive->start, directive->end, &spelling);
+    /* the hint of the second place tells it as well */
+    const int tells = made.lost == LOST_PRECISION && !(told && first_wrong(directive, rule) == 1);
+    return made.lost != LOST_PARAMETER && propose(to, tells ? "; there is no precision" : "", format,
+                                                  directive->start, directive->end, &spelling);
 }
 
 int propose_fitting(FILE *to, const struct format *format, const struct directive *directive)
@@ -230,7 +244,8 @@ int propose_fitting(FILE *to, const struct format *format, const struct directiv
     if (lower(directive->code) == 'c' && directive->count > 1) {
         struct directive shown = *directive;
         shown.code = 'a';
-        return directive->slip == SLIP_NONE && !directive->lost && propose_with(to, format, &shown, 0, at);
+        return directive->slip == SLIP_NONE && directive->lost == LOST_NOTHING &&
+               propose_with(to, format, &shown, 0, at);
     }
     /* a jump by a number below 0 is one back */
     if (directive->code == '*' && directive->parameters[0].badness == NUMBER_BELOW && !colon && !at)

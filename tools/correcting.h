@@ -10,8 +10,8 @@ int propose(FILE *to, const char *lead, const struct format *format, size_t star
             const struct spelling *instead);
 
 /* The same without a lead for a directive, with all its parameters and modifiers made to fit its letter, or that of ~a
-   for a ~c with a width; nothing where a parameter would be lost. Only those that have no place by the hint, and a
-   precision, may go. */
+   for a ~c with a width; nothing where a parameter would be lost. Only those that have no place by the hint may go, and
+   a precision, which is told. */
 int propose_fitting(FILE *to, const struct format *format, const struct directive *directive);
 
 /* Whether a byte stands where a number belongs, or a number where a byte does. */

@@ -52,7 +52,7 @@ static void print_met(FILE *to, const struct hand *hand, size_t argument, unsign
 static void print_instead(FILE *to, const struct rule *rule, const struct hand *hand, unsigned kind)
 {
     if (kind == TILDE_LIST)
-        fputs(hand->table == NULL ? "; lines with the values of a list cannot be counted" : "; ~{ goes over a list", to);
+        fputs(hand->table == NULL ? "; a vet cannot count lines with a list" : "; ~{ goes over a list", to);
     else if (rule->letter == '[')
         fputs("; ~:[ tells #f from all else", to);
     else if (rule->letter != '{')

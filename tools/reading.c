@@ -70,8 +70,8 @@ static struct parameter read_parameter(struct source *source)
     return quoted;
 }
 
-/* A number right behind a parameter: behind the byte of the first place it is the width, which belongs there, and behind
-   the same digit as a byte it is nothing more. Any other has no place. */
+/* A number right behind a parameter: behind the byte of the first place it is the width, which belongs there, and
+   behind the same digit as a byte it is nothing more. Any other has no place. */
 static void take_loose(struct directive *directive, struct parameter number)
 {
     const size_t last = directive->count - 1;
@@ -81,7 +81,7 @@ static void take_loose(struct directive *directive, struct parameter number)
         directive->parameters[0] = number;
         directive->count = 2;
     } else if (!byte || number.value + '0' != directive->parameters[last].value) {
-        directive->lost = 1;
+        directive->lost = LOST_PARAMETER;
     }
 }
 
@@ -104,7 +104,7 @@ static void take_parameter(struct directive *directive, struct source *source, i
     if (directive->count <= MOST_PLACES)
         directive->parameters[directive->count - 1] = parameter;
     else
-        directive->lost = 1;
+        directive->lost = LOST_PARAMETER;
 }
 
 static void take_comma(struct directive *directive, struct source *source)

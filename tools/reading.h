@@ -25,6 +25,10 @@ struct parameter {
 /* The first thing at which the reading leaves the shape of a directive. */
 enum slip { SLIP_NONE, SLIP_NUMBER, SLIP_MODIFIER, SLIP_LATE, SLIP_COMMA, SLIP_END };
 
+/* What was written and is not among the parameters that are kept: nothing, a precision, which no directive has, or
+   another parameter. */
+enum loss { LOST_NOTHING, LOST_PRECISION, LOST_PARAMETER };
+
 /* A directive from its tilde to behind its code. Of many parameters only those that could have a place are kept. */
 struct directive {
     size_t start, end;
@@ -34,8 +38,7 @@ struct directive {
     uint8_t code;
     /* a bad number, a modifier again, a parameter behind a modifier, one without its comma, or the end of the format */
     enum slip slip;
-    /* whether a parameter was written that is not among those that are kept */
-    int lost;
+    enum loss lost;
 };
 
 /* Reads the directive whose tilde is at `start`. */

@@ -133,7 +133,8 @@ class Windows(unittest.TestCase):
         for call in tilde.windows, lambda fmt, size: tilde.format_table(fmt, tilde.table(), size):
             with self.assertRaisesRegex(TypeError, "a number of bytes is an int, not float"):
                 call("abc", size=2.5)
-        for call in lambda size: tilde.format_table("abc", tilde.table(), size), tilde.Line("abc", tilde.table()).window:
+        table = tilde.table()
+        for call in lambda size: tilde.format_table("abc", table, size), tilde.Line("abc", table).window:
             with self.assertRaisesRegex(ValueError, "the room for a text has 0 bytes or more"):
                 call(-1)
             self.assertEqual(call(0).written, b"")
