@@ -111,7 +111,7 @@ def cases(name, separator, count):
 def lines():
     for place, answer, fmt, given, room in cases("lines.txt", " | ", 4):
         code, position, steps, written = answer.split(" ", 3)
-        yield Line(place, tilde.Answer(int(code), int(position), int(steps), text(written)), text(fmt), values(given),
+        yield Line(place, tilde.Answer(int(code), int(position), int(steps), text(written)), text(fmt), table(given),
                    int(room))
 
 

@@ -10,8 +10,7 @@ fn calls() {
     let cases = vectors::lines();
     for case in &cases {
         let mut buffer = vec![0xee; case.room];
-        let table = encode(&case.arguments);
-        let answer = tilde::format(&case.format, &table, &mut buffer);
+        let answer = tilde::format(&case.format, &case.table, &mut buffer);
         let expected = (case.code, case.position, case.steps, case.text.len());
         assert_eq!(answer, expected, "{:?}", case.place);
         let (text, beyond) = buffer.split_at(case.text.len());

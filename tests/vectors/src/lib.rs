@@ -38,7 +38,7 @@ pub struct LineCase {
     pub steps: usize,
     pub text: Vec<u8>,
     pub format: Vec<u8>,
-    pub arguments: Vec<Value>,
+    pub table: Vec<u8>,
     pub room: usize,
 }
 
@@ -109,7 +109,7 @@ pub fn lines() -> Vec<LineCase> {
         "lines.txt",
         include_str!("../lines.txt"),
         |place, fields| {
-            let [answer, format, arguments, room] = split(fields, " | ", &place);
+            let [answer, format, table, room] = split(fields, " | ", &place);
             let [code, position, steps, text] = split(answer, " ", &place);
             LineCase {
                 code: number(code, &place),
@@ -117,7 +117,7 @@ pub fn lines() -> Vec<LineCase> {
                 steps: number(steps, &place),
                 text: text_field(text, &place),
                 format: text_field(format, &place),
-                arguments: arguments_field(arguments, &place),
+                table: table_field(table, &place),
                 room: number(room, &place),
                 place,
             }
@@ -468,7 +468,7 @@ mod tests {
         assert_eq!(vets().len(), whole(include_str!("../vets.txt")));
         assert_eq!(windows().len(), whole(include_str!("../windows.txt")));
         assert!(formats().len() >= 855 && tables().len() >= 132);
-        assert!(lines().len() >= 367 && vets().len() >= 70);
+        assert!(lines().len() >= 368 && vets().len() >= 70);
         assert!(windows().len() >= 60);
     }
 }

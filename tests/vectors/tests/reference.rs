@@ -1,7 +1,7 @@
 //! The reference formatter and the cases, each written from the documents
 //! alone, agree on every case.
 
-use reference::{check_format, check_table, encode, format, vet, Answer, Vetted, Windows, MORE};
+use reference::{check_format, check_table, format, vet, Answer, Vetted, Windows, MORE};
 use vectors::{formats, lines, tables, vets, windows};
 
 fn code_and_position(result: Result<(), (u32, usize)>) -> (u32, usize) {
@@ -38,7 +38,7 @@ fn calls() {
             steps: case.steps,
             text: case.text.clone(),
         };
-        let answer = format(&case.format, &encode(&case.arguments), case.room);
+        let answer = format(&case.format, &case.table, case.room);
         assert_eq!(answer, expected, "{:?}", case.place);
     }
     println!("lines.txt: {} calls agree", cases.len());
