@@ -1,6 +1,6 @@
 -- From what is written to the answer that the definition gives: of numbers and text, of a frame, of a line.
 -- Assumes nothing.
-use Prim.Native.Nat.{ℕ, _+_, _-_, _*_, _≤_, _<_}
+use Prim.Native.Nat.{ℕ, _+_, _-_, _*_, _/_, _≤_, _<_}
 use mathlib.Core.Path.{_≡_, sym, ap, _∙_}
 use mathlib.Core.Bool.{Bool, true, false}
 use mathlib.Core.List.{List, _++_}
@@ -9,11 +9,13 @@ use lib.ListN.{length, getD, take, drop, length-drop}
 use lib.Seq.{take-all, take-at}
 use borrow.Author.Tests.{le-leb, lt-leb}
 use Rattle.rules.specs.Answer.{Answer, answerOf, Answers}
-use Rattle.rules.specs.Job.{inPairs, formatEnd, formatIn, tableIn, isWhole, hexOf, numbersOf, answerBytes, noFrame, answerFrame, answerLine}
+use Rattle.rules.specs.Job.{inPairs, frameOf, formatEnd, formatIn, tableIn, isWhole, hexOf, numbersOf, answerBytes, noFrame, answerFrame, answerLine}
 use Rattle.rules.specs.Table.{be16At}
 use Rattle.rules.proofs.AnswerBounds.{answer-within}
 use Rattle.rules.proofs.JobLaws.{line-short}
-use Rattle.lines.specs.Front.{AtFront, Decoded}
+use Rattle.lines.specs.Front.{over, AtFront}
+use Rattle.lines.specs.Lent.{readBytes, Decoded, frameBytes, frameText, lineText, FrameAnswered, LineAnswered}
+use Rattle.lines.proofs.Decoding.{all-read, frame-length}
 use Rattle.lines.proofs.Hexing.{front-then}
 
 -- another name for what is written
@@ -43,16 +45,20 @@ end-is frame p q = omega arith
 
 module _ (frame : List ℕ) {b a : List ℕ} {n : ℕ} where
   -- bytes that do not hold the length, or not the whole format
-  pub no-length : length frame < 2 → AtFront b a noFrame n → AtFront b a (answerFrame frame) n
-  unfolding answerFrame isWhole
-  no-length h w = rw (lt-leb 2 (length frame) h) w
+  pub no-length : {text : List ℕ} → length frame < 2 → AtFront b a noFrame n → FrameAnswered frame text text b a n
+  unfolding answerFrame frameText isWhole
+  no-length h w =
+      let short = lt-leb 2 (length frame) h in
+      record { answer = rw short w; text-is = rw short }
 
   module _ {x y : ℕ} (p : x ≡ getD frame 0 0) (q : y ≡ getD frame 1 0) (long : 2 ≤ length frame) where
-    pub cut-short : length frame < 2 + x * 256 + y → AtFront b a noFrame n → AtFront b a (answerFrame frame) n
-    unfolding answerFrame isWhole
+    pub cut-short : {text : List ℕ} → length frame < 2 + x * 256 + y → AtFront b a noFrame n
+        → FrameAnswered frame text text b a n
+    unfolding answerFrame frameText isWhole
     cut-short h w =
-        let short : length frame < formatEnd frame = omega (arith, end-is frame p q) in
-        rw (le-leb 2 (length frame) long, lt-leb (formatEnd frame) (length frame) short) w
+        let begun = le-leb 2 (length frame) long in
+        let short = lt-leb (formatEnd frame) (length frame) (omega (arith, end-is frame p q)) in
+        record { answer = rw (begun, short) w; text-is = rw (begun, short) }
 
     -- a frame, whose answer is written
     pub frame-answered : {before after : List ℕ} {code position steps count : ℕ} → 2 + x * 256 + y ≤ length frame
@@ -61,8 +67,8 @@ module _ (frame : List ℕ) {b a : List ℕ} {n : ℕ} where
         before after code position steps count
         → length before ≡ 16384
         → AtFront b a (hexOf (numbersOf code position steps count ++ take (count - 0) after)) n
-        → AtFront b a (answerFrame frame) n
-    unfolding answerFrame isWhole answerBytes
+        → FrameAnswered frame before after b a n
+    unfolding answerFrame frameText isWhole answerBytes
     frame-answered {before} {after} {code} {position} {steps} {count} h answers room w =
         let whole : formatEnd frame ≤ length frame = omega (arith, end-is frame p q) in
         let size : 2 + x * 256 + y - 2 ≡ be16At frame 0 = omega (arith, end-is frame p q) in
@@ -77,34 +83,59 @@ module _ (frame : List ℕ) {b a : List ℕ} {n : ℕ} where
         ap (answerOf (formatIn frame) (tableIn frame)) room in
         let here : count - 0 ≡ count = omega arith in
         let counted : count ≡ length (r .text) = given .written-is ∙ ap (λ (z : Answer). length (z .text)) same in
+        let left : after ≡ over (r .text) before =
+        given .buffer-is ∙ ap (λ (z : Answer). z .text ++ drop count before) same
+        ∙ ap (λ (i : ℕ). r .text ++ drop i before) counted
+        in
         let text : take (count - 0) after ≡ r .text =
-        rw (here, given .buffer-is, same) (take-at (r .text) (drop count before) count (sym counted))
+        rw (here, left) (take-at (r .text) (drop (length (r .text)) before) count (sym counted))
         in
         let c : code ≡ r .code = given .code-is ∙ ap (λ (z : Answer). z .code) same in
         let p : position ≡ r .position = given .position-is ∙ ap (λ (z : Answer). z .position) same in
         let s : steps ≡ r .steps = given .steps-is ∙ ap (λ (z : Answer). z .steps) same in
-        rw (le-leb 2 (length frame) long, le-leb (formatEnd frame) (length frame) whole)
-        (rw (text, c, p, s, counted) at w)
+        let begun = le-leb 2 (length frame) long in
+        let all = le-leb (formatEnd frame) (length frame) whole in
+        record {
+          answer = rw (begun, all) (rw (text, c, p, s, counted) at w);
+          text-is = rw (begun, all) left;
+        }
 
 module _ (line : List ℕ) {b a : List ℕ} {n : ℕ} where
-  pub too-long : 65535 < length line → AtFront b a noFrame n → AtFront b a (answerLine line) n
-  unfolding answerLine
-  too-long h w = rw (lt-leb (length line) 65535 h) w
+  pub too-long : {frame text : List ℕ} → 65535 < length line → AtFront b a noFrame n
+      → LineAnswered line frame frame text text b a n
+  unfolding answerLine frameBytes lineText
+  too-long h w =
+      let long = lt-leb (length line) 65535 h in
+      record { answer = rw long w; frame-is = rw long; text-is = rw long }
 
-  module _ {frame : List ℕ} {count : ℕ} {r : Bool} (h : length line ≤ 65535) (d : Decoded line frame count r) where
-    pub not-digits : r ≡ false → AtFront b a noFrame n → AtFront b a (answerLine line) n
-    unfolding answerLine
+  module _ {before frame : List ℕ} {r : Bool} (h : length line ≤ 65535) (d : Decoded line before frame r) where
+    pub not-digits : {text : List ℕ} → r ≡ false → AtFront b a noFrame n
+        → LineAnswered line before frame text text b a n
+    unfolding answerLine frameBytes lineText
     not-digits e w =
+        let fits = le-leb (length line) 65535 h in
         let f : inPairs line ≡ false = sym (d .paired-is) ∙ e in
-        rw (le-leb (length line) 65535 h, f) w
+        record { answer = rw (fits, f) w; frame-is = rw fits (d .frame-is); text-is = rw (fits, f) }
 
-    pub line-answered : r ≡ true → AtFront b a (answerFrame (take (count - 0) frame)) n
-        → AtFront b a (answerLine line) n
-    unfolding answerLine
-    line-answered e w =
+    pub line-answered : {text₀ text₁ : List ℕ} → r ≡ true
+        → FrameAnswered (take (length line / 2 - 0) frame) text₀ text₁ b a n
+        → LineAnswered line before frame text₀ text₁ b a n
+    unfolding answerLine frameBytes lineText
+    line-answered {text₀} {text₁} e w =
+        let fits = le-leb (length line) 65535 h in
         let t : inPairs line ≡ true = sym (d .paired-is) ∙ e in
-        let here : count - 0 ≡ count = omega arith in
-        rw (le-leb (length line) 65535 h, t) (rw (here, d .bytes-are t) at w)
+        let read : readBytes line ≡ frameOf line = all-read line t in
+        let here : length line / 2 - 0 ≡ length line / 2 = omega arith in
+        let bytes : take (length line / 2 - 0) frame ≡ frameOf line =
+        rw (here, d .frame-is, read)
+        (take-at (frameOf line) (drop (length (frameOf line)) before) (length line / 2) (frame-length line t))
+        in
+        let v : FrameAnswered (frameOf line) text₀ text₁ b a n = rw bytes at w in
+        record {
+          answer = rw (fits, t) (v .answer);
+          frame-is = rw fits (d .frame-is);
+          text-is = rw (fits, t) (v .text-is);
+        }
 
 -- the longest answer
 pub longest-answer : (line : List ℕ) {b a : List ℕ} {n : ℕ} → AtFront b a (answerLine line) n → n ≤ 32794

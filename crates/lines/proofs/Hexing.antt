@@ -83,21 +83,20 @@ module _ {bytes before : List ℕ} {at : ℕ} (room : at + 2 * length bytes ≤ 
     pub hex-all : length bytes ≤ k → AtFront before out (take at before ++ hexOf bytes) to
     hex-all h = rw (take-all k bytes h) at (s .written)
 
+-- something is written, and then more behind it
+pub front-join : {b a e : List ℕ} {n m : ℕ} (x y : List ℕ) → AtFront b a x n → AtFront a e (take n a ++ y) m
+    → AtFront b e (x ++ y) m
+front-join {b} {a} {e} {n} {m} x y w v =
+    let front : take n a ≡ x = rw (w .buffer-is) (take-at x (drop n b) n (sym (w .count-is))) in
+    let whole : take n a ++ y ≡ x ++ y = ap (λ (l : List ℕ). l ++ y) front in
+    let reach : m ≡ n + length y = omega (arith, v .count-is, w .count-is, ap length whole, length-append x y) in
+    let rest : drop m a ≡ drop m b =
+    rw (reach, ← drop-drop (length y) n a, ← drop-drop (length y) n b)
+    (ap (λ (l : List ℕ). drop (length y) l) (rw (w .buffer-is) (drop-at x (drop n b) n (sym (w .count-is)))))
+    in
+    record { count-is = v .count-is ∙ ap length whole; buffer-is = v .buffer-is ∙ rw (whole, rest) }
+
 -- the numbers of an answer, and then its text
 pub front-then : {b a e : List ℕ} {n m : ℕ} (numbers text : List ℕ) → AtFront b a (take 0 b ++ hexOf numbers) n
     → AtFront a e (take n a ++ hexOf text) m → AtFront b e (hexOf (numbers ++ text)) m
-front-then {b} {a} {e} {n} {m} numbers text w v =
-    let front : take n a ≡ hexOf numbers =
-    rw (w .buffer-is) (take-at (hexOf numbers) (drop n b) n (sym (w .count-is))) in
-    let whole : take n a ++ hexOf text ≡ hexOf (numbers ++ text) = rw (hex-append numbers text, front) in
-    let reach : m ≡ n + length (hexOf text) =
-    let l : length (take n a ++ hexOf text) ≡ length (hexOf numbers) + length (hexOf text) =
-    rw front (length-append (hexOf numbers) (hexOf text)) in
-    omega (arith, v .count-is, w .count-is)
-    in
-    let rest : drop m a ≡ drop m b =
-    rw (reach, ← drop-drop (length (hexOf text)) n a, ← drop-drop (length (hexOf text)) n b)
-    (ap (λ (l : List ℕ). drop (length (hexOf text)) l)
-    (rw (w .buffer-is) (drop-at (hexOf numbers) (drop n b) n (sym (w .count-is)))))
-    in
-    record { count-is = v .count-is ∙ ap length whole; buffer-is = v .buffer-is ∙ rw (whole, rest) }
+front-then numbers text w v = rw (hex-append numbers text) (front-join (hexOf numbers) (hexOf text) w v)

@@ -5,9 +5,10 @@ ghost use mathlib.Core.Path.{_≡_};
 ghost use mathlib.Core.List.{_++_};
 ghost use Prim.Native.Nat.{_+_, _*_, _/_, _%_, _≤_, _<_};
 ghost use lib.ListN.{length, take};
-ghost use Rattle.rules.specs.Job.{digitValue, hexOf, numbersOf, noFrame, answerFrame, answerLine};
+ghost use Rattle.rules.specs.Job.{digitValue, hexOf, numbersOf, noFrame, answerLine};
 ghost use Rattle.rules.specs.Number.{digitByte};
-ghost use Rattle.lines.specs.Front.{AtFront, Decoded};
+ghost use Rattle.lines.specs.Front.{AtFront};
+ghost use Rattle.lines.specs.Lent.{Decoded, FrameAnswered, LineAnswered};
 
 // The value of a hexadecimal digit of either case, and 16 where the byte is none.
 fn digit_value(b: u8) -> u8
@@ -37,11 +38,8 @@ fn digit_value(b: u8) -> u8
 // Reads the digits of a line, two to a byte, into the front of frame, and answers whether they are digits in pairs.
 fn decode(line: &[u8], frame: &mut [u8]) -> bool
     requires { ⌜ length (now line) / 2 ≤ length (now frame) ⌝ }
-    ensures { λ r. ⌜ Decoded (now (line .entry)) (now (frame .exit)) (length (now (line .entry)) / 2) r ⌝ }
+    ensures { λ r. ⌜ Decoded (now (line .entry)) (now (frame .entry)) (now (frame .exit)) r ⌝ }
 {
-    if line.len() % 2 != 0 {
-        return false;
-    }
     let count = line.len() / 2;
     let mut k = 0;
     while k < count {
@@ -55,6 +53,9 @@ fn decode(line: &[u8], frame: &mut [u8]) -> bool
         }
         frame[k] = high * 16 + low;
         k += 1;
+    }
+    if line.len() % 2 != 0 {
+        return false;
     }
     true
 }
@@ -141,7 +142,7 @@ fn wide(b: u8) -> usize
 fn answer_frame(frame: &[u8], text: &mut [u8], out: &mut [u8]) -> usize
     requires { ⌜ length (now text) ≡ 16384 ⌝ }
     requires { ⌜ 32794 ≤ length (now out) ⌝ }
-    ensures { λ r. ⌜ AtFront (now (out .entry)) (now (out .exit)) (answerFrame (now (frame .entry))) r ⌝ }
+    ensures { λ r. ⌜ FrameAnswered (now (frame .entry)) (now (text .entry)) (now (text .exit)) (now (out .entry)) (now (out .exit)) r ⌝ }
 {
     if frame.len() < 2 {
         return refuse(out);
@@ -156,13 +157,12 @@ fn answer_frame(frame: &[u8], text: &mut [u8], out: &mut [u8]) -> usize
 }
 
 // Answers a line, without its newline. The longest answer has 13 bytes of numbers and a text of 16,384, two digits to
-// each: out has room for those 32,794. What frame and text hold afterwards is left to the program: they are lent so
-// that a caller with many lines makes them once.
+// each: out has room for those 32,794. Frame and text are lent so that a caller with many lines makes them once.
 pub fn answer_with(line: &[u8], frame: &mut [u8], text: &mut [u8], out: &mut [u8]) -> usize
     requires { ⌜ 32767 ≤ length (now frame) ⌝ }
     requires { ⌜ length (now text) ≡ 16384 ⌝ }
     requires { ⌜ 32794 ≤ length (now out) ⌝ }
-    ensures { λ r. ⌜ AtFront (now (out .entry)) (now (out .exit)) (answerLine (now (line .entry))) r ⌝ }
+    ensures { λ r. ⌜ LineAnswered (now (line .entry)) (now (frame .entry)) (now (frame .exit)) (now (text .entry)) (now (text .exit)) (now (out .entry)) (now (out .exit)) r ⌝ }
 {
     if 65535 < line.len() {
         return refuse(out);

@@ -1,8 +1,8 @@
 -- `jobs::main` meets its contract. The buffers keep their lengths, and the turns that are left shrink. Assumes
 -- nothing.
 use borrow.Author.Needs.{needs}
-use mathlib.Core.Path.{_≡_}
 use Prim.Native.Nat.{_≤_}
+use mathlib.Core.Path.{_≡_}
 use lib.ListN.{length}
 use Rattle.jobs.proofs.main.Statement.{statement}
 use Rattle.jobs.proofs.main.Tie as tie
@@ -48,27 +48,6 @@ loop-less-2 c = search needs
 loop-again-2 : tie.Need-loop-again-2 Inv-loop μ-loop
 loop-again-2 c = search needs
 
-sub-finish : tie.Need-sub-finish Inv-loop μ-loop
-sub-finish c = search needs
-
-part-finish-start : tie.Need-part-finish-start Inv-loop μ-loop
-part-finish-start c = search needs
-
-part-finish-end : tie.Need-part-finish-end Inv-loop μ-loop
-part-finish-end c = search needs
-
-slice-aggregate-finish : tie.Need-slice-aggregate-finish Inv-loop μ-loop
-slice-aggregate-finish c = search needs
-
-slice-aggregate-finish-2 : tie.Need-slice-aggregate-finish-2 Inv-loop μ-loop
-slice-aggregate-finish-2 c = search needs
-
-slice-aggregate-finish-3 : tie.Need-slice-aggregate-finish-3 Inv-loop μ-loop
-slice-aggregate-finish-3 c = search needs
-
-finish-requires : tie.Need-finish-requires Inv-loop μ-loop
-finish-requires c κs = search needs
-
 returns : tie.Need-returns Inv-loop μ-loop
 returns c = search needs
 
@@ -89,11 +68,4 @@ main-spec =
     sub-left
     loop-less-2
     loop-again-2
-    sub-finish
-    part-finish-start
-    part-finish-end
-    slice-aggregate-finish
-    slice-aggregate-finish-2
-    slice-aggregate-finish-3
-    finish-requires
     returns)

@@ -1,12 +1,10 @@
--- `jobs::answer` meets its contract: the longest answer and its newline have room. Assumes nothing.
-use borrow.Author.Needs.{needs}
+-- `chunks::add_answer` meets its contract: the longest answer and its newline have room. Assumes nothing.
 use native.Mathlib.Omega.{arith}
 use Rattle.lines.proofs.Answering.{longest-answer}
-use Rattle.jobs.proofs.answer.Statement.{statement}
-use Rattle.jobs.proofs.answer.Tie as tie
-
-make-room-requires : tie.Need-make-room-requires
-make-room-requires c κs = search needs
+use Rattle.chunks.proofs.Buffers.{line-added}
+use borrow.Author.Needs.{needs}
+use Rattle.chunks.proofs.add_answer.Statement.{statement}
+use Rattle.chunks.proofs.add_answer.Tie as tie
 
 sub-answer-with : tie.Need-sub-answer-with
 sub-answer-with c = search needs
@@ -23,23 +21,20 @@ answer-with-requires c κs = search needs
 add-end : tie.Need-add-end
 add-end c =
     let c6 = c .before .before .before .before .before .before in
-    let c10 = c6 .before .before .before .before in
-    let c16 = c10 .before .before .before .before .before .before in
-    omega (arith, longest-answer (c16 .args .line .now) (c6 .answer-with .ensures), (c10 .make-room .ensures))
+    let c14 = c6 .before .before .before .before .before .before .before .before in
+    omega (arith, longest-answer (c14 .args .line .now) (c6 .answer-with .ensures .answer))
 
 slice-write-out : tie.Need-slice-write-out
 slice-write-out c =
     let c6 = c .before .before .before .before .before .before in
-    let c10 = c6 .before .before .before .before in
-    let c16 = c10 .before .before .before .before .before .before in
-    omega (arith, longest-answer (c16 .args .line .now) (c6 .answer-with .ensures), (c10 .make-room .ensures))
+    let c14 = c6 .before .before .before .before .before .before .before .before in
+    omega (arith, longest-answer (c14 .args .line .now) (c6 .answer-with .ensures .answer), c14 .pre)
 
 add-result : tie.Need-add-result
 add-result c =
     let c6 = c .before .before .before .before .before .before in
-    let c10 = c6 .before .before .before .before in
-    let c16 = c10 .before .before .before .before .before .before in
-    omega (arith, longest-answer (c16 .args .line .now) (c6 .answer-with .ensures), (c10 .make-room .ensures))
+    let c14 = c6 .before .before .before .before .before .before .before .before in
+    omega (arith, longest-answer (c14 .args .line .now) (c6 .answer-with .ensures .answer))
 
 same-length : tie.Need-same-length
 same-length c = search needs
@@ -53,15 +48,13 @@ same-length-3 c = search needs
 returns : tie.Need-returns
 returns c =
     let c6 = c .before .before .before .before .before .before in
-    let c10 = c6 .before .before .before .before in
-    let c16 = c10 .before .before .before .before .before .before in
-    omega (arith, longest-answer (c16 .args .line .now) (c6 .answer-with .ensures), (c10 .make-room .ensures))
+    let c14 = c6 .before .before .before .before .before .before .before .before in
+    line-added (c14 .args .out .now) (c14 .args .filled) (omega (arith, longest-answer (c14 .args .line .now) (c6 .answer-with .ensures .answer), c14 .pre)) (c6 .answer-with .ensures)
 
-pub answer-spec : {M : Type 1} → statement M
-answer-spec =
+pub add-answer-spec : {M : Type 1} → statement M
+add-answer-spec =
     tie.close
     (tie.spec
-    make-room-requires
     sub-answer-with
     part-answer-with-start
     part-answer-with-end

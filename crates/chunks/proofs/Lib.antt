@@ -1,0 +1,7 @@
+pub mod Cuts
+pub mod Long
+pub mod Buffers
+pub mod Steps
+pub mod Holding
+pub mod InChunks
+pub mod Examples
