@@ -47,7 +47,8 @@ module _ (leaves : List ℕ → List ℕ) where
   after-next a k l m same p q = q ∙ rw (same, p) (sym (after-append a (l ∷ []) m))
 
 -- lines are answered, and then one more, as k is
-pub answered-next : (a : List (List ℕ)) (k l : List ℕ) {frame₀ frame frame₁ text₀ text text₁ out₀ out out₁ : List ℕ} {n m : ℕ}
+pub answered-next : (a : List (List ℕ))
+    (k l : List ℕ) {frame₀ frame frame₁ text₀ text text₁ out₀ out out₁ : List ℕ} {n m : ℕ}
     → answerLine k ≡ answerLine l → frameBytes k ≡ frameBytes l → lineText k ≡ lineText l
     → Answered a frame₀ frame text₀ text out₀ out 0 n → Answered (k ∷ []) frame frame₁ text text₁ out out₁ n m
     → Answered (a ++ (l ∷ [])) frame₀ frame₁ text₀ text₁ out₀ out₁ 0 m
@@ -79,7 +80,8 @@ module _ (line part : List ℕ) (held : ℕ) where
       ] in
       let reach : length line ≡ length front + room = omega (arith, size) in
       let text : take (length line) (front ++ part) ≡ front ++ take count part =
-      ap (λ (n : ℕ). take n (front ++ part)) reach ∙ take-append-add front part room ∙ ap (λ (l : List ℕ). front ++ l) some
+      ap (λ (n : ℕ). take n (front ++ part)) reach ∙ take-append-add front part room ∙ ap
+      (λ (l : List ℕ). front ++ l) some
       in
       let counted : held + count ≡ length (front ++ take count part) =
       rw (length-append, size, length-take) (omega (arith, c))
@@ -98,21 +100,26 @@ module _ (out y answer : List ℕ) (at count : ℕ) (room : at + count < length 
       drop-of-length-le (drop at out) {i = length out - at} (rw length-drop (omega arith))
       in
       let is : y ≡ answer ++ drop (at + count) out =
-      w .buffer-is ∙ ap (λ (l : List ℕ). answer ++ drop count l) part ∙ ap (λ (l : List ℕ). answer ++ l) (drop-drop count at out)
+      w .buffer-is ∙ ap (λ (l : List ℕ). answer ++ drop count l) part ∙ ap (λ (l : List ℕ). answer ++ l)
+      (drop-drop count at out)
       in
       record {
         count-is = rw (length-append, length-take-le at out (omega arith), ← w .count-is);
         buffer-is =
-            ap (λ (l : List ℕ). take at out ++ (y ++ l)) none ∙ ap (λ (l : List ℕ). take at out ++ l) (append-nil y ∙ is)
+            ap (λ (l : List ℕ). take at out ++ (y ++ l)) none ∙ ap (λ (l : List ℕ). take at out ++ l)
+            (append-nil y ∙ is)
             ∙ sym (append-assoc (take at out) answer (drop (at + count) out));
       }
 
-  pub with-newline : AtFront out (set (putMid at (length out - at) out y) (at + count) 10) (take at out ++ (answer ++ (10 ∷ []))) (at + count + 1)
+  pub with-newline : AtFront out (set (putMid at (length out - at) out y) (at + count) 10)
+      (take at out ++ (answer ++ (10 ∷ []))) (at + count + 1)
   with-newline = rw append-assoc at (front-next 10 lent-back room)
 
-pub line-added : {line frame₀ frame₁ text₀ text₁ y : List ℕ} {count : ℕ} (out : List ℕ) (at : ℕ) → at + count < length out
+pub line-added : {line frame₀ frame₁ text₀ text₁ y : List ℕ} {count : ℕ} (out : List ℕ) (at : ℕ)
+    → at + count < length out
     → LineAnswered line frame₀ frame₁ text₀ text₁ (take (length out - at) (drop at out)) y count
-    → Answered (line ∷ []) frame₀ frame₁ text₀ text₁ out (set (putMid at (length out - at) out y) (at + count) 10) at (at + count + 1)
+    → Answered (line ∷ []) frame₀ frame₁ text₀ text₁ out (set (putMid at (length out - at) out y) (at + count) 10) at
+    (at + count + 1)
 unfolding answersTo afterLines
 line-added {line} {y = y} {count = count} out at room a =
     record {

@@ -127,7 +127,9 @@ line-ends g (x ∷ s) (suc n) e h =
 -- where a line ends, byte by byte
 module _ (chunk : List ℕ) (i : ℕ) where
   pub at-newline : i < length chunk → getD chunk i 0 ≡ 10 → length (lineIn (drop i chunk)) ≡ 0
-  at-newline h e = ap (λ (l : List ℕ). length (lineIn l)) (drop-cons chunk i 0 h) ∙ ap length (line-newline (getD chunk i 0) (drop (suc i) chunk) e)
+  at-newline h e =
+      ap (λ (l : List ℕ). length (lineIn l)) (drop-cons chunk i 0 h)
+      ∙ ap length (line-newline (getD chunk i 0) (drop (suc i) chunk) e)
 
   pub at-other : i < length chunk → (getD chunk i 0 ≡ 10 → ⊥)
       → length (lineIn (drop i chunk)) ≡ length (lineIn (drop (i + 1) chunk)) + 1

@@ -36,7 +36,8 @@ holds-all begun chunk from e h = rw (take-all from chunk e) at h
 pub holds-more : (begun chunk : List ℕ) (from taken : ℕ)
     {line line₁ frame₀ frame₁ text₀ text₁ out₀ out₁ : List ℕ} {kept held filled : ℕ}
     → 65535 < length line → length line₁ ≡ length line → Holds line (begunLine begun (take from chunk)) kept
-    → Taken (take taken (take (length chunk - from) (drop from chunk))) (take kept line) line line₁ frame₀ frame₁ text₀ text₁ out₀ out₁ held filled
+    → Taken (take taken (take (length chunk - from) (drop from chunk)))
+    (take kept line) line line₁ frame₀ frame₁ text₀ text₁ out₀ out₁ held filled
     → Holds line₁ (begunLine begun (take (from + taken) chunk)) held
 holds-more begun chunk from taken {line} {kept = kept} long same h t =
     let size = length line in

@@ -25,7 +25,8 @@ module _ (size : ℕ) (long : 65535 < size) where
         ended-append h c rest,
         begun-append h c rest,
         answers-append (endedLines h c) (endedLines next rest),
-        append-assoc (answersTo (endedLines h c)) (answersTo (endedLines next rest)) (answersTo (lastLine (begunLine next rest))),
+        append-assoc (answersTo (endedLines h c)) (answersTo (endedLines next rest))
+            (answersTo (lastLine (begunLine next rest))),
         ended-cut size long g h e c,
       )
       (ap (λ (l : List ℕ). answersTo (endedLines h c) ++ l) (from-begun (take size (begunLine g c)) next held more))

@@ -4,4 +4,4 @@ pub mod Buffers
 pub mod Steps
 pub mod Holding
 pub mod InChunks
-pub mod Examples
+pub mod CuttingExamples

@@ -40,7 +40,8 @@ module _ {P begun line₀ line frame₀ frame text₀ text out₀ out : List ℕ
   filled-within = answered-within (t .answered)
 
   -- the buffer as it was before the line that is held
-  stands : line ≡ over (take (length line₀) (begunLine begun P)) (afterLines (take (length line₀)) (endedLines begun P) line₀)
+  stands : line ≡ over (take (length line₀) (begunLine begun P))
+      (afterLines (take (length line₀)) (endedLines begun P) line₀)
   unfolding afterLines
   stands = t .line-is ∙ after-append (take (length line₀)) (endedLines begun P) (begunLine begun P ∷ []) line₀
 
@@ -57,7 +58,8 @@ module _ {P begun line₀ line frame₀ frame text₀ text out₀ out : List ℕ
         in
         rw e at w
 
-    stands-more : line₁ ≡ over (take (length line₀) (begunLine begun P ++ p)) (afterLines (take (length line₀)) (endedLines begun P) line₀)
+    stands-more : line₁ ≡ over (take (length line₀) (begunLine begun P ++ p))
+        (afterLines (take (length line₀)) (endedLines begun P) line₀)
     stands-more =
         let size = length line₀ in
         let held = begunLine begun P in
@@ -82,7 +84,8 @@ module _ (chunk : List ℕ) (from end : ℕ) {begun line₀ line frame₀ frame 
     {line₁ : List ℕ} {kept₁ : ℕ}
     (w : AtFront line line₁ (take (length line) (take kept line ++ take (end - from) (drop from chunk))) kept₁) where
   -- the chunk ends in a line
-  pub take-rest : end ≡ length chunk → Taken (take end chunk) begun line₀ line₁ frame₀ frame text₀ text out₀ out kept₁ filled
+  pub take-rest : end ≡ length chunk → Taken
+      (take end chunk) begun line₀ line₁ frame₀ frame text₀ text out₀ out kept₁ filled
   unfolding afterLines
   take-rest z =
       let size = length line₀ in
@@ -97,9 +100,12 @@ module _ (chunk : List ℕ) (from end : ℕ) {begun line₀ line frame₀ frame 
       let whole : take end chunk ≡ P ++ s = rw (at, take-add from n chunk, some) in
       let c = cut-off R s (omega (arith, left, at)) in
       let E₁ : endedLines begun (take end chunk) ≡ E =
-      ap (endedLines begun) whole ∙ ended-append begun P s ∙ ap (λ (l : List (List ℕ)). E ++ l) (c .ended) ∙ append-nil E
+      ap (endedLines begun) whole ∙ ended-append begun P s ∙ ap (λ (l : List (List ℕ)). E ++ l) (c .ended)
+      ∙ append-nil E
       in
-      let R₁ : begunLine begun (take end chunk) ≡ R ++ s = ap (begunLine begun) whole ∙ begun-append begun P s ∙ c .begun in
+      let R₁ : begunLine begun (take end chunk) ≡ R ++ s =
+      ap (begunLine begun) whole ∙ begun-append begun P s ∙ c .begun
+      in
       let held : AtFront line line₁ (take size (R ++ s)) kept₁ = rw all at (held-more t (take (end - from) s) same w) in
       let now : line₁ ≡ over (take size (R ++ s)) (afterLines (take size) E line₀) =
       rw all at (stands-more t (take (end - from) s) same w)
@@ -130,7 +136,8 @@ module _ (chunk : List ℕ) (from end : ℕ) {begun line₀ line frame₀ frame 
       let c = line-ends R s n refl here in
       let l = R ++ take n s in
       let E₁ : endedLines begun (take (end + 1) chunk) ≡ E ++ (l ∷ []) =
-      ap (endedLines begun) whole ∙ ended-append begun P (take (suc n) s) ∙ ap (λ (k : List (List ℕ)). E ++ k) (c .ended)
+      ap (endedLines begun) whole ∙ ended-append begun P (take (suc n) s) ∙ ap (λ (k : List (List ℕ)). E ++ k)
+      (c .ended)
       in
       let R₁ : begunLine begun (take (end + 1) chunk) ≡ [] =
       ap (begunLine begun) whole ∙ begun-append begun P (take (suc n) s) ∙ c .begun in
@@ -144,10 +151,18 @@ module _ (chunk : List ℕ) (from end : ℕ) {begun line₀ line frame₀ frame 
       in
       let b : Answered (take size l ∷ []) frame frame₁ text text₁ out out₁ filled filled₁ = rw k at a in
       record {
-        answered = rw E₁ (answered-next E (take size l) l (answer-cut size long l) (frame-cut size long l) (text-cut size long l) (t .answered) b);
+        answered = rw E₁ (answered-next E (take size l) l (answer-cut size long l) (frame-cut size long l)
+            (text-cut size long l) (t .answered) b);
         held-is = rw (R₁, take-nil size);
         line-is =
-            rw (E₁, R₁, after-append (take size) (E ++ (l ∷ [])) ([] ∷ []) line₀, after-append (take size) E (l ∷ []) line₀, take-nil size) now;
+            rw (
+              E₁,
+              R₁,
+              after-append (take size) (E ++ (l ∷ [])) ([] ∷ []) line₀,
+              after-append (take size) E
+                  (l ∷ []) line₀,
+              take-nil size,
+            ) now;
       }
 
 -- where the taking stops: for want of room, and at the end of the chunk

@@ -35,7 +35,7 @@ unfoldable pub answersTo : List (List ℕ) → List ℕ
 answersTo [] = []
 answersTo (line ∷ more) = answerLine line ++ (10 ∷ answersTo more)
 
--- what is written for an input that comes in chunks, where at most so many bytes are held of a line that a chunk cuts off
+-- what is written for an input that comes in chunks, where at most `size` bytes are held of a line that one cuts off
 unfoldable pub answersIn : ℕ → List ℕ → List (List ℕ) → List ℕ
 answersIn size begun [] = answersTo (lastLine begun)
 answersIn size begun (chunk ∷ more) =

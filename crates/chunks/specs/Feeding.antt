@@ -18,15 +18,15 @@ pub record Answered (lines : List (List ℕ)) (frame₀ frame₁ text₀ text₁
   pub frame-is : frame₁ ≡ afterLines frameBytes lines frame₀
   pub text-is : text₁ ≡ afterLines lineText lines text₀
 
--- the bytes `part` are taken, after the `begun` of a line: the lines that end in them are answered, and what there is of
--- the next one is held, as far as there is room for it. Every line goes by way of the buffer `line`
+-- the bytes `part` are taken, after the `begun` of a line: the lines that end in them are answered, and what there
+-- is of the next one is held, as far as there is room for it. Every line goes by way of the buffer `line`
 pub record Taken (part begun line₀ line₁ frame₀ frame₁ text₀ text₁ out₀ out₁ : List ℕ) (held filled : ℕ) : Type 0 where
   pub answered : Answered (endedLines begun part) frame₀ frame₁ text₀ text₁ out₀ out₁ 0 filled
   pub held-is : held ≡ length (take (length line₀) (begunLine begun part))
   pub line-is : line₁ ≡ afterLines (take (length line₀)) (endedLines begun part ++ (begunLine begun part ∷ [])) line₀
 
--- How much of a chunk is taken at a time is left to the program: something if there is anything, and all of it unless the
--- answers leave no room in `out` for the longest one and its newline
+-- How much of a chunk is taken at a time is left to the program: something if there is anything, and all of it
+-- unless the answers leave no room in `out` for the longest one and its newline
 pub record FarEnough (chunk out : List ℕ) (taken filled : ℕ) : Type 0 where
   pub within : taken ≤ length chunk
   pub forth : 0 < length chunk → 0 < taken

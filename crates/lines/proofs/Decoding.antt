@@ -59,7 +59,8 @@ pub decode-none : (line frame : List ℕ) → Decoding line frame frame 0
 decode-none line frame =
     record { pairs = refl; bytes = refl; beyond = refl; within = omega arith; same = refl }
 
-module _ {line before frame : List ℕ} {k : ℕ} (room : length line / 2 ≤ length before) (d : Decoding line before frame k) where
+module _ {line before frame : List ℕ} {k : ℕ} (room : length line / 2 ≤ length before)
+    (d : Decoding line before frame k) where
   -- no more is read
   stopped : readBytes (drop (2 * k) line) ≡ [] → frame ≡ over (readBytes line) before
   stopped e =

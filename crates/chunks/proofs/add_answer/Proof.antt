@@ -49,7 +49,9 @@ returns : tie.Need-returns
 returns c =
     let c6 = c .before .before .before .before .before .before in
     let c14 = c6 .before .before .before .before .before .before .before .before in
-    line-added (c14 .args .out .now) (c14 .args .filled) (omega (arith, longest-answer (c14 .args .line .now) (c6 .answer-with .ensures .answer), c14 .pre)) (c6 .answer-with .ensures)
+    line-added (c14 .args .out .now) (c14 .args .filled)
+    (omega (arith, longest-answer (c14 .args .line .now) (c6 .answer-with .ensures .answer), c14 .pre))
+    (c6 .answer-with .ensures)
 
 pub add-answer-spec : {M : Type 1} → statement M
 add-answer-spec =

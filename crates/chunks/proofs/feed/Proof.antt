@@ -22,8 +22,15 @@ abbrev μ-loop : tie.MeasureT-loop
 
 loop-holds : tie.Need-loop-holds Inv-loop μ-loop
 loop-holds c =
-    let c5 = c .before .before .before .before .before in
-    (take-none (c5 .args .line .now) (c5 .args .frame .now) (c5 .args .text .now) (c5 .args .out .now) (c5 .args .held) (c5 .pre .0 .1), omega arith, refl, refl, refl, refl)
+    let c5 = c .before .before .before .before .before in (
+      take-none (c5 .args .line .now) (c5 .args .frame .now) (c5 .args .text .now) (c5 .args .out .now)
+          (c5 .args .held) (c5 .pre .0 .1),
+      omega arith,
+      refl,
+      refl,
+      refl,
+      refl,
+    )
 
 sub-if1 : tie.Need-sub-if1 Inv-loop μ-loop
 sub-if1 c = filled-within (c .before .loop .inv .0)
@@ -51,8 +58,11 @@ same-length-4 c =
 returns : tie.Need-returns Inv-loop μ-loop
 returns c =
     let c2 = c .before .before in
-    let c8 = c2 .before .before .before .before .before .before in
-    (c2 .loop .inv .0, far-full (c8 .args .chunk .now) (c2 .loop .from) (c2 .loop .inv .1) (c8 .pre .1 .1) (c2 .loop .inv .0) (omega (arith, c .if1 .taken, c2 .loop .inv .5)))
+    let c8 = c2 .before .before .before .before .before .before in (
+      c2 .loop .inv .0,
+      far-full (c8 .args .chunk .now) (c2 .loop .from) (c2 .loop .inv .1) (c8 .pre .1 .1)
+          (c2 .loop .inv .0) (omega (arith, c .if1 .taken, c2 .loop .inv .5)),
+    )
 
 line-end-requires : tie.Need-line-end-requires Inv-loop μ-loop
 line-end-requires c κs = search needs
@@ -67,7 +77,8 @@ part-hold-end : tie.Need-part-hold-end Inv-loop μ-loop
 part-hold-end c =
     let c4 = c .before .before .before .before in
     let c10 = c4 .before .before .before .before .before .before in
-    end-within (c10 .args .chunk .now) (c4 .loop .from) (c .before .line-end .result) (c4 .loop .inv .1) (c .before .line-end .ensures)
+    end-within (c10 .args .chunk .now) (c4 .loop .from) (c .before .line-end .result) (c4 .loop .inv .1)
+    (c .before .line-end .ensures)
 
 hold-requires : tie.Need-hold-requires Inv-loop μ-loop
 hold-requires c κs =
@@ -84,8 +95,15 @@ loop-again c =
     let c3 = c .before .before .before in
     let c6 = c3 .before .before .before in
     let c9 = c6 .before .before .before in
-    let c15 = c9 .before .before .before .before .before .before in
-    (take-rest (c15 .args .chunk .now) (c9 .loop .from) (c6 .line-end .result) (c9 .loop .inv .1) (c9 .loop .inv .2) (c9 .loop .inv .0) (c6 .line-end .ensures) (c3 .hold .ensures) (c .if2 .taken), search needs, search needs, search needs, search needs, search needs)
+    let c15 = c9 .before .before .before .before .before .before in (
+      take-rest (c15 .args .chunk .now) (c9 .loop .from) (c6 .line-end .result) (c9 .loop .inv .1) (c9 .loop .inv .2)
+          (c9 .loop .inv .0) (c6 .line-end .ensures) (c3 .hold .ensures) (c .if2 .taken),
+      search needs,
+      search needs,
+      search needs,
+      search needs,
+      search needs,
+    )
 
 sub-add-answer : tie.Need-sub-add-answer Inv-loop μ-loop
 sub-add-answer c = search needs
@@ -107,7 +125,12 @@ add-from c =
     let c18 = c12 .before .before .before .before .before .before in
     let c21 = c18 .before .before .before in
     let c27 = c21 .before .before .before .before .before .before in
-    omega (arith, end-within (c27 .args .chunk .now) (c21 .loop .from) (c18 .line-end .result) (c21 .loop .inv .1) (c18 .line-end .ensures), c12 .if2 .left)
+    omega (
+      arith,
+      end-within (c27 .args .chunk .now) (c21 .loop .from) (c18 .line-end .result) (c21 .loop .inv .1)
+          (c18 .line-end .ensures),
+      c12 .if2 .left,
+    )
 
 loop-less-2 : tie.Need-loop-less-2 Inv-loop μ-loop
 loop-less-2 c =
@@ -116,7 +139,14 @@ loop-less-2 c =
     let c20 = c18 .before .before in
     let c21 = c20 .before in
     let c27 = c21 .before .before .before .before .before .before in
-    omega (arith, end-within (c27 .args .chunk .now) (c21 .loop .from) (c18 .line-end .result) (c21 .loop .inv .1) (c18 .line-end .ensures), c12 .if2 .left, c20 .loop-test .taken, c18 .line-end .ensures)
+    omega (
+      arith,
+      end-within (c27 .args .chunk .now) (c21 .loop .from) (c18 .line-end .result) (c21 .loop .inv .1)
+          (c18 .line-end .ensures),
+      c12 .if2 .left,
+      c20 .loop-test .taken,
+      c18 .line-end .ensures,
+    )
 
 loop-again-2 : tie.Need-loop-again-2 Inv-loop μ-loop
 loop-again-2 c =
@@ -125,8 +155,21 @@ loop-again-2 c =
     let c15 = c12 .before .before .before in
     let c18 = c15 .before .before .before in
     let c21 = c18 .before .before .before in
-    let c27 = c21 .before .before .before .before .before .before in
-    (take-line (c27 .args .chunk .now) (c21 .loop .from) (c18 .line-end .result) (c21 .loop .inv .1) (c21 .loop .inv .2) (c21 .loop .inv .0) (c18 .line-end .ensures) (c15 .hold .ensures) (c27 .pre .0 .0) (c12 .if2 .left) (c6 .add-answer .ensures), omega (arith, end-within (c27 .args .chunk .now) (c21 .loop .from) (c18 .line-end .result) (c21 .loop .inv .1) (c18 .line-end .ensures), c12 .if2 .left), search needs, search needs, search needs, search needs)
+    let c27 = c21 .before .before .before .before .before .before in (
+      take-line (c27 .args .chunk .now) (c21 .loop .from) (c18 .line-end .result) (c21 .loop .inv .1)
+          (c21 .loop .inv .2) (c21 .loop .inv .0) (c18 .line-end .ensures) (c15 .hold .ensures) (c27 .pre .0 .0)
+          (c12 .if2 .left) (c6 .add-answer .ensures),
+      omega (
+        arith,
+        end-within (c27 .args .chunk .now) (c21 .loop .from)
+            (c18 .line-end .result) (c21 .loop .inv .1) (c18 .line-end .ensures),
+        c12 .if2 .left,
+      ),
+      search needs,
+      search needs,
+      search needs,
+      search needs,
+    )
 
 same-length-5 : tie.Need-same-length-5 Inv-loop μ-loop
 same-length-5 c = c .before .loop .inv .2
@@ -142,8 +185,11 @@ same-length-8 c = c .before .loop .inv .5
 
 returns-2 : tie.Need-returns-2 Inv-loop μ-loop
 returns-2 c =
-    let c7 = c .before .before .before .before .before .before .before in
-    (c .before .loop .inv .0, far-all (c7 .args .chunk .now) (c .before .loop .from) (c .before .loop .inv .1) (c7 .pre .1 .1) (c .before .loop .inv .0) (c .loop-test .left))
+    let c7 = c .before .before .before .before .before .before .before in (
+      c .before .loop .inv .0,
+      far-all (c7 .args .chunk .now) (c .before .loop .from) (c .before .loop .inv .1)
+          (c7 .pre .1 .1) (c .before .loop .inv .0) (c .loop-test .left),
+    )
 
 pub feed-spec : {M : Type 1} → statement M
 feed-spec =

@@ -54,8 +54,13 @@ loop-again : tie.Need-loop-again Inv-loop μ-loop
 loop-again c =
     let c2 = c .before .before in
     let c3 = c2 .before in
-    let c6 = c3 .before .before .before in
-    (copy-next (c6 .args .line .now) (c6 .args .part .now) (c6 .args .held) (c2 .loop .i) (c2 .loop .inv .0) (omega (arith, c3 .least .ensures)) (omega (arith, c3 .least .ensures)), omega arith, simp length-set (c2 .loop .inv .2))
+    let c6 = c3 .before .before .before in (
+      copy-next (c6 .args .line .now) (c6 .args .part .now) (c6 .args .held) (c2 .loop .i) (c2 .loop .inv .0)
+          (omega (arith, c3 .least .ensures)) (omega (arith, c3 .least .ensures)),
+      omega arith,
+      simp length-set
+          (c2 .loop .inv .2),
+    )
 
 add-result : tie.Need-add-result Inv-loop μ-loop
 add-result c =
@@ -70,7 +75,8 @@ returns c =
     let c2 = c .before .before in
     let c5 = c2 .before .before .before in
     let all : c .before .loop .i ≡ c2 .least .result = omega arith in
-    copy-all (c5 .args .line .now) (c5 .args .part .now) (c5 .args .held) (c2 .least .result) (c5 .pre) (c2 .least .ensures)
+    copy-all (c5 .args .line .now) (c5 .args .part .now) (c5 .args .held) (c2 .least .result) (c5 .pre)
+    (c2 .least .ensures)
     (c .before .loop .inv .0 ∙ ap (paste (c5 .args .line .now) (c5 .args .held) (c5 .args .part .now)) all)
 
 pub hold-spec : {M : Type 1} → statement M

@@ -28,7 +28,12 @@ returns c =
     let c2 = c .before .before in
     let c3 = c2 .before in
     let c4 = c3 .before in
-    omega (arith, c3 .loop .inv .0, at-newline (c4 .args .chunk .now) (c3 .loop .i) (c2 .loop-test .taken) (c .if1 .taken))
+    omega (
+      arith,
+      c3 .loop .inv .0,
+      at-newline (c4 .args .chunk .now) (c3 .loop .i) (c2 .loop-test .taken)
+          (c .if1 .taken),
+    )
 
 add-i : tie.Need-add-i Inv-loop μ-loop
 add-i c = search needs
@@ -40,8 +45,15 @@ loop-again : tie.Need-loop-again Inv-loop μ-loop
 loop-again c =
     let c2 = c .before .before in
     let c3 = c2 .before in
-    let c4 = c3 .before in
-    (omega (arith, c3 .loop .inv .0, at-other (c4 .args .chunk .now) (c3 .loop .i) (c2 .loop-test .taken) (c .if1 .left)), omega arith)
+    let c4 = c3 .before in (
+      omega (
+        arith,
+        c3 .loop .inv .0,
+        at-other (c4 .args .chunk .now) (c3 .loop .i) (c2 .loop-test .taken)
+            (c .if1 .left),
+      ),
+      omega arith,
+    )
 
 returns-2 : tie.Need-returns-2 Inv-loop μ-loop
 returns-2 c =

@@ -23,8 +23,14 @@ abbrev μ-loop : tie.MeasureT-loop
 
 loop-holds : tie.Need-loop-holds Inv-loop μ-loop
 loop-holds c =
-    let c5 = c .before .before .before .before .before in
-    (holds-none (c5 .args .line .now) (c5 .args .held) (omega arith), omega arith, search needs, search needs, search needs, search needs)
+    let c5 = c .before .before .before .before .before in (
+      holds-none (c5 .args .line .now) (c5 .args .held) (omega arith),
+      omega arith,
+      search needs,
+      search needs,
+      search needs,
+      search needs,
+    )
 
 sub-feed : tie.Need-sub-feed Inv-loop μ-loop
 sub-feed c = search needs
@@ -77,14 +83,27 @@ add-from c =
 loop-less : tie.Need-loop-less Inv-loop μ-loop
 loop-less c =
     let c13 = c .before .before .before .before .before .before .before .before .before .before .before .before .before in
-    omega (arith, simp (length-take, length-drop) at (c13 .feed .ensures .1 .within), c13 .feed .ensures .1 .forth (simp (length-take, length-drop) (omega arith)))
+    omega (
+      arith,
+      simp (length-take, length-drop) at (c13 .feed .ensures .1 .within),
+      c13 .feed .ensures .1 .forth
+          (simp (length-take, length-drop) (omega arith)),
+    )
 
 loop-again : tie.Need-loop-again Inv-loop μ-loop
 loop-again c =
     let c13 = c .before .before .before .before .before .before .before .before .before .before .before .before .before in
     let c20 = c13 .before .before .before .before .before .before .before in
-    let c26 = c20 .before .before .before .before .before .before in
-    (holds-more (take (c26 .args .held) (c26 .args .line .now)) (c26 .args .chunk .now) (c20 .loop .from) (c13 .feed .result .taken) (omega (arith, c20 .loop .inv .2)) (c13 .feed .kept .1 .0) (c20 .loop .inv .0) (c13 .feed .ensures .0), omega (arith, simp (length-take, length-drop) at (c13 .feed .ensures .1 .within)), search needs, search needs, search needs, search needs)
+    let c26 = c20 .before .before .before .before .before .before in (
+      holds-more (take (c26 .args .held) (c26 .args .line .now)) (c26 .args .chunk .now) (c20 .loop .from)
+          (c13 .feed .result .taken) (omega (arith, c20 .loop .inv .2)) (c13 .feed .kept .1 .0) (c20 .loop .inv .0)
+          (c13 .feed .ensures .0),
+      omega (arith, simp (length-take, length-drop) at (c13 .feed .ensures .1 .within)),
+      search needs,
+      search needs,
+      search needs,
+      search needs,
+    )
 
 same-length-5 : tie.Need-same-length-5 Inv-loop μ-loop
 same-length-5 c = search needs
@@ -100,8 +119,12 @@ same-length-8 c = search needs
 
 returns-2 : tie.Need-returns-2 Inv-loop μ-loop
 returns-2 c =
-    let c7 = c .before .before .before .before .before .before .before in
-    (omega (arith, holds-within (c .before .loop .inv .0), c .before .loop .inv .2), λ e. holds-all (take (c7 .args .held) (c7 .args .line .now)) (c7 .args .chunk .now) (c .before .loop .from) (c .loop-test .left) (c .before .loop .inv .0))
+    let c7 = c .before .before .before .before .before .before .before in (
+      omega (arith, holds-within (c .before .loop .inv .0), c .before .loop .inv .2),
+      λ e. holds-all
+          (take (c7 .args .held) (c7 .args .line .now)) (c7 .args .chunk .now) (c .before .loop .from) (c .loop-test .left)
+          (c .before .loop .inv .0),
+    )
 
 pub answer-chunk-spec : {M : Type 1} → statement M
 answer-chunk-spec =

@@ -67,7 +67,8 @@ returns-2 c =
     let c6 = c4 .before .before in
     let c7 = c6 .before in
     let c10 = c7 .before .before .before in
-    second-refused (c10 .pre) (c7 .loop .inv) (c6 .loop-test .taken) (rw (c4 .digit-value .ensures) at (c .before .if1 .left))
+    second-refused (c10 .pre) (c7 .loop .inv) (c6 .loop-test .taken)
+    (rw (c4 .digit-value .ensures) at (c .before .if1 .left))
     (rw (c2 .digit-value2 .ensures) at (c .if2 .taken))
 
 mul-frame : tie.Need-mul-frame Inv-loop μ-loop
@@ -92,7 +93,8 @@ loop-again c =
     let c6 = c4 .before .before in
     let c7 = c6 .before in
     let c10 = c7 .before .before .before in
-    decode-more (c10 .pre) (c7 .loop .inv) (c6 .loop-test .taken) (c4 .digit-value .ensures) (c2 .digit-value2 .ensures) (c .before .if1 .left) (c .if2 .left)
+    decode-more (c10 .pre) (c7 .loop .inv) (c6 .loop-test .taken) (c4 .digit-value .ensures)
+    (c2 .digit-value2 .ensures) (c .before .if1 .left) (c .if2 .left)
 
 same-length-3 : tie.Need-same-length-3 Inv-loop μ-loop
 same-length-3 c =
