@@ -6,9 +6,10 @@ use mathlib.Core.List.{List}
 use native.Mathlib.Omega.{arith}
 use borrow.Author.Tests.{lt-ltb, le-ltb, le-leb, lt-leb, eq-eqb, ne-eqb}
 use lib.ListN.{length}
-use Rattle.rules.specs.Directive.{wellWritten, placesOf, inOrder, either}
+use Rattle.rules.specs.Choice.{either}
+use Rattle.rules.specs.Rows.{wellWritten, placesOf, inOrder, accepts}
 use Rattle.rules.specs.Table.{View, Value}
-use Rattle.rules.specs.Piece.{orElse, textOf, kindOf, accepts}
+use Rattle.rules.specs.Piece.{orElse, textOf, kindOf}
 use Rattle.rules.specs.Working.{Context, argumentIn, settle, Source, own, back, given, sourceOf}
 use Rattle.rules.specs.Flow.{done, Finish, finishOf}
 use Rattle.rules.specs.Run.{Flow, refused, put, onSettled, withSettings, withArgument, write, writeFrom, jumpTo, jump, directiveActs, itemActs}

@@ -3,7 +3,10 @@ use Prim.Native.Nat.{ℕ, _+_, _-_, _≤_, _<_}
 use mathlib.Core.Path.{_≡_, refl, sym, ap, subst, _∙_}
 use mathlib.Core.List.{List, [], _∷_}
 use native.Mathlib.Omega.{arith}
-use Rattle.rules.specs.Directive.{FormRight, Place, number, character, anyNumber, countingNumber, formPlaces}
+use Rattle.rules.specs.Directive.{FormRight}
+use Rattle.rules.specs.Rows.{anyNumber, countingNumber, formPlaces}
+use Rattle.rules.specs.declared.Place.{Place}
+use Rattle.rules.specs.declared.Place.the-variants.{Number as NumberPlace, Character as CharacterPlace}
 use Rattle.rules.specs.Table.{Value, Holds, meant, viewOf}
 use Rattle.rules.specs.Piece.{orElse}
 use Rattle.rules.specs.Working.{argumentIn}

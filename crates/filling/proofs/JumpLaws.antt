@@ -7,7 +7,8 @@ use native.Mathlib.Omega.{arith}
 use lib.Dec.{leb}
 use Rattle.rules.specs.Flow.{Flow, done, refused, put, Stretch, still}
 use Rattle.rules.specs.Table.{View}
-use Rattle.rules.specs.Directive.{wellWritten, placesOf, inOrder, either}
+use Rattle.rules.specs.Choice.{either}
+use Rattle.rules.specs.Rows.{wellWritten, placesOf, inOrder}
 use Rattle.rules.specs.Piece.{orElse}
 use Rattle.rules.specs.Working.{Context, Settled, settled, unsettled, settle}
 use Rattle.rules.specs.Run.{choose, onSettled, jumpTo, jump, directiveActs, itemActs}

@@ -11,7 +11,7 @@ use lib.IntN.{ℤ, pos, negsuc}
 use lib.ListN.{length, replicate}
 use mir.Syntax.{w64}
 use mir.Val.{SFits, ofZ}
-use Rattle.rules.specs.Directive.{number}
+use Rattle.rules.specs.declared.Place.the-variants.{Number as NumberPlace}
 use Rattle.rules.specs.Number.{digitByte, digitsOf, magnitudeOf, signOf, padLeft}
 use Rattle.rules.specs.Piece.{orElse, nameOf, writtenOf, bareOf, paddingOf, objectOf, digitsIn, isOne, textOf}
 use Rattle.rules.specs.Table.{Value, boolean, integer, character, string, list, meant}

@@ -5,7 +5,7 @@ use rules::Setting;
 ghost use mathlib.Core.List.{List};
 ghost use mathlib.Core.Path.{_≡_};
 ghost use Prim.Native.Nat.{ℕ, _+_, _-_, _≤_};
-ghost use Rattle.rules.specs.Directive.{character};
+ghost use Rattle.rules.specs.declared.Place.the-variants.{Character as CharacterPlace};
 ghost use Rattle.rules.specs.Piece.{orElse, paddingOf};
 ghost use Rattle.pieces.specs.Bytes.{beside, Makes, Gives};
 ghost use Rattle.pieces.specs.Given.{Allowed};

@@ -6,7 +6,9 @@ use mathlib.Core.List.{List, _∷_}
 use native.Mathlib.Omega.{arith}
 use lib.ListN.{length, getD}
 use borrow.Author.Tests.{le-leb}
-use Rattle.rules.specs.Directive.{either, wellWritten, itemAt, placesOf, anyNumber}
+use Rattle.rules.specs.Choice.{either}
+use Rattle.rules.specs.Directive.{itemAt}
+use Rattle.rules.specs.Rows.{wellWritten, placesOf, anyNumber}
 use Rattle.rules.specs.Flow.{Flow}
 use Rattle.rules.specs.Table.{viewOf, tableVerdict}
 use Rattle.rules.specs.Text.{Level, Sequence, end, innermost, outer, levelsAt}

@@ -3,7 +3,10 @@
 use Prim.Native.Nat.{ℕ, _-_, _≤_, _<_}
 use mathlib.Core.List.{List, [], _∷_}
 use lib.ListN.{length}
-use Rattle.rules.specs.Directive.{FormRight, Place, number, character, formPlaces}
+use Rattle.rules.specs.Directive.{FormRight}
+use Rattle.rules.specs.Rows.{formPlaces}
+use Rattle.rules.specs.declared.Place.{Place}
+use Rattle.rules.specs.declared.Place.the-variants.{Number as NumberPlace, Character as CharacterPlace}
 use Rattle.rules.specs.declared.Argument.{Argument}
 use Rattle.rules.specs.declared.Argument.the-variants.{Boolean, Integer, Character, Text, Entries}
 use Rattle.rules.specs.declared.Form.{Form}

@@ -9,7 +9,8 @@ use borrow.Author.Tests.{le-ltb, eq-eqb, ne-eqb, eqb-true}
 use lib.Dec.{eqb}
 use lib.ListN.{length}
 use Rattle.rules.specs.Choice.{both}
-use Rattle.rules.specs.Directive.{number, character, formPlaces, inOrder}
+use Rattle.rules.specs.Rows.{formPlaces, inOrder}
+use Rattle.rules.specs.declared.Place.the-variants.{Number as NumberPlace, Character as CharacterPlace}
 use Rattle.rules.specs.Table.{View}
 use Rattle.rules.specs.Text.{Level}
 use Rattle.rules.specs.Working.{Context, workOut, settle, Source, own, sourceOf}

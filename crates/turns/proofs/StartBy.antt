@@ -7,7 +7,7 @@ use native.Mathlib.Omega.{arith}
 use lib.Dec.{eqb}
 use lib.ListN.{length}
 use borrow.Author.Tests.{lt-ltb, le-ltb, eq-eqb, ne-eqb}
-use Rattle.rules.specs.Directive.{anyNumber, inOrder, eachSuits}
+use Rattle.rules.specs.Rows.{anyNumber, inOrder, eachSuits}
 use Rattle.rules.specs.Working.{settled, settle}
 use Rattle.rules.specs.declared.Bracket.the-variants.{Conditional}
 use Rattle.rules.specs.declared.Code.the-variants.{Opens}

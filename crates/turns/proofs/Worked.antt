@@ -7,7 +7,9 @@ use mathlib.Core.List.{List, [], _∷_}
 use native.Mathlib.Omega.{arith}
 use lib.Dec.{leb}
 use borrow.Author.Tests.{le-leb, lt-leb, leb-true}
-use Rattle.rules.specs.Directive.{Place, number, character as characterPlace, anyNumber, countingNumber, suits, inOrder, eachSuits}
+use Rattle.rules.specs.Rows.{anyNumber, countingNumber, suits, inOrder, eachSuits}
+use Rattle.rules.specs.declared.Place.{Place}
+use Rattle.rules.specs.declared.Place.the-variants.{Number as NumberPlace, Character as CharacterPlace}
 use Rattle.rules.specs.Piece.{orElse}
 use Rattle.rules.specs.Working.{Worked, worked, wrong, workOut, Settled, settled, unsettled, settle}
 use Rattle.rules.specs.declared.Directive.{Directive}

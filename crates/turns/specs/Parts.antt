@@ -2,7 +2,8 @@
 use Prim.Native.Nat.{ℕ, _+_, _-_, _/_, _≤_}
 use mathlib.Core.Path.{_≡_}
 use mathlib.Core.Bool.{Bool, true, cond}
-use Rattle.rules.specs.Directive.{FormRight, formPlaces, inOrder, eachSuits}
+use Rattle.rules.specs.Directive.{FormRight}
+use Rattle.rules.specs.Rows.{formPlaces, inOrder, eachSuits}
 use Rattle.rules.specs.declared.Code.the-variants.{Writes}
 use Rattle.rules.specs.declared.Directive.{Directive}
 use Rattle.rules.specs.declared.Form.{Form}

@@ -8,7 +8,7 @@ use native.Mathlib.Omega.{arith}
 use lib.Dec.{ltb, eqb}
 use lib.ListN.{length}
 use borrow.Author.Tests.{ltb-true, eqb-true}
-use Rattle.rules.specs.Directive.{placesOf, inOrder}
+use Rattle.rules.specs.Rows.{placesOf, inOrder}
 use Rattle.rules.specs.Piece.{kindOf}
 use Rattle.rules.specs.Run.{Flow, clauseAt, isFalse, onSettled, withSettings, pickBy, pickNumbered, pick}
 use Rattle.rules.specs.Table.{Value, boolean, integer, character, string, list, View}

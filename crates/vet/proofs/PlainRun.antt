@@ -8,9 +8,10 @@ use native.Mathlib.Omega.{arith}
 use lib.Dec.{ltb, eqb}
 use lib.ListN.{length}
 use Rattle.rules.specs.Table.{Value, View, entryIn}
-use Rattle.rules.specs.Directive.{formPlaces, placesOf, either, inOrder}
+use Rattle.rules.specs.Choice.{either}
+use Rattle.rules.specs.Rows.{formPlaces, placesOf, inOrder, accepts}
 use Rattle.rules.specs.Text.{Token, acts, Level, innermost, itemBefore, levelsOf}
-use Rattle.rules.specs.Piece.{textOf, kindOf, accepts}
+use Rattle.rules.specs.Piece.{textOf, kindOf}
 use Rattle.rules.specs.Working.{Settled, settled, unsettled, settle, settingsOf, Source, own, back, glyphSource, sourceOf}
 use Rattle.rules.specs.Flow.{Flow, done, refused, put}
 use Rattle.rules.specs.Run.{choose, write, writeFrom, onSettled, directiveActs, itemActs, turn, walk, run}

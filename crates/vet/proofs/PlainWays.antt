@@ -4,7 +4,7 @@ use mathlib.Core.Path.{_≡_, refl}
 use mathlib.Core.Bool.{true, false}
 use mathlib.Core.List.{List, [], _∷_}
 use native.Mathlib.Omega.{arith}
-use Rattle.rules.specs.Directive.{inOrder}
+use Rattle.rules.specs.Rows.{inOrder}
 use Rattle.rules.specs.Text.{Token, tokensAt, textVerdict, innermost, levelsOf, levelsAt}
 use Rattle.rules.specs.declared.Bracket.the-variants.{Conditional, Iteration}
 use Rattle.rules.specs.declared.Code.{Code}

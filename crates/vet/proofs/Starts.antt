@@ -8,7 +8,8 @@ use native.Mathlib.Omega.{arith}
 use lib.Dec.{ltb, eqb}
 use lib.ListN.{length}
 use borrow.Author.Tests.{ltb-true, eqb-true}
-use Rattle.rules.specs.Directive.{placesOf, either, inOrder}
+use Rattle.rules.specs.Choice.{either}
+use Rattle.rules.specs.Rows.{placesOf, inOrder}
 use Rattle.rules.specs.Working.{Settled, settled, unsettled, settle, settingsOf}
 use Rattle.rules.specs.declared.Bracket.the-variants.{Conditional}
 use Rattle.rules.specs.declared.Code.the-variants.{Opens}

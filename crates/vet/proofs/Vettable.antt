@@ -9,7 +9,8 @@ use lib.Dec.{eqb}
 use lib.ListN.{length}
 use borrow.Author.Tests.{eqb-true, not-true}
 use Rattle.rules.specs.Choice.{both}
-use Rattle.rules.specs.Directive.{CodeRight, inOrder, itemAt}
+use Rattle.rules.specs.Directive.{CodeRight, itemAt}
+use Rattle.rules.specs.Rows.{inOrder}
 use Rattle.rules.specs.Text.{Block, opened, separated, isConditional, rightCount, isCloserOf, isWhole, deepest, tokensAt, textVerdict, Sequence, end, acts, escapes, iterates, chooses, Clauses, none, clause, Level, innermost, outer, before, asClauses, levelsAt, sequenceOf}
 use Rattle.rules.specs.declared.Bracket.{Bracket}
 use Rattle.rules.specs.declared.Bracket.the-variants.{Conditional, Iteration}

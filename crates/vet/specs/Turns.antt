@@ -4,7 +4,7 @@ use Prim.Native.Nat.{ℕ}
 use mathlib.Core.Bool.{cond}
 use mathlib.Core.List.{List}
 use lib.ListN.{length, getD}
-use Rattle.rules.specs.Piece.{accepts}
+use Rattle.rules.specs.Rows.{accepts}
 use Rattle.rules.specs.declared.Item.{Item}
 use Rattle.vet.specs.Use.{Use, writes, shows, stops, useOf}
 use Rattle.vet.specs.Worst.{worst}

@@ -5,7 +5,7 @@ use mathlib.Core.Bool.{Bool, false, cond}
 use mathlib.Core.List.{List}
 use lib.Dec.{ltb, eqb}
 use lib.ListN.{length}
-use Rattle.rules.specs.Directive.{placesOf, inOrder}
+use Rattle.rules.specs.Rows.{placesOf, inOrder}
 use Rattle.rules.specs.Text.{Sequence, end, acts, escapes, iterates, chooses, Clauses, none, clause}
 use Rattle.rules.specs.Working.{Settled, settled, unsettled, settle, settingsOf}
 use Rattle.rules.specs.declared.Bracket.the-variants.{Conditional}

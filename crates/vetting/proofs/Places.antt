@@ -6,7 +6,8 @@ use mathlib.Core.List.{List}
 use native.Mathlib.Omega.{arith}
 use lib.ListN.{length}
 use Rattle.rules.specs.Choice.{both}
-use Rattle.rules.specs.Directive.{inOrder, itemAt}
+use Rattle.rules.specs.Directive.{itemAt}
+use Rattle.rules.specs.Rows.{inOrder}
 use Rattle.rules.specs.Text.{tokensAt}
 use Rattle.rules.specs.declared.Directive.{Directive}
 use Rattle.rules.specs.declared.Item.{Item}

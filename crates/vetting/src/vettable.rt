@@ -12,7 +12,7 @@ ghost use mathlib.Core.Path.{_≡_};
 ghost use mathlib.Core.Bool.{true, not};
 ghost use Prim.Native.Nat.{_<_};
 ghost use Rattle.rules.specs.Choice.{both};
-ghost use Rattle.rules.specs.Directive.{inOrder};
+ghost use Rattle.rules.specs.Rows.{inOrder};
 ghost use Rattle.rules.proofs.TextLaws.{placeAfter};
 ghost use Rattle.vet.specs.Plain.{plainCode, isNext, noneNext, plainItem, vettableVerdict};
 
