@@ -1,7 +1,7 @@
 // What an item does where it is met, while a whole text is read: it is refused, or opens, parts or closes a block.
-use fitting::places::either;
+use rules::scalars::either;
 use fitting::places::is_well_written;
-use fitting::places::not;
+use rules::scalars::not;
 use reader::directive::item_at;
 use reader::marks::END_CONDITIONAL;
 use reader::marks::END_ITERATION;

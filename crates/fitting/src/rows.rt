@@ -14,7 +14,7 @@ use rules::Row;
 use rules::scalars::either;
 ghost use mathlib.Core.Path.{_≡_};
 ghost use mathlib.Core.Bool.{cond};
-ghost use Rattle.rules.specs.Rows.{noPlaces, onePlace, fourPlaces, noArgument, anyNumber, formRow, rowOf, rowIn};
+ghost use Rattle.rules.specs.Rows.{noPlaces, onePlace, fourPlaces, noArgument, anyNumber, formRow, rowOf, rowIn, kindTaken, accepts};
 ghost use Rattle.rules.specs.declared.Code.the-variants.{Opens};
 ghost use Rattle.rules.specs.declared.Place.the-variants.{Number as NumberPlace};
 
@@ -23,6 +23,13 @@ const MOST_NUMBER: u16 = 4096;
 
 // The greatest number of a character.
 const MOST_CHARACTER: u16 = 127;
+
+// The tags of kinds.
+const INTEGER: usize = 1;
+
+const CHARACTER: usize = 2;
+
+const LIST: usize = 4;
 
 fn number_to(least: u16, most: u16) -> Place
     ensures { λ r. ⌜ r ≡ NumberPlace least most ⌝ }
@@ -174,4 +181,24 @@ pub fn row_in(d: Directive) -> Row
 {
     let code = d.code;
     row_of(code, either(d.colon, d.at))
+}
+
+fn kind_taken(kinds: Kinds, kind: usize) -> bool
+    ensures { λ r. ⌜ r ≡ kindTaken kinds kind ⌝ }
+{
+    match kinds {
+        Kinds::Any => true,
+        Kinds::NoList => kind != LIST,
+        Kinds::Integer => kind == INTEGER,
+        Kinds::Character => kind == CHARACTER,
+    }
+}
+
+// Whether a directive that writes takes an argument of a kind, given by its tag.
+pub fn takes_kind(f: Form, kind: usize) -> bool
+    ensures { λ r. ⌜ r ≡ accepts f kind ⌝ }
+{
+    let row = form_row(f);
+    let kinds = row.kinds;
+    kind_taken(kinds, kind)
 }

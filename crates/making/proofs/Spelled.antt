@@ -22,11 +22,11 @@ use Rattle.rules.specs.declared.Setting.the-variants.{Absent, Is}
 use Rattle.rules.specs.declared.Settings.{Settings}
 use Rattle.rules.proofs.Digits.{digits-one, digits-more}
 use Rattle.pieces.specs.Bytes.{quotedOf, signed, figureOf, digitsIn as figureDigits}
-use Rattle.pieces.specs.Given.{Allowed}
+use Rattle.rules.specs.Working.{InPlace}
 use Rattle.making.specs.Texts.{numberOf, unnamedOf}
 
 -- a parameter with its default, in the range of its place
-pub in-range : {least most : ℕ} (s : Setting) (d : ℕ) → Allowed (number least most) s → least ≤ d → d ≤ most
+pub in-range : {least most : ℕ} (s : Setting) (d : ℕ) → InPlace (NumberPlace least most) s → least ≤ d → d ≤ most
     → (least ≤ orElse s d) × (orElse s d ≤ most)
 in-range Absent d a h k = (h, k)
 in-range (Is n) d a h k = a

@@ -6,9 +6,10 @@ use mathlib.Core.List.{List, _∷_}
 use native.Mathlib.Omega.{arith}
 use lib.ListN.{length, getD}
 use borrow.Author.Tests.{le-leb}
-use Rattle.rules.specs.Choice.{either}
 use Rattle.rules.specs.Directive.{itemAt}
-use Rattle.rules.specs.Rows.{wellWritten, placesOf, anyNumber}
+use Rattle.rules.specs.Choice.{either}
+use Rattle.rules.specs.Working.{InPlace, InPlaces}
+use Rattle.rules.specs.Rows.{anyNumber, rowOf, placesIn, wellWritten}
 use Rattle.rules.specs.Flow.{Flow}
 use Rattle.rules.specs.Table.{viewOf, tableVerdict}
 use Rattle.rules.specs.Text.{Level, Sequence, end, innermost, outer, levelsAt}
@@ -27,7 +28,7 @@ use Rattle.rules.proofs.RunLaws.{begin-yes, begin-no, nested-yes, nested-no, ru
 use Rattle.rules.proofs.Tests.{not-both-ways, true-both}
 use Rattle.rules.proofs.TextLaws.{next-inside}
 use Rattle.checking.specs.Ends.{AfterBlock}
-use Rattle.working.specs.Settling.{InHand, handAt, InPlace, InRange, placesIn, SettlesDirective}
+use Rattle.working.specs.Settling.{InHand, handAt, SettlesDirective}
 use Rattle.working.specs.declared.arguments.Hand.{Hand}
 use Rattle.working.specs.declared.settling.SettledOut.the-variants.{Is as settledIs, Wrong as settledWrong}
 use Rattle.acting.proofs.ActLaws.{settings-well, settings-ill}
@@ -50,7 +51,7 @@ use Rattle.nesting.proofs.NestLaws.{fewer, frames-length, frames-top, l
 use Rattle.nesting.proofs.MoveLaws.{hand-in, next-in, lies, moves-refused, moves-over, moves-as, moves-in, moves-out, closes-is, end-rest, clause-frame, loop-frame, fits, told-done}
 
 -- the number of passes of an iteration can be written down
-pub passes-fit : (d : Directive) (s : Settings) → iterates (d .code) ≡ true → InRange (placesIn d) s → FitsPasses (s .first)
+pub passes-fit : (d : Directive) (s : Settings) → iterates (d .code) ≡ true → InPlaces (placesIn d) s → FitsPasses (s .first)
 passes-fit d s h r = by (d .code) refl h
   where
     small : (x : Setting) → InPlace anyNumber x → FitsPasses x
@@ -62,7 +63,7 @@ passes-fit d s h r = by (d .code) refl h
     by Jump q h = absurd (not-both-ways h refl)
     by Escape q h = absurd (not-both-ways h refl)
     by (Opens Conditional) q h = absurd (not-both-ways h refl)
-    by (Opens Iteration) q h = small (s .first) (subst (λ (c : Code). InPlace (getD (placesOf c (either (d .colon) (d .at))) 0 anyNumber) (s .first)) q (r .first))
+    by (Opens Iteration) q h = small (s .first) (subst (λ (c : Code). InPlace (rowOf c (either (d .colon) (d .at)) .places .first) (s .first)) q (r .first))
     by Separator q h = absurd (not-both-ways h refl)
     by (ClosesBlock b) q h = absurd (not-both-ways h refl)
     by Unknown q h = absurd (not-both-ways h refl)

@@ -1,9 +1,11 @@
-// What several crates do with truth values and single numbers.
+// What several crates do with truth values, single numbers and settings.
+use crate::Setting;
 ghost use mathlib.Core.Path.{_≡_};
 ghost use mathlib.Core.Bool.{not};
 ghost use Prim.Native.Nat.{_-_, _≤_, _<_};
 ghost use Rattle.rules.specs.Choice.{both, either};
 ghost use Rattle.rules.specs.Number.{digitByte};
+ghost use Rattle.rules.specs.Piece.{orElse};
 
 pub fn both(a: bool, b: bool) -> bool
     ensures { λ r. ⌜ r ≡ both a b ⌝ }
@@ -51,4 +53,14 @@ pub fn hex_digit(digit: u8) -> u8
     ensures { λ r. ⌜ r ≡ digitByte digit ⌝ }
 {
     if digit < 10 { 48 + digit } else { 87 + digit }
+}
+
+// A parameter that is worked out, or its default.
+pub fn number_or(setting: Setting, default: usize) -> usize
+    ensures { λ r. ⌜ r ≡ orElse setting default ⌝ }
+{
+    match setting {
+        Setting::Absent => default,
+        Setting::Is(n) => n,
+    }
 }

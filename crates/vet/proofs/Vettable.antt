@@ -11,7 +11,7 @@ use borrow.Author.Tests.{eqb-true, not-true}
 use Rattle.rules.specs.Choice.{both}
 use Rattle.rules.specs.Directive.{CodeRight, itemAt}
 use Rattle.rules.specs.Rows.{inOrder}
-use Rattle.rules.specs.Text.{Block, opened, separated, isConditional, rightCount, isCloserOf, isWhole, deepest, tokensAt, textVerdict, Sequence, end, acts, escapes, iterates, chooses, Clauses, none, clause, Level, innermost, outer, before, asClauses, levelsAt, sequenceOf}
+use Rattle.rules.specs.Text.{Block, opened, separated, isConditional, rightCount, isCloserOf, isWhole, deepest, tokensAt, textVerdict, Sequence, end, acts, escapes, iterates, chooses, Clauses, none, clause, Level, innermost, outer, before, asClauses, levelsAt, sequenceOf, placeAfter}
 use Rattle.rules.specs.declared.Bracket.{Bracket}
 use Rattle.rules.specs.declared.Bracket.the-variants.{Conditional, Iteration}
 use Rattle.rules.specs.declared.Code.{Code}
@@ -22,7 +22,7 @@ use Rattle.rules.specs.declared.Item.the-variants.{End, Literal, Written, BadNu
 use Rattle.rules.specs.declared.Verdict.the-variants.{Accepted}
 use Rattle.rules.proofs.Bases.{code-right}
 use Rattle.rules.proofs.Tests.{both-true, not-both-ways}
-use Rattle.rules.proofs.TextLaws.{placeAfter, stands, next-inside, tokens-is, levels-end, levels-literal, levels-writes, levels-conditional, levels-separator, levels-closer, Sound, sound-start, sound-end, sound-literal, sound-bad, sound-unfinished, sound-known, sound-writes, sound-opener, sound-separator, sound-closer}
+use Rattle.rules.proofs.TextLaws.{stands, next-inside, tokens-is, levels-end, levels-literal, levels-writes, levels-conditional, levels-separator, levels-closer, Sound, sound-start, sound-end, sound-literal, sound-bad, sound-unfinished, sound-known, sound-writes, sound-opener, sound-separator, sound-closer}
 use Rattle.vet.specs.Plain.{Opener, plainCode, noneNext, plainItem, plainFrom, vettableVerdict}
 use Rattle.vet.proofs.Clauses.{clausesIn}
 use Rattle.vet.proofs.Ordinary.{Ordinary, past-test}

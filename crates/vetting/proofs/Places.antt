@@ -8,12 +8,12 @@ use lib.ListN.{length}
 use Rattle.rules.specs.Choice.{both}
 use Rattle.rules.specs.Directive.{itemAt}
 use Rattle.rules.specs.Rows.{inOrder}
-use Rattle.rules.specs.Text.{tokensAt}
+use Rattle.rules.specs.Text.{tokensAt, placeAfter}
 use Rattle.rules.specs.declared.Directive.{Directive}
 use Rattle.rules.specs.declared.Item.{Item}
 use Rattle.rules.specs.declared.Item.the-variants.{End, Literal, Written, BadNumber, Unfinished}
 use Rattle.rules.specs.declared.Verdict.the-variants.{Accepted, Refused}
-use Rattle.rules.proofs.TextLaws.{placeAfter, Stands, stands, tokens-is}
+use Rattle.rules.proofs.TextLaws.{Stands, stands, tokens-is}
 use Rattle.vet.specs.Plain.{plainCode, isNext, noneNext, plainItem, plainFrom, vettableVerdict}
 use Rattle.vet.proofs.Loop.{Follows, plain-on, plain-not, plain-end}
 

@@ -1,5 +1,5 @@
 // Which formats a vet takes: those that are plain but for their conditionals.
-use fitting::places::both;
+use rules::scalars::both;
 use reader::directive::item_at;
 use rules::Bracket;
 use rules::Code;
@@ -13,7 +13,7 @@ ghost use mathlib.Core.Bool.{true, not};
 ghost use Prim.Native.Nat.{_<_};
 ghost use Rattle.rules.specs.Choice.{both};
 ghost use Rattle.rules.specs.Rows.{inOrder};
-ghost use Rattle.rules.proofs.TextLaws.{placeAfter};
+ghost use Rattle.rules.specs.Text.{placeAfter};
 ghost use Rattle.vet.specs.Plain.{plainCode, isNext, noneNext, plainItem, vettableVerdict};
 
 fn is_vettable_code(code: Code) -> bool
