@@ -37,7 +37,8 @@ use Rattle.vet.specs.Vet.{Asked}
 use Rattle.vet.specs.Worst.{worst}
 use Rattle.vet.specs.declared.Turn.{Turn}
 use Rattle.vet.specs.declared.Turn.the-variants.{Goes, Stops}
-use Rattle.vet.proofs.Settling.{Settles as Stays, settle-plain, settle-placed}
+use Rattle.vet.proofs.Ordinary.{PlainDirective}
+use Rattle.vet.proofs.Settling.{Settles as Stays, settle-plain, settle-placed, directive-suits}
 use Rattle.vet.proofs.TurnLaws.{turn-unsettled, turn-settled}
 use Rattle.vet.proofs.WorstLaws.{repeat-length, fold-length}
 use Rattle.working.specs.Settling.{AllSupplied, Supplied, settledAs, listed, Settles}
@@ -200,3 +201,14 @@ number-least least most (Is k) n a h = a .0
 pub number-most : (least most : ℕ) (x : Setting) (n : ℕ) → InPlace (NumberPlace least most) x → n ≤ most → orElse x n ≤ most
 number-most least most Absent n a h = h
 number-most least most (Is k) n a h = a .1
+
+-- a plain directive is of the form of its code
+pub writing-of : (d : Directive) → PlainDirective d → (f : Form) → d .code ≡ Writes f → Writing f d
+writing-of d w f e =
+    let same : w .form ≡ f = cc (w .code) in
+    record {
+      code = e;
+      suits = rw same at (directive-suits d w);
+      fixed = w .fixed;
+      based = rw same at (w .based);
+    }
