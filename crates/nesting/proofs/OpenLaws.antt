@@ -29,9 +29,10 @@ use Rattle.rules.proofs.Tests.{not-both-ways, true-both}
 use Rattle.rules.proofs.TextLaws.{next-inside}
 use Rattle.checking.specs.Ends.{AfterBlock}
 use Rattle.working.specs.Settling.{InHand, handAt, SettlesDirective}
+use Rattle.working.proofs.Answers.{run-settled, run-refused}
 use Rattle.working.specs.declared.arguments.Hand.{Hand}
 use Rattle.working.specs.declared.settling.SettledOut.the-variants.{Is as settledIs, Wrong as settledWrong}
-use Rattle.acting.proofs.ActLaws.{settings-well, settings-ill}
+use Rattle.acting.proofs.ActLaws.{settings-ill}
 use Rattle.blocks.specs.Clauses.{Chooses}
 use Rattle.blocks.specs.Parts.{opensBlock, iterates, outsideOf, OverIn, GoesOver}
 use Rattle.blocks.specs.declared.clauses.Chosen.the-variants.{At, Nothing, Wrong}
@@ -173,14 +174,14 @@ module _ (t table : List ℕ) (h : Here) (o : Nest) (d : Directive) (y : Ready t
 
   pub open-unsettled : {code : ℕ} {r : Moved} → wellWritten d ≡ true → SettlesDirective table (h .hand) d (h .next .0) (settledWrong code) → r ≡ overAt code (h .place) h o → Moves t table opens (h .left) (weight h o + 2) r
   open-unsettled w g q =
-      moves-refused t table q (settings-well (viewOf table) (h .place) (h .left) d (handAt (h .hand) (h .next .0)) _ w ∙ g .as-defined (h .next .0) (h .place) (h .left) _) (omega arith)
+      moves-refused t table q (run-refused g w (h .place) (h .left) _ refl) (omega arith)
 
   pub open-settled : {st : Settings} {i : ArgumentPosition} {r : Moved} (looped : Bool) → iterates (d .code) ≡ looped → wellWritten d ≡ true → SettlesDirective table (h .hand) d (h .next .0) (settledIs st i)
       → Moves t table (inside looped (levelsAt t) (viewOf table) (handAt (h .hand)) (h .place) d (d .next) (h .next .0) (h .left) st (i .0) ks) (h .left) (weight h o + 2) r → Moves t table opens (h .left) (weight h o + 2) r
   open-settled {st} {i} looped b w g m =
       moves-as t table
       (ap (λ (z : Bool). opening z (levelsAt t) (viewOf table) (handAt (h .hand)) (h .place) d (d .next) (h .next .0) (h .left) ks) b
-      ∙ settings-well (viewOf table) (h .place) (h .left) d (handAt (h .hand) (h .next .0)) _ w ∙ g .as-defined (h .next .0) (h .place) (h .left) _)
+      ∙ run-settled g w (h .place) (h .left) _ refl)
       (omega arith) (omega arith) m
 
 -- a block that is met
