@@ -6,10 +6,10 @@ use mathlib.Core.List.{List}
 use native.Mathlib.Omega.{arith}
 use borrow.Author.Tests.{lt-ltb, le-ltb, le-leb, lt-leb, eq-eqb, ne-eqb}
 use lib.ListN.{length}
-use Rattle.rules.specs.Directive.{wellWritten, placesOf, inOrder, either}
+use Rattle.rules.specs.Rows.{placesIn, wellWritten, accepts}
 use Rattle.rules.specs.Table.{View, Value}
-use Rattle.rules.specs.Piece.{orElse, textOf, kindOf, accepts}
-use Rattle.rules.specs.Working.{Context, argumentIn, settle, Source, own, back, given, sourceOf}
+use Rattle.rules.specs.Piece.{orElse, textOf, kindOf}
+use Rattle.rules.specs.Working.{Context, argumentIn, settleAll, Source, own, back, given, sourceOf}
 use Rattle.rules.specs.Flow.{done, Finish, finishOf}
 use Rattle.rules.specs.Run.{Flow, refused, put, onSettled, withSettings, withArgument, write, writeFrom, jumpTo, jump, directiveActs, itemActs}
 use Rattle.rules.specs.declared.Code.{Code}
@@ -60,7 +60,7 @@ module _ (p m next at count place : ℕ) (b w : List ℕ) where
 module _ (v : View) (p m : ℕ) (d : Directive) (c : Context) where
   -- the parameters of a directive that is well written, and of one that is not
   pub settings-well : (on : Settings → ℕ → Flow) → wellWritten d ≡ true
-      → withSettings v p m d c on ≡ onSettled p m (settle v c (placesOf (d .code) (either (d .colon) (d .at))) (inOrder (d .parameters)) (c .next)) on
+      → withSettings v p m d c on ≡ onSettled p m (settleAll v c (placesIn d) (d .parameters) (c .next)) on
   settings-well on h = choose-yes _ _ h
 
   pub settings-ill : (on : Settings → ℕ → Flow) → wellWritten d ≡ false → withSettings v p m d c on ≡ refused 5 p m

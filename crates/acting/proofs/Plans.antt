@@ -3,9 +3,9 @@ use Prim.Native.Nat.{ℕ, _≤_}
 use mathlib.Core.Path.{_≡_, refl, sym, ap, subst, _∙_}
 use mathlib.Core.Bool.{Bool, true, false}
 use mathlib.Core.List.{List}
-use Rattle.rules.specs.Directive.{wellWritten}
+use Rattle.rules.specs.Rows.{wellWritten, accepts}
 use Rattle.rules.specs.Table.{meant, viewOf}
-use Rattle.rules.specs.Piece.{textOf, kindOf, accepts}
+use Rattle.rules.specs.Piece.{textOf, kindOf}
 use Rattle.rules.specs.Working.{Source, sourceOf}
 use Rattle.rules.specs.Run.{Flow, refused, put, writeFrom}
 use Rattle.rules.specs.declared.Argument.{Argument}

@@ -3,10 +3,12 @@ use Prim.Native.Nat.{ℕ, _+_, _-_, _≤_, _<_}
 use mathlib.Core.Path.{_≡_, refl, sym, ap, subst, _∙_}
 use mathlib.Core.List.{List, [], _∷_}
 use native.Mathlib.Omega.{arith}
-use Rattle.rules.specs.Directive.{FormRight, Place, number, character, anyNumber, countingNumber, formPlaces}
+use Rattle.rules.specs.Directive.{FormRight}
+use Rattle.rules.specs.Rows.{anyNumber, formRow, formPlaces}
+use Rattle.rules.specs.declared.Place.the-variants.{Number as NumberPlace}
 use Rattle.rules.specs.Table.{Value, Holds, meant, viewOf}
 use Rattle.rules.specs.Piece.{orElse}
-use Rattle.rules.specs.Working.{argumentIn}
+use Rattle.rules.specs.Working.{argumentIn, InPlace, InPlaces}
 use Rattle.rules.specs.Run.{Flow, refused, write, writeFrom}
 use Rattle.rules.specs.declared.Argument.{Argument}
 use Rattle.rules.specs.declared.Argument.the-variants.{Boolean, Integer, Character, Text, Entries}
@@ -18,15 +20,15 @@ use Rattle.rules.specs.declared.Setting.{Setting}
 use Rattle.rules.specs.declared.Setting.the-variants.{Absent, Is}
 use Rattle.rules.specs.declared.Settings.{Settings}
 use Rattle.rules.proofs.AnswerLaws.{text-fits, text-short}
-use Rattle.pieces.specs.Given.{Allowed, EachAllowed, Worked, Reachable}
-use Rattle.working.specs.Settling.{InPlace, InRange, handAt}
+use Rattle.pieces.specs.Given.{Worked, Reachable}
+use Rattle.working.specs.Settling.{handAt}
 use Rattle.working.specs.declared.arguments.Hand.{Hand}
 use Rattle.acting.specs.declared.planning.Source.{Source}
 use Rattle.acting.specs.declared.planning.Source.the-variants.{Own, Back, Given}
 use Rattle.acting.specs.declared.planning.Taken.{Taken}
 use Rattle.acting.specs.declared.planning.Taken.the-variants.{None, Is as TakenIs}
 use Rattle.acting.specs.Acting.{Numbered}
-use Rattle.acting.specs.Planning.{Coded, sourceAs, SourceReachable, onTaken, TakenReaches, Takes}
+use Rattle.acting.specs.Planning.{Coded, OriginRight, sourceAs, SourceReachable, onTaken, TakenReaches, Takes}
 use Rattle.acting.proofs.ActLaws.{from-own, from-own-none, from-back, from-back-none}
 
 -- an argument that was read lies in its table
@@ -85,37 +87,26 @@ module _ {t : List ℕ} {hand : Hand} {s : Source} {i : ℕ} {r : Taken} (k : Ta
         → writeFrom (viewOf t) p m f d (handAt hand 0) st i on (sourceAs t s) ≡ write (viewOf t) p m f d st (meant t x) (next .0) on
     taken-is q = k .as-defined p m f d st on ∙ ap (onTaken t p m (λ x next. write (viewOf t) p m f d st x next on)) q
 
-coded : (x : Setting) → Allowed (number 0 127) x → Coded x
+coded : (x : Setting) → InPlace (NumberPlace 0 127) x → Coded x
 coded Absent a = tt
 coded (Is n) a = a .1
 
-pub worked-coded : {f : Form} {s : Settings} → f ≡ Glyph → Worked f s → Coded (s .first)
-worked-coded {f} {s} e w = coded (s .first) (subst (λ (g : Form). EachAllowed (formPlaces g) (s .first ∷ s .second ∷ s .third ∷ s .fourth ∷ [])) e (w .places) .0)
+-- only of a character is the first parameter its number
+pub origin-right : (f : Form) {s : Settings} → Worked f s → OriginRight (formRow f .origin) s
+origin-right (Object q) w = tt
+origin-right (Numeral b) w = tt
+origin-right Glyph {s} w = coded (s .first) (w .places .first)
+origin-right Plural w = tt
+origin-right (Repeat b) w = tt
+origin-right Fold w = tt
 
 pub coded-fits : {x : Setting} {n : ℕ} → x ≡ Is n → Coded x → n ≤ 127
 coded-fits e c = subst Coded e c
 
--- the parameters that were worked out, in the ranges of their places
-allowed : (y : Place) (x : Setting) → InPlace y x → Allowed y x
-allowed (number least most) Absent a = tt
-allowed (number least most) (Is n) a = a
-allowed character Absent a = tt
-allowed character (Is n) a = a
+pub worked-in : (f : Form) (s : Settings) → FormRight f → InPlaces (formPlaces f) s → Worked f s
+worked-in f s b h = record { base = b; places = h }
 
-each : (f : Form) (s : Settings) → InRange (formPlaces f) s → EachAllowed (formPlaces f) (s .first ∷ s .second ∷ s .third ∷ s .fourth ∷ [])
-each (Object q) s h =
-    (allowed anyNumber (s .first) (h .first), (allowed countingNumber (s .second) (h .second), (allowed anyNumber (s .third) (h .third), (allowed character (s .fourth) (h .fourth), tt))))
-each (Numeral b) s h =
-    (allowed anyNumber (s .first) (h .first), (allowed character (s .second) (h .second), (allowed character (s .third) (h .third), (allowed countingNumber (s .fourth) (h .fourth), tt))))
-each Glyph s h = (allowed (number 0 127) (s .first) (h .first), tt)
-each Plural s h = tt
-each (Repeat b) s h = (allowed anyNumber (s .first) (h .first), tt)
-each Fold s h = tt
-
-pub worked-in : (f : Form) (s : Settings) → FormRight f → InRange (formPlaces f) s → Worked f s
-worked-in f s b h = record { base = b; places = each f s h }
-
-pub numbered : (x : Setting) → InPlace (number 0 4096) x → Numbered x
+pub numbered : (x : Setting) → InPlace anyNumber x → Numbered x
 numbered Absent a = tt
 numbered (Is n) a = a .1
 

@@ -11,6 +11,8 @@ use Rattle.rules.specs.Run.{Flow, refused, put, write, writeFrom, itemActs}
 use Rattle.rules.specs.declared.Directive.{Directive}
 use Rattle.rules.specs.declared.Form.{Form}
 use Rattle.rules.specs.declared.Item.the-variants.{Written}
+use Rattle.rules.specs.declared.Origin.{Origin}
+use Rattle.rules.specs.declared.Origin.the-variants.{Nowhere, Next as NextArgument, NextOrBack, NextOrNumber}
 use Rattle.rules.specs.declared.Setting.{Setting}
 use Rattle.rules.specs.declared.Setting.the-variants.{Absent, Is}
 use Rattle.rules.specs.declared.Settings.{Settings}
@@ -58,6 +60,13 @@ pub record Takes (t : List ℕ) (hand : Hand) (source : TakenFrom) (i : ℕ) (r 
 abbrev pub Coded : Setting → Type 0
 Coded Absent = Unit {0}
 Coded (Is n) = n ≤ 127
+
+-- what the settings have to be for where the argument comes from
+abbrev pub OriginRight : Origin → Settings → Type 0
+OriginRight Nowhere s = Unit {0}
+OriginRight NextArgument s = Unit {0}
+OriginRight NextOrBack s = Unit {0}
+OriginRight NextOrNumber s = Coded (s .first)
 
 -- how a directive d of a form at p goes on by its plan, with m steps left: its text is put and the next argument follows,
 -- or it is refused

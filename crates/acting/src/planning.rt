@@ -1,11 +1,14 @@
 // What a directive shows, planned before any buffer is known: where its argument comes from, which one it is, and
 // whether its form takes that kind.
 use fitting::places::is_well_written;
+use fitting::rows::form_row;
+use fitting::rows::takes_kind;
 use rules::Argument;
 use rules::ArgumentPosition;
 use rules::Code;
 use rules::Directive;
 use rules::Form;
+use rules::Origin;
 use rules::Setting;
 use rules::Settings;
 use working::Hand;
@@ -17,12 +20,11 @@ ghost use mathlib.Core.List.{List};
 ghost use Prim.Native.Nat.{ℕ, _≤_};
 ghost use Rattle.rules.specs.Directive.{FormRight};
 ghost use Rattle.rules.specs.Table.{meant};
-ghost use Rattle.rules.specs.Piece.{kindOf, accepts};
-ghost use Rattle.rules.specs.Working.{glyphSource};
-ghost use Rattle.rules.specs.Working.{sourceOf as sourceIn};
+ghost use Rattle.rules.specs.Piece.{kindOf};
+ghost use Rattle.rules.specs.Working.{glyphSource, sourceBy, sourceOf as sourceIn};
 ghost use Rattle.pieces.specs.Given.{Worked};
 ghost use Rattle.working.specs.Settling.{InHand};
-ghost use Rattle.acting.specs.Planning.{sourceAs, SourceReachable, Takes, Coded, PlansSettled, Plans};
+ghost use Rattle.acting.specs.Planning.{sourceAs, SourceReachable, Takes, Coded, OriginRight, PlansSettled, Plans};
 
 // Where the argument of a directive comes from: the next one, the one before it, or none is taken and this stands in.
 enum Source {
@@ -42,27 +44,35 @@ fn glyph_source(setting: Setting) -> Source
     }
 }
 
-fn source_of(form: Form, colon: bool, settings: Settings) -> Source
-    requires { ⌜ Worked form settings ⌝ }
-    ensures { λ r. ⌜ ((t : List ℕ) → sourceAs t r ≡ sourceIn form colon settings) ⌝ }
+fn source_by(origin: Origin, colon: bool, settings: Settings) -> Source
+    requires { ⌜ OriginRight origin settings ⌝ }
+    ensures { λ r. ⌜ ((t : List ℕ) → sourceAs t r ≡ sourceBy origin colon settings) ⌝ }
     ensures { λ r. ⌜ ((t : List ℕ) → SourceReachable t r) ⌝ }
 {
-    match form {
-        Form::Object(_) => Source::Own,
-        Form::Numeral(_) => Source::Own,
-        Form::Glyph => {
-            let first = settings.first;
-            glyph_source(first)
-        }
-        Form::Plural => {
+    match origin {
+        Origin::Nowhere => Source::Given(Argument::Boolean(false)),
+        Origin::Next => Source::Own,
+        Origin::NextOrBack => {
             if colon {
                 return Source::Back;
             }
             Source::Own
         }
-        Form::Repeat(_) => Source::Given(Argument::Boolean(false)),
-        Form::Fold => Source::Given(Argument::Boolean(false)),
+        Origin::NextOrNumber => {
+            let first = settings.first;
+            glyph_source(first)
+        }
     }
+}
+
+fn source_of(form: Form, colon: bool, settings: Settings) -> Source
+    requires { ⌜ Worked form settings ⌝ }
+    ensures { λ r. ⌜ ((t : List ℕ) → sourceAs t r ≡ sourceIn form colon settings) ⌝ }
+    ensures { λ r. ⌜ ((t : List ℕ) → SourceReachable t r) ⌝ }
+{
+    let row = form_row(form);
+    let origin = row.origin;
+    source_by(origin, colon, settings)
 }
 
 // The argument that a directive takes, with the next one after it; none where 01 gives code 6.
@@ -113,19 +123,6 @@ fn kind_of(argument: Argument) -> usize
         Argument::Character(_) => 2,
         Argument::Text { start: _, end: _ } => 3,
         Argument::Entries { first: _, count: _ } => 4,
-    }
-}
-
-fn takes_kind(form: Form, kind: usize) -> bool
-    ensures { λ r. ⌜ r ≡ accepts form kind ⌝ }
-{
-    match form {
-        Form::Object(_) => kind != 4,
-        Form::Numeral(_) => kind == 1,
-        Form::Glyph => kind == 2,
-        Form::Plural => true,
-        Form::Repeat(_) => true,
-        Form::Fold => true,
     }
 }
 

@@ -8,10 +8,11 @@ use crate::wanting::want_clause;
 use checking::ends::ClauseEnd;
 use checking::ends::after_block;
 use checking::ends::next_clause;
-use fitting::places::both;
 use rules::ArgumentPosition;
 use rules::Directive;
 use rules::Settings;
+use rules::scalars::both;
+use rules::scalars::less;
 use working::Hand;
 ghost use mathlib.Core.Path.{_≡_};
 ghost use mathlib.Core.Bool.{false, cond};
@@ -44,12 +45,6 @@ pub enum Chosen {
         next: ArgumentPosition,
     },
     Wrong(u32),
-}
-
-fn less(n: usize, k: usize) -> usize
-    ensures { λ r. ⌜ r ≡ n - k ⌝ }
-{
-    if n <= k { 0 } else { n - k }
 }
 
 fn farther(a: usize, b: usize) -> usize

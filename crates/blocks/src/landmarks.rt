@@ -7,7 +7,7 @@ use checking::ends::Shape;
 use checking::ends::next_clause;
 use checking::ends::shape_at;
 use reader::short::skip_short;
-use working::widened;
+use rules::scalars::widened;
 ghost use mathlib.Core.Path.{_≡_};
 ghost use mathlib.Core.List.{List};
 ghost use Prim.Native.Nat.{ℕ, _+_, _≤_, _<_};

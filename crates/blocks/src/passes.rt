@@ -8,7 +8,7 @@ ghost use mathlib.Core.Path.{_≡_};
 ghost use mathlib.Core.Bool.{cond};
 ghost use mathlib.Core.List.{List};
 ghost use Prim.Native.Nat.{ℕ, _+_, _≤_, _<_};
-ghost use Rattle.rules.specs.Directive.{either};
+ghost use Rattle.rules.specs.Choice.{either};
 ghost use Rattle.rules.specs.Working.{noneRemain};
 ghost use Rattle.rules.specs.Run.{usedUp, oneLess};
 ghost use Rattle.working.specs.Settling.{InHand, handAt};

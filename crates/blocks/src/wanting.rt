@@ -1,5 +1,5 @@
 // Which clause a conditional wants, by its parameter or its argument. The text is not looked at.
-use fitting::places::not;
+use rules::scalars::not;
 use numbers::is_negative;
 use numbers::magnitude;
 use rules::Argument;

@@ -10,8 +10,9 @@ use native.Mathlib.Numerals.{add-one}
 use lib.Dec.{ltb, eqb}
 use lib.ListN.{length}
 use borrow.Author.Tests.{lt-ltb, le-ltb, ltb-true, ne-eqb}
-use Rattle.rules.specs.Choice.{both}
-use Rattle.rules.specs.Directive.{blank, either, itemAt, wellWritten}
+use Rattle.rules.specs.Choice.{both, either}
+use Rattle.rules.specs.Directive.{blank, itemAt}
+use Rattle.rules.specs.Rows.{wellWritten}
 use Rattle.rules.specs.Text.{Block, opened, opensConditional, maySeparate, rightCount, isCloserOf, provided, deepest, directiveMet, verdictAt, longest, textVerdict}
 use Rattle.rules.specs.declared.Bracket.{Bracket}
 use Rattle.rules.specs.declared.Bracket.the-variants.{Conditional, Iteration}

@@ -6,7 +6,8 @@ use mathlib.Core.Bool.{Bool, true, false, cond, not}
 use mathlib.Core.List.{List, [], _∷_}
 use lib.Dec.{ltb, eqb}
 use lib.ListN.{length}
-use Rattle.rules.specs.Directive.{either, wellWritten}
+use Rattle.rules.specs.Choice.{either}
+use Rattle.rules.specs.Rows.{wellWritten}
 use Rattle.rules.specs.Text.{Block, opensConditional, deepest, verdictAt}
 use Rattle.rules.specs.declared.Bracket.{Bracket}
 use Rattle.rules.specs.declared.Bracket.the-variants.{Conditional, Iteration}

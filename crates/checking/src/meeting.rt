@@ -1,7 +1,7 @@
 // What an item does where it is met, while a whole text is read: it is refused, or opens, parts or closes a block.
-use fitting::places::either;
+use rules::scalars::either;
 use fitting::places::is_well_written;
-use fitting::places::not;
+use rules::scalars::not;
 use reader::directive::item_at;
 use reader::marks::END_CONDITIONAL;
 use reader::marks::END_ITERATION;
@@ -17,7 +17,8 @@ use rules::Code;
 use rules::Directive;
 use rules::Item;
 ghost use mathlib.Core.Path.{_≡_};
-ghost use Rattle.rules.specs.Directive.{itemAt, wellWritten};
+ghost use Rattle.rules.specs.Directive.{itemAt};
+ghost use Rattle.rules.specs.Rows.{wellWritten};
 ghost use Rattle.checking.specs.Checks.{hasClauses, isRepeated, mayPart, countIn, blockBy, blockOfMark, unless, metOpener, metSeparator, metEndConditional, metEndIteration, metBy, metEnd, metItem, metMark};
 
 // The innermost open block, by the kind of its opener: none, ~[, ~:[, ~@[, or one of ~{ and ~@{. The opener itself is not

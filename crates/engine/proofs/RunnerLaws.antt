@@ -7,7 +7,8 @@ use native.Mathlib.Omega.{arith}
 use denote.Enum.Declared.{tagOf}
 use types.Run.{OneOf, miss}
 use lib.ListN.{length}
-use Rattle.rules.specs.Directive.{CodeRight, itemAt, either}
+use Rattle.rules.specs.Choice.{either}
+use Rattle.rules.specs.Directive.{CodeRight, itemAt}
 use Rattle.rules.specs.Table.{View}
 use Rattle.rules.specs.Text.{Level, innermost, outer, end, levelsAt}
 use Rattle.rules.specs.Working.{Context, noneRemain}

@@ -7,9 +7,9 @@ use native.Mathlib.Omega.{arith}
 use lib.Dec.{leb}
 use Rattle.rules.specs.Flow.{Flow, done, refused, put, Stretch, still}
 use Rattle.rules.specs.Table.{View}
-use Rattle.rules.specs.Directive.{wellWritten, placesOf, inOrder, either}
+use Rattle.rules.specs.Rows.{placesIn, wellWritten}
 use Rattle.rules.specs.Piece.{orElse}
-use Rattle.rules.specs.Working.{Context, Settled, settled, unsettled, settle}
+use Rattle.rules.specs.Working.{Context, Settled, settled, unsettled, settleAll}
 use Rattle.rules.specs.Run.{choose, onSettled, jumpTo, jump, directiveActs, itemActs}
 use Rattle.rules.specs.declared.Code.{Code}
 use Rattle.rules.specs.declared.Code.the-variants.{Jump}
@@ -53,7 +53,7 @@ module _ (v : View) (p m : ℕ) (c : Context) where
   silent-jump d q =
       subst (λ (k : Code). Silent (λ on. directiveActs v p m d k c on)) (sym q)
       (silent-either (wellWritten d)
-      (silent-settled (settle v c (placesOf (d .code) (either (d .colon) (d .at))) (inOrder (d .parameters)) (c .next)) (silent-by d))
+      (silent-settled (settleAll v c (placesIn d) (d .parameters) (c .next)) (silent-by d))
       (stops 5 p m (λ on. refl)))
 
 -- an end is followed by nothing

@@ -1,2 +1,3 @@
-// Which parameters and modifiers a directive takes, by the places of its code.
-pub mod places;
+// What each directive is, and whether one is written as it may be.
+pub mod places; // which parameters and modifiers it takes
+pub mod rows; // what it is, by its code

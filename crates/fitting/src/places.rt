@@ -1,49 +1,38 @@
 // Which parameters and modifiers a directive takes.
-use rules::Bracket;
-use rules::Code;
+use crate::rows::row_in;
 use rules::Directive;
-use rules::Form;
+use rules::Modifiers;
 use rules::Parameter;
 use rules::Parameters;
+use rules::Place;
+use rules::Places;
+use rules::scalars::both;
+use rules::scalars::either;
+use rules::scalars::not;
 ghost use mathlib.Core.Path.{_≡_};
-ghost use mathlib.Core.List.{[], _∷_};
-ghost use mathlib.Core.Bool.{not, cond};
 ghost use lib.Dec.{leb};
 ghost use Rattle.rules.specs.Choice.{both};
-ghost use Rattle.rules.specs.Directive.{either, suits, number, character, anyNumber, countingNumber, fitInto, formPlaces, formTakes, placesOf, takes, wellWritten};
-ghost use Rattle.rules.specs.declared.Code.the-variants.{Opens};
+ghost use Rattle.rules.specs.Rows.{takes as takesOf, suits as suitsIn, fitInto, wellWritten};
+ghost use Rattle.rules.specs.declared.Place.the-variants.{Empty, Number as NumberPlace, Character as CharacterPlace};
 
-pub fn both(a: bool, b: bool) -> bool
-    ensures { λ r. ⌜ r ≡ both a b ⌝ }
-{
-    if a { b } else { false }
-}
-
-pub fn either(a: bool, b: bool) -> bool
-    ensures { λ r. ⌜ r ≡ either a b ⌝ }
-{
-    if a { true } else { b }
-}
-
-pub fn not(a: bool) -> bool
-    ensures { λ r. ⌜ r ≡ not a ⌝ }
-{
-    if a { false } else { true }
-}
-
-fn within(n: u16, least: usize, most: usize) -> bool
-    ensures { λ r. ⌜ r ≡ both (leb least n) (leb n most) ⌝ }
-{
-    let wide = n as usize;
-    both(least <= wide, wide <= most)
-}
-
-fn suits_number(x: Parameter, least: usize, most: usize) -> bool
-    ensures { λ r. ⌜ r ≡ suits (number least most) x ⌝ }
+fn suits_empty(x: Parameter) -> bool
+    ensures { λ r. ⌜ r ≡ suitsIn Empty x ⌝ }
 {
     match x {
         Parameter::Default => true,
-        Parameter::Number(n) => within(n, least, most),
+        Parameter::Number(_) => false,
+        Parameter::Character(_) => false,
+        Parameter::Next => false,
+        Parameter::Remaining => false,
+    }
+}
+
+fn suits_number(x: Parameter, least: u16, most: u16) -> bool
+    ensures { λ r. ⌜ r ≡ suitsIn (NumberPlace least most) x ⌝ }
+{
+    match x {
+        Parameter::Default => true,
+        Parameter::Number(n) => both(least <= n, n <= most),
         Parameter::Character(_) => false,
         Parameter::Next => true,
         Parameter::Remaining => true,
@@ -51,7 +40,7 @@ fn suits_number(x: Parameter, least: usize, most: usize) -> bool
 }
 
 fn suits_character(x: Parameter) -> bool
-    ensures { λ r. ⌜ r ≡ suits character x ⌝ }
+    ensures { λ r. ⌜ r ≡ suitsIn CharacterPlace x ⌝ }
 {
     match x {
         Parameter::Default => true,
@@ -62,80 +51,45 @@ fn suits_character(x: Parameter) -> bool
     }
 }
 
-// No place.
-fn fits_none(ps: Parameters) -> bool
-    ensures { λ r. ⌜ r ≡ fitInto [] ps ⌝ }
+fn suits(place: Place, x: Parameter) -> bool
+    ensures { λ r. ⌜ r ≡ suitsIn place x ⌝ }
 {
-    ps.count <= 0
-}
-
-// One place, for a number.
-fn fits_number(ps: Parameters, most: usize) -> bool
-    ensures { λ r. ⌜ r ≡ fitInto (number 0 most ∷ []) ps ⌝ }
-{
-    let first = ps.first;
-    both(ps.count <= 1, suits_number(first, 0, most))
-}
-
-// The places of ~a and ~s.
-fn fits_object(ps: Parameters) -> bool
-    ensures { λ r. ⌜ r ≡ fitInto (anyNumber ∷ countingNumber ∷ anyNumber ∷ character ∷ []) ps ⌝ }
-{
-    let first = ps.first;
-    let second = ps.second;
-    let third = ps.third;
-    let fourth = ps.fourth;
-    let width = both(ps.count <= 4, suits_number(first, 0, 4096));
-    let least = both(suits_number(second, 1, 4096), suits_number(third, 0, 4096));
-    both(both(width, least), suits_character(fourth))
-}
-
-// The places of ~d, ~x, ~o and ~b.
-fn fits_numeral(ps: Parameters) -> bool
-    ensures { λ r. ⌜ r ≡ fitInto (anyNumber ∷ character ∷ character ∷ countingNumber ∷ []) ps ⌝ }
-{
-    let first = ps.first;
-    let second = ps.second;
-    let third = ps.third;
-    let fourth = ps.fourth;
-    let width = both(ps.count <= 4, suits_number(first, 0, 4096));
-    let characters = both(suits_character(second), suits_character(third));
-    both(both(width, characters), suits_number(fourth, 1, 4096))
-}
-
-// What a directive that writes may have.
-fn is_form_well_written(f: Form, colon: bool, at: bool, ps: Parameters) -> bool
-    ensures { λ r. ⌜ r ≡ both (formTakes f colon at) (fitInto (formPlaces f) ps) ⌝ }
-{
-    match f {
-        Form::Object(_) => both(not(colon), fits_object(ps)),
-        Form::Numeral(_) => fits_numeral(ps),
-        Form::Glyph => both(not(both(colon, at)), fits_number(ps, 127)),
-        Form::Plural => fits_none(ps),
-        Form::Repeat(_) => both(not(either(colon, at)), fits_number(ps, 4096)),
-        Form::Fold => both(not(both(colon, at)), fits_none(ps)),
+    match place {
+        Place::Empty => suits_empty(x),
+        Place::Number { least, most } => suits_number(x, least, most),
+        Place::Character => suits_character(x),
     }
 }
 
-// ~[ has its place only without a modifier.
-fn fits_conditional(modified: bool, ps: Parameters) -> bool
-    ensures { λ r. ⌜ r ≡ fitInto (cond modified [] (anyNumber ∷ [])) ps ⌝ }
+// The parameters are no more than there are places, and each suits its own.
+fn fits_into(places: Places, ps: Parameters) -> bool
+    ensures { λ r. ⌜ r ≡ fitInto places ps ⌝ }
 {
-    if modified {
-        return fits_none(ps);
-    }
-    fits_number(ps, 4096)
+    let y1 = places.first;
+    let y2 = places.second;
+    let y3 = places.third;
+    let y4 = places.fourth;
+    let y5 = places.fifth;
+    let p1 = ps.first;
+    let p2 = ps.second;
+    let p3 = ps.third;
+    let p4 = ps.fourth;
+    let p5 = ps.fifth;
+    let last = both(suits(y4, p4), suits(y5, p5));
+    let from_second = both(suits(y2, p2), both(suits(y3, p3), last));
+    let all = both(suits(y1, p1), from_second);
+    both(ps.count <= places.count, all)
 }
 
-fn is_opener_well_written(bracket: Bracket, colon: bool, at: bool, ps: Parameters) -> bool
-    ensures { λ r. ⌜ r ≡ both (takes (Opens bracket) colon at) (fitInto (placesOf (Opens bracket) (either colon at)) ps) ⌝ }
+fn takes(modifiers: Modifiers, colon: bool, at: bool) -> bool
+    ensures { λ r. ⌜ r ≡ takesOf modifiers colon at ⌝ }
 {
-    match bracket {
-        Bracket::Conditional => both(
-            not(both(colon, at)),
-            fits_conditional(either(colon, at), ps),
-        ),
-        Bracket::Iteration => both(not(colon), fits_number(ps, 4096)),
+    match modifiers {
+        Modifiers::Neither => not(either(colon, at)),
+        Modifiers::Colon => not(at),
+        Modifiers::At => not(colon),
+        Modifiers::Either => not(both(colon, at)),
+        Modifiers::Any => true,
     }
 }
 
@@ -143,17 +97,9 @@ fn is_opener_well_written(bracket: Bracket, colon: bool, at: bool, ps: Parameter
 pub fn is_well_written(d: Directive) -> bool
     ensures { λ r. ⌜ r ≡ wellWritten d ⌝ }
 {
-    let code = d.code;
-    let colon = d.colon;
-    let at = d.at;
+    let row = row_in(d);
+    let places = row.places;
+    let modifiers = row.modifiers;
     let ps = d.parameters;
-    match code {
-        Code::Writes(f) => is_form_well_written(f, colon, at, ps),
-        Code::Jump => both(not(both(colon, at)), fits_number(ps, 4096)),
-        Code::Escape => both(not(either(colon, at)), fits_none(ps)),
-        Code::Opens(bracket) => is_opener_well_written(bracket, colon, at, ps),
-        Code::Separator => both(not(at), fits_none(ps)),
-        Code::Closes(_) => both(not(either(colon, at)), fits_none(ps)),
-        Code::Unknown => fits_none(ps),
-    }
+    both(takes(modifiers, d.colon, d.at), fits_into(places, ps))
 }

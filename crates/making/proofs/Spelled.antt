@@ -11,7 +11,7 @@ use lib.IntN.{ℤ, pos, negsuc}
 use lib.ListN.{length, replicate}
 use mir.Syntax.{w64}
 use mir.Val.{SFits, ofZ}
-use Rattle.rules.specs.Directive.{number}
+use Rattle.rules.specs.declared.Place.the-variants.{Number as NumberPlace}
 use Rattle.rules.specs.Number.{digitByte, digitsOf, magnitudeOf, signOf, padLeft}
 use Rattle.rules.specs.Piece.{orElse, nameOf, writtenOf, bareOf, paddingOf, objectOf, digitsIn, isOne, textOf}
 use Rattle.rules.specs.Table.{Value, boolean, integer, character, string, list, meant}
@@ -22,11 +22,11 @@ use Rattle.rules.specs.declared.Setting.the-variants.{Absent, Is}
 use Rattle.rules.specs.declared.Settings.{Settings}
 use Rattle.rules.proofs.Digits.{digits-one, digits-more}
 use Rattle.pieces.specs.Bytes.{quotedOf, signed, figureOf, digitsIn as figureDigits}
-use Rattle.pieces.specs.Given.{Allowed}
+use Rattle.rules.specs.Working.{InPlace}
 use Rattle.making.specs.Texts.{numberOf, unnamedOf}
 
 -- a parameter with its default, in the range of its place
-pub in-range : {least most : ℕ} (s : Setting) (d : ℕ) → Allowed (number least most) s → least ≤ d → d ≤ most
+pub in-range : {least most : ℕ} (s : Setting) (d : ℕ) → InPlace (NumberPlace least most) s → least ≤ d → d ≤ most
     → (least ≤ orElse s d) × (orElse s d ≤ most)
 in-range Absent d a h k = (h, k)
 in-range (Is n) d a h k = a

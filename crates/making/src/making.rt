@@ -1,8 +1,6 @@
 // A piece from a directive, its worked-out parameters and its argument.
 use super::numerals::figure_body;
 use super::padding::byte_or;
-use super::padding::lacking;
-use super::padding::number_or;
 use super::padding::padded_piece;
 use super::padding::padding;
 use super::words::flag_body;
@@ -18,6 +16,8 @@ use pieces::quoting::quoted_size;
 use rules::Argument;
 use rules::Form;
 use rules::Settings;
+use rules::scalars::less;
+use rules::scalars::number_or;
 use table::string_part;
 ghost use mathlib.Core.List.{List, _++_};
 ghost use mathlib.Core.Path.{_≡_};
@@ -122,7 +122,7 @@ fn make_numeral(base: u64, colon: bool, at: bool, settings: Settings, x: i64) ->
     let body = numeral_body(base, colon, at, settings, x);
     let width = number_or(first, 0);
     let pad = byte_or(second, b' ');
-    let missing = lacking(width, body.size);
+    let missing = less(width, body.size);
     padded_piece(body, missing, 0, pad)
 }
 

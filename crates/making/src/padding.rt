@@ -5,35 +5,19 @@ use rules::Setting;
 ghost use mathlib.Core.List.{List};
 ghost use mathlib.Core.Path.{_≡_};
 ghost use Prim.Native.Nat.{ℕ, _+_, _-_, _≤_};
-ghost use Rattle.rules.specs.Directive.{character};
+ghost use Rattle.rules.specs.declared.Place.the-variants.{Character as CharacterPlace};
 ghost use Rattle.rules.specs.Piece.{orElse, paddingOf};
 ghost use Rattle.pieces.specs.Bytes.{beside, Makes, Gives};
-ghost use Rattle.pieces.specs.Given.{Allowed};
-
-pub fn number_or(setting: Setting, default: usize) -> usize
-    ensures { λ r. ⌜ r ≡ orElse setting default ⌝ }
-{
-    match setting {
-        Setting::Absent => default,
-        Setting::Is(n) => n,
-    }
-}
+ghost use Rattle.rules.specs.Working.{InPlace};
 
 pub fn byte_or(setting: Setting, default: u8) -> u8
-    requires { ⌜ Allowed character setting ⌝ }
+    requires { ⌜ InPlace CharacterPlace setting ⌝ }
     ensures { λ r. ⌜ r ≡ orElse setting default ⌝ }
 {
     match setting {
         Setting::Absent => default,
         Setting::Is(n) => n as u8,
     }
-}
-
-// How many bytes a text lacks to a width.
-pub fn lacking(width: usize, size: usize) -> usize
-    ensures { λ r. ⌜ r ≡ width - size ⌝ }
-{
-    if width <= size { 0 } else { width - size }
 }
 
 // The padding of ~a and ~s: minpad, and the least multiple of padinc that brings the total to minwidth.

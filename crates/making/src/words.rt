@@ -1,12 +1,13 @@
 // The short texts: a character and its written form, a truth value, an ending.
 use pieces::Body;
 use pieces::Source;
+use rules::scalars::hex_digit;
 ghost use mathlib.Core.Bool.{cond};
 ghost use mathlib.Core.List.{List, [], _∷_};
 ghost use mathlib.Core.Path.{_≡_};
 ghost use Prim.Native.Nat.{ℕ, _≤_, _<_};
 ghost use lib.ListN.{take, replicate};
-ghost use Rattle.rules.specs.Number.{digitByte, digitsOf};
+ghost use Rattle.rules.specs.Number.{digitsOf};
 ghost use Rattle.rules.specs.Piece.{writtenOf, glyphOf, pluralOf};
 ghost use Rattle.pieces.specs.Bytes.{Makes};
 ghost use Rattle.making.specs.Texts.{unnamedOf};
@@ -65,13 +66,6 @@ pub fn run_body(byte: u8, count: usize) -> Body
         word,
         source: Source::Run { byte, count },
     }
-}
-
-fn hex_digit(digit: u8) -> u8
-    requires { ⌜ digit < 16 ⌝ }
-    ensures { λ r. ⌜ r ≡ digitByte digit ⌝ }
-{
-    if digit < 10 { 48 + digit } else { 87 + digit }
 }
 
 // The written form of a code below 32 that has no name, with no leading zero.

@@ -11,7 +11,7 @@ use Rattle.rules.specs.Flow.{Flow, done, refused, givenText}
 use Rattle.rules.specs.Table.{viewOf, tableVerdict, entryCount}
 use Rattle.rules.specs.Text.{Level, Sequence, end, innermost, outer, levelsAt}
 use Rattle.rules.specs.Working.{Context, noneRemain}
-use Rattle.rules.specs.Directive.{either}
+use Rattle.rules.specs.Choice.{either}
 use Rattle.rules.specs.Run.{Frame, iteration, conditional, afterwards, usedUp, oneLess, begin, run}
 use Rattle.rules.specs.declared.ArgumentPosition.{ArgumentPosition}
 use Rattle.rules.specs.declared.Setting.{Setting}

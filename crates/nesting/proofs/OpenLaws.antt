@@ -6,7 +6,10 @@ use mathlib.Core.List.{List, _∷_}
 use native.Mathlib.Omega.{arith}
 use lib.ListN.{length, getD}
 use borrow.Author.Tests.{le-leb}
-use Rattle.rules.specs.Directive.{either, wellWritten, itemAt, placesOf, anyNumber}
+use Rattle.rules.specs.Directive.{itemAt}
+use Rattle.rules.specs.Choice.{either}
+use Rattle.rules.specs.Working.{InPlace, InPlaces}
+use Rattle.rules.specs.Rows.{anyNumber, rowOf, placesIn, wellWritten}
 use Rattle.rules.specs.Flow.{Flow}
 use Rattle.rules.specs.Table.{viewOf, tableVerdict}
 use Rattle.rules.specs.Text.{Level, Sequence, end, innermost, outer, levelsAt}
@@ -25,10 +28,11 @@ use Rattle.rules.proofs.RunLaws.{begin-yes, begin-no, nested-yes, nested-no, ru
 use Rattle.rules.proofs.Tests.{not-both-ways, true-both}
 use Rattle.rules.proofs.TextLaws.{next-inside}
 use Rattle.checking.specs.Ends.{AfterBlock}
-use Rattle.working.specs.Settling.{InHand, handAt, InPlace, InRange, placesIn, SettlesDirective}
+use Rattle.working.specs.Settling.{InHand, handAt, SettlesDirective}
+use Rattle.working.proofs.Answers.{run-settled, run-refused}
 use Rattle.working.specs.declared.arguments.Hand.{Hand}
 use Rattle.working.specs.declared.settling.SettledOut.the-variants.{Is as settledIs, Wrong as settledWrong}
-use Rattle.acting.proofs.ActLaws.{settings-well, settings-ill}
+use Rattle.acting.proofs.ActLaws.{settings-ill}
 use Rattle.blocks.specs.Clauses.{Chooses}
 use Rattle.blocks.specs.Parts.{opensBlock, iterates, outsideOf, OverIn, GoesOver}
 use Rattle.blocks.specs.declared.clauses.Chosen.the-variants.{At, Nothing, Wrong}
@@ -48,7 +52,7 @@ use Rattle.nesting.proofs.NestLaws.{fewer, frames-length, frames-top, l
 use Rattle.nesting.proofs.MoveLaws.{hand-in, next-in, lies, moves-refused, moves-over, moves-as, moves-in, moves-out, closes-is, end-rest, clause-frame, loop-frame, fits, told-done}
 
 -- the number of passes of an iteration can be written down
-pub passes-fit : (d : Directive) (s : Settings) → iterates (d .code) ≡ true → InRange (placesIn d) s → FitsPasses (s .first)
+pub passes-fit : (d : Directive) (s : Settings) → iterates (d .code) ≡ true → InPlaces (placesIn d) s → FitsPasses (s .first)
 passes-fit d s h r = by (d .code) refl h
   where
     small : (x : Setting) → InPlace anyNumber x → FitsPasses x
@@ -60,7 +64,7 @@ passes-fit d s h r = by (d .code) refl h
     by Jump q h = absurd (not-both-ways h refl)
     by Escape q h = absurd (not-both-ways h refl)
     by (Opens Conditional) q h = absurd (not-both-ways h refl)
-    by (Opens Iteration) q h = small (s .first) (subst (λ (c : Code). InPlace (getD (placesOf c (either (d .colon) (d .at))) 0 anyNumber) (s .first)) q (r .first))
+    by (Opens Iteration) q h = small (s .first) (subst (λ (c : Code). InPlace (rowOf c (either (d .colon) (d .at)) .places .first) (s .first)) q (r .first))
     by Separator q h = absurd (not-both-ways h refl)
     by (ClosesBlock b) q h = absurd (not-both-ways h refl)
     by Unknown q h = absurd (not-both-ways h refl)
@@ -170,14 +174,14 @@ module _ (t table : List ℕ) (h : Here) (o : Nest) (d : Directive) (y : Ready t
 
   pub open-unsettled : {code : ℕ} {r : Moved} → wellWritten d ≡ true → SettlesDirective table (h .hand) d (h .next .0) (settledWrong code) → r ≡ overAt code (h .place) h o → Moves t table opens (h .left) (weight h o + 2) r
   open-unsettled w g q =
-      moves-refused t table q (settings-well (viewOf table) (h .place) (h .left) d (handAt (h .hand) (h .next .0)) _ w ∙ g .as-defined (h .next .0) (h .place) (h .left) _) (omega arith)
+      moves-refused t table q (run-refused g w (h .place) (h .left) _ refl) (omega arith)
 
   pub open-settled : {st : Settings} {i : ArgumentPosition} {r : Moved} (looped : Bool) → iterates (d .code) ≡ looped → wellWritten d ≡ true → SettlesDirective table (h .hand) d (h .next .0) (settledIs st i)
       → Moves t table (inside looped (levelsAt t) (viewOf table) (handAt (h .hand)) (h .place) d (d .next) (h .next .0) (h .left) st (i .0) ks) (h .left) (weight h o + 2) r → Moves t table opens (h .left) (weight h o + 2) r
   open-settled {st} {i} looped b w g m =
       moves-as t table
       (ap (λ (z : Bool). opening z (levelsAt t) (viewOf table) (handAt (h .hand)) (h .place) d (d .next) (h .next .0) (h .left) ks) b
-      ∙ settings-well (viewOf table) (h .place) (h .left) d (handAt (h .hand) (h .next .0)) _ w ∙ g .as-defined (h .next .0) (h .place) (h .left) _)
+      ∙ run-settled g w (h .place) (h .left) _ refl)
       (omega arith) (omega arith) m
 
 -- a block that is met

@@ -2,8 +2,8 @@
 use rules::ArgumentPosition;
 use rules::EntryIndex;
 use rules::Setting;
+use rules::scalars::widened;
 use working::Hand;
-use working::widened;
 ghost use mathlib.Core.Path.{_≡_};
 ghost use Prim.Native.Nat.{_-_, _<_};
 ghost use Rattle.nesting.specs.Nest.{blockAt, passesOf, Fits, FitsPasses, Pushes};

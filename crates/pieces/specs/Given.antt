@@ -1,32 +1,20 @@
 -- What a piece is made from: parameters that are worked out, and an argument that lies in the table.
 -- Assumes nothing: these are definitions.
-use Prim.Native.Nat.{ℕ, _-_, _≤_, _<_}
-use mathlib.Core.List.{List, [], _∷_}
+use Prim.Native.Nat.{ℕ, _-_, _≤_}
+use mathlib.Core.List.{List}
 use lib.ListN.{length}
-use Rattle.rules.specs.Directive.{FormRight, Place, number, character, formPlaces}
+use Rattle.rules.specs.Directive.{FormRight}
+use Rattle.rules.specs.Rows.{formPlaces}
+use Rattle.rules.specs.Working.{InPlaces}
 use Rattle.rules.specs.declared.Argument.{Argument}
 use Rattle.rules.specs.declared.Argument.the-variants.{Boolean, Integer, Character, Text, Entries}
 use Rattle.rules.specs.declared.Form.{Form}
-use Rattle.rules.specs.declared.Setting.{Setting}
-use Rattle.rules.specs.declared.Setting.the-variants.{Absent, Is}
 use Rattle.rules.specs.declared.Settings.{Settings}
-
--- a parameter that is given lies in the range of its place; a character is a byte
-abbrev pub Allowed : Place → Setting → Type 0
-Allowed (number least most) Absent = Unit
-Allowed (number least most) (Is n) = (least ≤ n) × (n ≤ most)
-Allowed character Absent = Unit
-Allowed character (Is n) = n < 256
-
-abbrev pub EachAllowed : List Place → List Setting → Type 0
-EachAllowed [] ss = Unit
-EachAllowed (p ∷ ps) [] = Unit
-EachAllowed (p ∷ ps) (s ∷ ss) = Allowed p s × EachAllowed ps ss
 
 -- the parameters of a form, each in the range of its place
 pub record Worked (form : Form) (s : Settings) : Type 0 where
   pub base : FormRight form
-  pub places : EachAllowed (formPlaces form) (s .first ∷ s .second ∷ s .third ∷ s .fourth ∷ [])
+  pub places : InPlaces (formPlaces form) s
 
 -- a string lies in the table and is no longer than the pool may be
 pub record StringIn (t : List ℕ) (start end : ℕ) : Type 0 where

@@ -8,7 +8,8 @@ use native.Mathlib.Decide.{decLt, ℕ-discrete as decEq}
 use native.Mathlib.Omega.{arith}
 use borrow.Author.Tests.{lt-leb, eq-eqb, ne-eqb}
 use lib.ListN.{length, getD}
-use Rattle.rules.specs.Directive.{start, modifiers, goes, ends, step, skips, going, blank, noParameters, codeNamed, itemAt, wellWritten}
+use Rattle.rules.specs.Directive.{start, modifiers, goes, ends, step, skips, going, blank, noParameters, codeNamed, itemAt}
+use Rattle.rules.specs.Rows.{wellWritten}
 use Rattle.rules.specs.Text.{end, innermost, levelsAt}
 use Rattle.rules.specs.declared.Bracket.the-variants.{Conditional, Iteration}
 use Rattle.rules.specs.declared.Directive.{Directive}

@@ -8,7 +8,8 @@ use native.Mathlib.Decide.{ℕ-discrete as decEq}
 use native.Mathlib.Omega.{arith}
 use borrow.Author.Tests.{lt-ltb, le-leb, eq-eqb, ne-eqb}
 use lib.ListN.{length, getD, drop, List·getD-eq-default}
-use Rattle.rules.specs.Directive.{Reading, whole, modifiers, scan, blank, having, closed, pending, withParameter, noParameters, isDigit, codeNamed, codeOf, itemAt, wellWritten}
+use Rattle.rules.specs.Directive.{Reading, whole, modifiers, scan, blank, having, closed, pending, withParameter, noParameters, isDigit, codeNamed, codeOf, itemAt}
+use Rattle.rules.specs.Rows.{wellWritten}
 use Rattle.rules.specs.declared.Code.{Code}
 use Rattle.rules.specs.declared.Code.the-variants.{Writes, Jump, Escape, Opens, Separator, Closes, Unknown}
 use Rattle.rules.specs.declared.Directive.{Directive}

@@ -6,8 +6,9 @@ use mathlib.Core.Bool.{Bool, true, cond}
 use mathlib.Core.List.{List}
 use lib.Dec.{leb, eqb}
 use lib.ListN.{length, getD}
-use Rattle.rules.specs.Choice.{both}
-use Rattle.rules.specs.Directive.{named, either, noParameters, itemAt, wellWritten}
+use Rattle.rules.specs.Choice.{both, either}
+use Rattle.rules.specs.Directive.{named, noParameters, itemAt}
+use Rattle.rules.specs.Rows.{wellWritten}
 use Rattle.rules.specs.declared.Bracket.the-variants.{Conditional, Iteration}
 use Rattle.rules.specs.declared.Code.{Code}
 use Rattle.rules.specs.declared.Code.the-variants.{Opens, Separator, Closes}

@@ -36,9 +36,12 @@ shortForm kind detail = cond (eqb kind 0) (Object (eqb detail 1)) (cond (eqb kin
 -- the parameters of a short directive: a number x and a character y
 abbrev pub shortParameters : Setting → Setting → Parameters
 shortParameters Absent Absent = noParameters
-shortParameters (Is n) Absent = record { count = 1; first = Number n; second = Default; third = Default; fourth = Default }
-shortParameters Absent (Is c) = record { count = 2; first = Default; second = Character c; third = Default; fourth = Default }
-shortParameters (Is n) (Is c) = record { count = 2; first = Number n; second = Character c; third = Default; fourth = Default }
+shortParameters (Is n) Absent =
+    record { count = 1; first = Number n; second = Default; third = Default; fourth = Default; fifth = Default }
+shortParameters Absent (Is c) =
+    record { count = 2; first = Default; second = Character c; third = Default; fourth = Default; fifth = Default }
+shortParameters (Is n) (Is c) =
+    record { count = 2; first = Number n; second = Character c; third = Default; fourth = Default; fifth = Default }
 
 abbrev pub shortDirective : Form → Setting → Setting → ℕ → Directive
 shortDirective f x y next =

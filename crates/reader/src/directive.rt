@@ -9,6 +9,7 @@ use rules::Form;
 use rules::Item;
 use rules::Parameter;
 use rules::Parameters;
+use rules::scalars::wide;
 ghost use mathlib.Core.Path.{_≡_};
 ghost use mathlib.Core.Bool.{true, cond, not};
 ghost use Prim.Native.Nat.{_+_, _≤_, _<_};
@@ -48,6 +49,7 @@ fn no_parameters() -> Parameters
         second: Parameter::Default,
         third: Parameter::Default,
         fourth: Parameter::Default,
+        fifth: Parameter::Default,
     }
 }
 
@@ -61,7 +63,7 @@ fn placed(count: usize, place: usize, x: Parameter, old: Parameter) -> Parameter
     old
 }
 
-// One parameter more; from the fifth on they are only counted.
+// One parameter more; from the sixth on they are only counted.
 fn with_parameter(ps: Parameters, x: Parameter) -> Parameters
     requires { ⌜ ps .count < 18446744073709551615 ⌝ }
     ensures { λ r. ⌜ r ≡ withParameter ps x ⌝ }
@@ -71,16 +73,19 @@ fn with_parameter(ps: Parameters, x: Parameter) -> Parameters
     let b = ps.second;
     let c = ps.third;
     let d = ps.fourth;
+    let e = ps.fifth;
     let first = placed(count, 0, x, a);
     let second = placed(count, 1, x, b);
     let third = placed(count, 2, x, c);
     let fourth = placed(count, 3, x, d);
+    let fifth = placed(count, 4, x, e);
     Parameters {
         count: count + 1,
         first,
         second,
         third,
         fourth,
+        fifth,
     }
 }
 
@@ -109,12 +114,6 @@ pub fn byte_at(text: &[u8], i: usize) -> u8
         return text[i];
     }
     0
-}
-
-pub fn wide(b: u8) -> usize
-    ensures { λ r. ⌜ (r ≡ b) × (r < 256) ⌝ }
-{
-    b as usize
 }
 
 // The greatest number that may be written, after a `-` or not.

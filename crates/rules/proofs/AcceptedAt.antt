@@ -4,7 +4,8 @@ use Prim.Native.Nat.{ℕ, _+_}
 use mathlib.Core.Path.{_≡_, refl}
 use mathlib.Core.Bool.{true}
 use mathlib.Core.List.{List, []}
-use Rattle.rules.specs.Directive.{itemAt, wellWritten}
+use Rattle.rules.specs.Directive.{itemAt}
+use Rattle.rules.specs.Rows.{wellWritten}
 use Rattle.rules.specs.Text.{Block, textVerdict}
 use Rattle.rules.specs.declared.Code.{Code}
 use Rattle.rules.specs.declared.Code.the-variants.{Writes, Jump, Escape, Opens, Separator, Closes, Unknown}

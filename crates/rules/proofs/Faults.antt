@@ -8,7 +8,8 @@ use native.Mathlib.Omega.{arith}
 use lib.Dec.{ltb, eqb}
 use lib.ListN.{length}
 use borrow.Author.Tests.{ltb-true, ltb-false}
-use Rattle.rules.specs.Directive.{itemAt, wellWritten}
+use Rattle.rules.specs.Directive.{itemAt}
+use Rattle.rules.specs.Rows.{wellWritten}
 use Rattle.rules.specs.Table.{entryCount, argumentCount, poolLength, entryAt, isRight, firstBad, tableVerdict}
 use Rattle.rules.specs.Text.{Block, opened, separated, maySeparate, isCloserOf, isWhole, deepest, provided, directiveMet, atEnd, verdictAt, longest, textVerdict}
 use Rattle.rules.specs.declared.Code.{Code}

@@ -9,11 +9,13 @@ use lib.Dec.{ltb, leb}
 use lib.IntN.{ℤ, pos, negsuc}
 use borrow.Author.Tests.{ltb-true}
 use Rattle.rules.specs.Choice.{both}
-use Rattle.rules.specs.Directive.{Place, number, character as characterPlace, suits, eachSuits}
+use Rattle.rules.specs.Rows.{suits, eachSuits}
 use Rattle.rules.specs.Table.{Value, boolean, integer, character, string, list, View}
 use Rattle.rules.specs.Working.{Context, argumentIn, Worked, worked, wrong, inRange, fromValue, workOut, Settled, settled, unsettled, afterOne, together, settle}
 use Rattle.rules.specs.declared.Parameter.{Parameter}
 use Rattle.rules.specs.declared.Parameter.the-variants.{Default, Number, Character, Next, Remaining}
+use Rattle.rules.specs.declared.Place.{Place}
+use Rattle.rules.specs.declared.Place.the-variants.{Empty, Number as NumberPlace, Character as CharacterPlace}
 use Rattle.rules.specs.declared.Setting.{Setting}
 use Rattle.rules.specs.declared.Setting.the-variants.{Is}
 use Rattle.rules.proofs.Tests.{both-true, not-both-ways}
@@ -26,9 +28,9 @@ isBetween least most (negsuc n) = false
 -- a parameter whose value is an integer outside its number place's range: a `v`'s, the argument `next`, or a `#`'s
 pub data OutOfRange (v : View) (c : Context) : Place → Parameter → ℕ → Type 0 where
   taken : {least most next : ℕ} {z : ℤ} → next < c .count → argumentIn v c next ≡ integer z
-      → isBetween least most z ≡ false → OutOfRange v c (number least most) Next next
+      → isBetween least most z ≡ false → OutOfRange v c (NumberPlace least most) Next next
   remaining : {least most next : ℕ} → isBetween least most (pos (c .count - next)) ≡ false
-      → OutOfRange v c (number least most) Remaining next
+      → OutOfRange v c (NumberPlace least most) Remaining next
 
 -- one of the parameters is such, and those before it are worked out
 pub data MeetsOutOfRange (v : View) (c : Context) : List Place → List Parameter → ℕ → Type 0 where
@@ -70,18 +72,19 @@ range-worked cause least most n next h = by (both (leb least n) (leb n most)) h
 module _ (v : View) (c : Context) where
   value-worked : (y : Place) (x : Value) (next after : ℕ) → next < c .count → argumentIn v c next ≡ x
       → OneWorked (OutOfRange v c y Next next) (fromValue y x after)
-  value-worked (number least most) (boolean b) next after h e = other _ 7 (omega arith) (omega arith)
-  value-worked (number least most) (integer (pos n)) next after h e =
-      range-worked (OutOfRange v c (number least most) Next next) least most n after (λ k. taken h e k)
-  value-worked (number least most) (integer (negsuc n)) next after h e = eight _ (taken h e refl)
-  value-worked (number least most) (character b) next after h e = other _ 7 (omega arith) (omega arith)
-  value-worked (number least most) (string s) next after h e = other _ 7 (omega arith) (omega arith)
-  value-worked (number least most) (list first count) next after h e = other _ 7 (omega arith) (omega arith)
-  value-worked characterPlace (boolean b) next after h e = other _ 7 (omega arith) (omega arith)
-  value-worked characterPlace (integer z) next after h e = other _ 7 (omega arith) (omega arith)
-  value-worked characterPlace (character b) next after h e = tt
-  value-worked characterPlace (string s) next after h e = other _ 7 (omega arith) (omega arith)
-  value-worked characterPlace (list first count) next after h e = other _ 7 (omega arith) (omega arith)
+  value-worked Empty x next after h e = other _ 7 (omega arith) (omega arith)
+  value-worked (NumberPlace least most) (boolean b) next after h e = other _ 7 (omega arith) (omega arith)
+  value-worked (NumberPlace least most) (integer (pos n)) next after h e =
+      range-worked (OutOfRange v c (NumberPlace least most) Next next) least most n after (λ k. taken h e k)
+  value-worked (NumberPlace least most) (integer (negsuc n)) next after h e = eight _ (taken h e refl)
+  value-worked (NumberPlace least most) (character b) next after h e = other _ 7 (omega arith) (omega arith)
+  value-worked (NumberPlace least most) (string s) next after h e = other _ 7 (omega arith) (omega arith)
+  value-worked (NumberPlace least most) (list first count) next after h e = other _ 7 (omega arith) (omega arith)
+  value-worked CharacterPlace (boolean b) next after h e = other _ 7 (omega arith) (omega arith)
+  value-worked CharacterPlace (integer z) next after h e = other _ 7 (omega arith) (omega arith)
+  value-worked CharacterPlace (character b) next after h e = tt
+  value-worked CharacterPlace (string s) next after h e = other _ 7 (omega arith) (omega arith)
+  value-worked CharacterPlace (list first count) next after h e = other _ 7 (omega arith) (omega arith)
 
   one-worked : (y : Place) (x : Parameter) (next : ℕ) → suits y x ≡ true
       → OneWorked (OutOfRange v c y x next) (workOut v c y x next)
@@ -95,9 +98,10 @@ module _ (v : View) (c : Context) where
           → OneWorked (OutOfRange v c y Next next) (cond b (fromValue y (argumentIn v c next) (next + 1)) (wrong 6))
       by true k = value-worked y (argumentIn v c next) next (next + 1) (ltb-true next (c .count) k) refl
       by false k = other _ 6 (omega arith) (omega arith)
-  one-worked (number least most) Remaining next h =
-      range-worked (OutOfRange v c (number least most) Remaining next) least most (c .count - next) next (λ k. remaining k)
-  one-worked characterPlace Remaining next h = absurd (not-both-ways h refl)
+  one-worked Empty Remaining next h = absurd (not-both-ways h refl)
+  one-worked (NumberPlace least most) Remaining next h =
+      range-worked (OutOfRange v c (NumberPlace least most) Remaining next) least most (c .count - next) next (λ k. remaining k)
+  one-worked CharacterPlace Remaining next h = absurd (not-both-ways h refl)
 
   -- with one more parameter before
   together-worked : (s : Setting) (z : Settled) (cause effect : Type 0) → (cause → effect) → AllWorked cause z

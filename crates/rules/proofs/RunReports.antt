@@ -9,9 +9,11 @@ use lib.Dec.{ltb, leb, eqb}
 use lib.IntN.{ℤ, pos, negsuc}
 use lib.ListN.{length}
 use borrow.Author.Tests.{lt-ltb}
-use Rattle.rules.specs.Directive.{itemAt, Place, placesOf, either, inOrder, eachSuits, takes, fitInto, wellWritten}
+use Rattle.rules.specs.Choice.{either}
+use Rattle.rules.specs.Directive.{itemAt}
+use Rattle.rules.specs.Rows.{placesIn, inRow, inOrder, wellWritten, accepts}
 use Rattle.rules.specs.Flow.{Flow, done, refused, put}
-use Rattle.rules.specs.Piece.{orElse, textOf, kindOf, accepts}
+use Rattle.rules.specs.Piece.{orElse, textOf, kindOf}
 use Rattle.rules.specs.Run.{choose, begin, Outside, sameArguments, other, Frame, iteration, conditional, afterwards, usedUp, oneLess, fallbackOf, clauseAt, pickNumber, pickInteger, isFalse, onSettled, doneWith, withSettings, withArgument, write, writeFrom, jumpTo, jump, directiveActs, itemActs, Onward, pickBy, pickNumbered, pick, overList, enter, leave, nested, turn, walk, run}
 use Rattle.rules.specs.Table.{Value, boolean, integer, character, string, list, View}
 use Rattle.rules.specs.Text.{Sequence, end, acts, escapes, iterates, chooses, Clauses, none, clause, deepest, textVerdict, sequenceOf}
@@ -27,19 +29,15 @@ use Rattle.rules.specs.declared.Setting.the-variants.{Absent, Is}
 use Rattle.rules.specs.declared.Settings.{Settings}
 use Rattle.rules.specs.declared.Verdict.the-variants.{Accepted}
 use Rattle.rules.proofs.OutOfRange.{MeetsOutOfRange, AllWorked, settle-worked}
-use Rattle.rules.proofs.Tests.{both-true}
+use Rattle.rules.proofs.Rowed.{written-suits}
 use Rattle.rules.proofs.WellFormed.{WrittenAt, ActsIn, WellFormed, WellFormedClauses, sequence-formed}
-
--- the places of a directive's parameters
-abbrev pub placesIn : Directive → List Place
-placesIn d = placesOf (d .code) (either (d .colon) (d .at))
 
 -- the directive at p has a `v` or `#` whose value is outside its place's range, with some arguments in hand
 pub record OutOfRangeAt (v : View) (t : List ℕ) (p : ℕ) : Type 0 where
   pub directive : Directive
   pub stands : itemAt t p ≡ Written directive
   pub hand : Context
-  pub meets : MeetsOutOfRange v hand (placesIn directive) (inOrder (directive .parameters)) (hand .next)
+  pub meets : MeetsOutOfRange v hand (inRow (placesIn directive)) (inOrder (directive .parameters)) (hand .next)
 
 -- what a run may be refused for, at p and with so many steps left
 pub record RunRefusal (v : View) (t : List ℕ) (code p left : ℕ) : Type 0 where
@@ -178,15 +176,9 @@ module _ (v : View) (t : List ℕ) where
 
   -- a well-written directive's parameters
   module _ (p : ℕ) (d : Directive) (w : WrittenAt t p d) where
-    suited : eachSuits (placesIn d) (inOrder (d .parameters)) ≡ true
-    unfolding wellWritten
-    suited =
-        let b = both-true (takes (d .code) (d .colon) (d .at)) (fitInto (placesIn d) (d .parameters)) (w .written) in
-        both-true (leb (d .parameters .count) (length (placesIn d))) (eachSuits (placesIn d) (inOrder (d .parameters))) (b .1) .1
-
     settled-reports : (m : ℕ) (c : Context) (on : Settings → ℕ → Flow)
         → ((s : Settings) (i : ℕ) → Reports v t (on s i)) → (z : Settled)
-        → AllWorked (MeetsOutOfRange v c (placesIn d) (inOrder (d .parameters)) (c .next)) z
+        → AllWorked (MeetsOutOfRange v c (inRow (placesIn d)) (inOrder (d .parameters)) (c .next)) z
         → Reports v t (onSettled p m z on)
     settled-reports m c on r (settled ss next) a = r (settingsOf ss) next
     settled-reports m c on r (unsettled code) a = record {
@@ -200,9 +192,9 @@ module _ (v : View) (t : List ℕ) where
     settings-reports : (m : ℕ) (c : Context) (on : Settings → ℕ → Flow) → ((s : Settings) (i : ℕ) → Reports v t (on s i))
         → Reports v t (withSettings v p m d c on)
     settings-reports m c on r =
-        let ys = placesIn d in
+        let ys = inRow (placesIn d) in
         let xs = inOrder (d .parameters) in
-        rw (w .written) (settled-reports m c on r (settle v c ys xs (c .next)) (settle-worked v c ys xs (c .next) suited))
+        rw (w .written) (settled-reports m c on r (settle v c ys xs (c .next)) (settle-worked v c ys xs (c .next) (written-suits d (w .written))))
 
     directive-reports : (m : ℕ) (code : Code) (c : Context) (on : ℕ → Flow) → ((i : ℕ) → Reports v t (on i))
         → Reports v t (directiveActs v p m d code c on)

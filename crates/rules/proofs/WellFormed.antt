@@ -6,7 +6,8 @@ use mathlib.Core.Bool.{true, false}
 use mathlib.Core.List.{List, [], _∷_}
 use native.Mathlib.Omega.{arith}
 use lib.ListN.{length}
-use Rattle.rules.specs.Directive.{itemAt, wellWritten}
+use Rattle.rules.specs.Directive.{itemAt}
+use Rattle.rules.specs.Rows.{wellWritten}
 use Rattle.rules.specs.Text.{Block, deepest, textVerdict, Sequence, end, acts, escapes, iterates, chooses, Clauses, none, clause, Level, innermost, outer, before, asClauses, levelsAt, sequenceOf}
 use Rattle.rules.specs.declared.Bracket.the-variants.{Conditional, Iteration}
 use Rattle.rules.specs.declared.Code.{Code}

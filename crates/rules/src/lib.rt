@@ -1,4 +1,5 @@
 // The types that document 01 speaks of. What they mean is in specs/.
+pub mod scalars;
 
 // How a check ends: all is well, or the first fault has this code and position.
 pub enum Verdict {
@@ -76,13 +77,79 @@ pub enum Parameter {
     Remaining,
 }
 
-// The parameters of a directive: how many are written, empty ones included, and the first four of them.
+// The parameters of a directive: how many are written, empty ones included, and the first five of them.
 pub struct Parameters {
     pub count: usize,
     pub first: Parameter,
     pub second: Parameter,
     pub third: Parameter,
     pub fourth: Parameter,
+    pub fifth: Parameter,
+}
+
+// A place for a parameter.
+pub enum Place {
+    // nothing may be written: there is no such place
+    Empty,
+    Number { least: u16, most: u16 },
+    Character,
+}
+
+// The places of a directive: how many there are, and five of them, those behind the last being empty.
+pub struct Places {
+    pub count: usize,
+    pub first: Place,
+    pub second: Place,
+    pub third: Place,
+    pub fourth: Place,
+    pub fifth: Place,
+}
+
+// The modifiers that a directive takes.
+pub enum Modifiers {
+    Neither,
+    Colon,
+    At,
+    // one of them, not both
+    Either,
+    Any,
+}
+
+// The kinds of argument that a directive takes.
+pub enum Kinds {
+    Any,
+    NoList,
+    Integer,
+    Character,
+}
+
+// Where the argument of a directive comes from.
+pub enum Origin {
+    // it takes none
+    Nowhere,
+    // the next argument
+    Next,
+    // the next one, or with `:` the one before it
+    NextOrBack,
+    // the next one, or the character whose number is the first parameter
+    NextOrNumber,
+}
+
+// Whether a format with a directive is plain.
+pub enum Plainness {
+    Plain,
+    // it is, but for this
+    Conditional,
+    Never,
+}
+
+// What a directive is.
+pub struct Row {
+    pub places: Places,
+    pub modifiers: Modifiers,
+    pub kinds: Kinds,
+    pub origin: Origin,
+    pub plainness: Plainness,
 }
 
 // A directive as it is written. The text goes on at next.
@@ -118,4 +185,5 @@ pub struct Settings {
     pub second: Setting,
     pub third: Setting,
     pub fourth: Setting,
+    pub fifth: Setting,
 }

@@ -5,7 +5,7 @@ use mathlib.Core.Bool.{true, false}
 use mathlib.Core.List.{List, _∷_}
 use native.Mathlib.Omega.{arith}
 use lib.ListN.{length}
-use Rattle.rules.specs.Directive.{either}
+use Rattle.rules.specs.Choice.{either}
 use Rattle.rules.specs.Table.{View}
 use Rattle.rules.specs.Text.{Sequence, end, Level, innermost, outer, asClauses, deepest}
 use Rattle.rules.specs.Working.{Context, noneRemain}

@@ -9,10 +9,12 @@ use borrow.Author.Tests.{le-ltb, eq-eqb, ne-eqb, eqb-true}
 use lib.Dec.{eqb}
 use lib.ListN.{length}
 use Rattle.rules.specs.Choice.{both}
-use Rattle.rules.specs.Directive.{number, character, formPlaces, inOrder}
+use Rattle.rules.specs.Rows.{anyNumber, formPlaces}
+use Rattle.rules.specs.declared.Place.the-variants.{Character as CharacterPlace}
+use Rattle.rules.specs.declared.Places.{Places}
 use Rattle.rules.specs.Table.{View}
 use Rattle.rules.specs.Text.{Level}
-use Rattle.rules.specs.Working.{Context, workOut, settle, Source, own, sourceOf}
+use Rattle.rules.specs.Working.{Context, workOut, settle, settleAll, InPlace, InPlaces, Source, own, sourceOf}
 use Rattle.rules.specs.Run.{Flow, refused, onSettled, writeFrom}
 use Rattle.rules.specs.declared.Directive.{Directive}
 use Rattle.rules.specs.declared.Form.{Form}
@@ -25,7 +27,6 @@ use Rattle.rules.proofs.RunLaws.{choose-no}
 use Rattle.rules.proofs.Tests.{both-true}
 use Rattle.reader.specs.Shorts.{settingOf, shortForm, shortParameters, shortDirective, NumberIn, CharacterIn, NoneIn, ShortIn}
 use Rattle.reader.proofs.ShortLaws.{short-well}
-use Rattle.working.specs.Settling.{InPlace, InRange}
 use Rattle.pieces.specs.Given.{Worked}
 use Rattle.acting.specs.declared.state.Ran.{Ran}
 use Rattle.acting.specs.declared.state.Spot.{Spot}
@@ -40,43 +41,35 @@ use Rattle.running.proofs.Strides.{strides-none}
 use Rattle.stepping.specs.Stepping.{shortSettings, Unbegun, HeldUp}
 use Rattle.stepping.proofs.ItemLaws.{acts-begun, ended-is}
 
-in-number : (x : Setting) → NumberIn x → InPlace (number 0 4096) x
+in-number : (x : Setting) → NumberIn x → InPlace anyNumber x
 in-number Absent h = tt
 in-number (Is n) h = (omega arith, h)
 
-in-character : (y : Setting) → CharacterIn y → InPlace character y
+in-character : (y : Setting) → CharacterIn y → InPlace CharacterPlace y
 in-character Absent h = tt
 in-character (Is c) h = h
 
-in-range : (f : Form) (x y : Setting) → ShortIn f x y → InRange (formPlaces f) (shortSettings x y)
-in-range (Object q) x Absent s = record { first = in-number x (s .0); second = tt; third = tt; fourth = tt }
+in-range : (f : Form) (x y : Setting) → ShortIn f x y → InPlaces (formPlaces f) (shortSettings x y)
+in-range (Object q) x Absent s = record { first = in-number x (s .0); second = tt; third = tt; fourth = tt; fifth = tt }
 in-range (Object q) x (Is c) s = absurd (s .1)
-in-range (Numeral base) x y s = record { first = in-number x (s .0); second = in-character y (s .1); third = tt; fourth = tt }
+in-range (Numeral base) x y s = record { first = in-number x (s .0); second = in-character y (s .1); third = tt; fourth = tt; fifth = tt }
 in-range Glyph x y s = absurd s
 in-range Plural x y s = absurd s
-in-range (Repeat b) x Absent s = record { first = in-number x (s .0); second = tt; third = tt; fourth = tt }
+in-range (Repeat b) x Absent s = record { first = in-number x (s .0); second = tt; third = tt; fourth = tt; fifth = tt }
 in-range (Repeat b) x (Is c) s = absurd (s .1)
 in-range Fold x y s = absurd s
 
 pub short-worked : (f : Form) (x y a c : Setting) (g : Form) → a ≡ x → c ≡ y → g ≡ f → FormRight f → ShortIn f x y → Worked g (shortSettings a c)
 short-worked f x y a c g q w k b s = rw (q, w, k) (worked-in f (shortSettings x y) b (in-range f x y s))
 
-settled : (v : View) (c : Context) (f : Form) (x y : Setting) (p m : ℕ) (on : Settings → ℕ → Flow) → ShortIn f x y
-    → onSettled p m (settle v c (formPlaces f) (inOrder (shortParameters x y)) (c .next)) on ≡ on (shortSettings x y) (c .next)
+-- both are written out, so they are worked out to themselves whatever their places
+settled : (v : View) (c : Context) (ys : Places) (x y : Setting) (p m : ℕ) (on : Settings → ℕ → Flow)
+    → onSettled p m (settleAll v c ys (shortParameters x y) (c .next)) on ≡ on (shortSettings x y) (c .next)
 unfolding settle workOut
-settled v c (Object q) Absent Absent p m on s = refl
-settled v c (Object q) (Is n) Absent p m on s = refl
-settled v c (Object q) x (Is k) p m on s = absurd (s .1)
-settled v c (Numeral base) Absent Absent p m on s = refl
-settled v c (Numeral base) (Is n) Absent p m on s = refl
-settled v c (Numeral base) Absent (Is k) p m on s = refl
-settled v c (Numeral base) (Is n) (Is k) p m on s = refl
-settled v c Glyph x y p m on s = absurd s
-settled v c Plural x y p m on s = absurd s
-settled v c (Repeat b) Absent Absent p m on s = refl
-settled v c (Repeat b) (Is n) Absent p m on s = refl
-settled v c (Repeat b) x (Is k) p m on s = absurd (s .1)
-settled v c Fold x y p m on s = absurd s
+settled v c ys Absent Absent p m on = refl
+settled v c ys (Is n) Absent p m on = refl
+settled v c ys Absent (Is k) p m on = refl
+settled v c ys (Is n) (Is k) p m on = refl
 
 -- a short directive, once it is begun, at the place `here` of whatever gives the sequences
 pub short-begun : (s : ℕ → List Level) (n : ℕ) (v : View) (first count level here i left at : ℕ) (b : List ℕ) (f : Form) (x y : Setting) {p place : ℕ} → ShortIn f x y
@@ -91,7 +84,7 @@ short-begun s n v first count level here i left at b f x y {p} {place} u a h z s
     (performed-as _
     (λ on. acts-writes v (spot .position) (spot .left) d (hand first count i) on f refl
     ∙ settings-well v (spot .position) (spot .left) d (hand first count i) _ (short-well f x y place u)
-    ∙ settled v (hand first count i) f x y (spot .position) (spot .left) _ u
+    ∙ settled v (hand first count i) (formPlaces f) x y (spot .position) (spot .left) _
     ∙ write-anywhere v (spot .position) (spot .left) f d first count i (shortSettings x y) i on (sourceOf f false (shortSettings x y)))
     (w d refl refl))
 

@@ -62,7 +62,7 @@ isEnded (Refused code p) = false
 
 -- a number x and a character y as settings
 abbrev pub shortSettings : Setting → Setting → Settings
-shortSettings x y = record { first = x; second = y; third = Absent; fourth = Absent }
+shortSettings x y = record { first = x; second = y; third = Absent; fourth = Absent; fifth = Absent }
 
 -- what a short directive does once it is begun, where i is the next argument
 abbrev pub WritesShort : List ℕ → Hand → ℕ → ℕ → ℕ → ℕ → ℕ → Spot → List ℕ → List ℕ → Ran → Type 0

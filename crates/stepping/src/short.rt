@@ -107,6 +107,7 @@ fn write_piece(
         second,
         third: Setting::Absent,
         fourth: Setting::Absent,
+        fifth: Setting::Absent,
     };
     let form = short_form(kind, detail);
     write_form(spot, form, false, false, settings, table, hand, i, out)

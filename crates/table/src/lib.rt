@@ -3,6 +3,7 @@ use rules::Argument;
 use rules::ArgumentPosition;
 use rules::EntryIndex;
 use rules::Verdict;
+use rules::scalars::wide;
 ghost use mathlib.Core.Path.{_≡_};
 ghost use Prim.Native.Nat.{_+_, _-_, _*_, _≤_, _<_};
 ghost use lib.ListN.{length, take, drop};
@@ -18,13 +19,6 @@ const ENTRY: usize = 12;
 const MOST_ENTRIES: usize = 1024;
 
 const MOST_POOL: usize = 65536;
-
-// A byte with its range, so that sums of bytes are seen to fit.
-fn wide(byte: u8) -> usize
-    ensures { λ r. ⌜ (r ≡ byte) × (r < 256) ⌝ }
-{
-    byte as usize
-}
 
 fn be16(t: &[u8], at: usize) -> usize
     requires { ⌜ at + 2 ≤ length (now t) ⌝ }

@@ -1,5 +1,4 @@
 pub mod Names
 pub mod StartBy
 pub mod TurnBy
-pub mod Worked
 pub mod WorstBy

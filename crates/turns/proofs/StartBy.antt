@@ -1,28 +1,28 @@
 -- The argument from which the clauses of a conditional run, as code works it out. Assumes nothing.
-use Prim.Native.Nat.{ℕ, _+_, _-_, _≤_, _<_}
-use mathlib.Core.Path.{_≡_, sym, ap, _∙_}
+use Prim.Native.Nat.{ℕ, _+_, _≤_, _<_}
+use mathlib.Core.Path.{_≡_, sym, ap, subst, _∙_}
 use mathlib.Core.Bool.{true, false, cond}
-use mathlib.Core.List.{List, [], _∷_}
-use native.Mathlib.Omega.{arith}
+use mathlib.Core.List.{List}
 use lib.Dec.{eqb}
 use lib.ListN.{length}
 use borrow.Author.Tests.{lt-ltb, le-ltb, eq-eqb, ne-eqb}
-use Rattle.rules.specs.Directive.{anyNumber, inOrder, eachSuits}
-use Rattle.rules.specs.Working.{settled, settle}
-use Rattle.rules.specs.declared.Bracket.the-variants.{Conditional}
-use Rattle.rules.specs.declared.Code.the-variants.{Opens}
+use Rattle.rules.specs.Rows.{placesIn, inRow, inOrder, eachSuits}
+use Rattle.rules.specs.Working.{Settled, settled, unsettled, settleAll}
+use Rattle.rules.specs.declared.ArgumentPosition.{ArgumentPosition}
 use Rattle.rules.specs.declared.Directive.{Directive}
-use Rattle.rules.specs.declared.Setting.{Setting}
-use Rattle.rules.specs.declared.Setting.the-variants.{Absent, Is}
+use Rattle.rules.specs.declared.Settings.{Settings}
+use Rattle.rules.proofs.Rowed.{written-suits}
 use Rattle.vet.specs.Turns.{kindIn}
 use Rattle.vet.specs.Use.{inHand, noEntries}
-use Rattle.vet.specs.Ways.{onOwn, numberedStart, settledStart, startOf}
+use Rattle.vet.specs.Ways.{onOwn, numberedStart, unmodifiedPlaces, settledStart, startOf}
 use Rattle.vet.specs.declared.Turn.{Turn}
 use Rattle.vet.specs.declared.Turn.the-variants.{Goes, Stops}
 use Rattle.vet.specs.Plain.{Opener}
-use Rattle.vet.proofs.Settling.{written-suits}
-use Rattle.turns.specs.Parts.{settingBy}
-use Rattle.turns.proofs.Worked.{number-settled}
+use Rattle.vet.proofs.Settling.{Settles, settle-placed}
+use Rattle.working.specs.Settling.{settledAs, listed}
+use Rattle.working.specs.declared.settling.SettledOut.{SettledOut}
+use Rattle.working.specs.declared.settling.SettledOut.the-variants.{Is as settledIs, Wrong as settledWrong}
+use Rattle.turns.specs.Parts.{SettledOn}
 
 -- an argument of its own, of any kind or of the one wanted
 module _ (kinds : List ℕ) (next : ℕ) (go : Turn) where
@@ -53,23 +53,34 @@ module _ (kinds : List ℕ) (d : Directive) (next : ℕ) where
   unfolding startOf
   start-at c a e longest = rw (c, a) (e longest)
 
-  module _ (w : Opener d) (c : d .colon ≡ false) (a : d .at ≡ false) (left : ℕ) (is : left ≡ length kinds - next)
-      (few : length kinds ≤ 1024) {s : Setting} (es : s ≡ settingBy left (d .parameters .first)) where
-    suits : eachSuits (anyNumber ∷ []) (inOrder (d .parameters)) ≡ true
-    suits = rw (c, a) at (written-suits d (Opens Conditional) (w .code) (w .written))
+  module _ (w : Opener d) (c : d .colon ≡ false) (a : d .at ≡ false) {o : SettledOut}
+      (h : SettledOn (length kinds) (placesIn d) (d .parameters) next o) where
+    suits : eachSuits (inRow unmodifiedPlaces) (inOrder (d .parameters)) ≡ true
+    suits = rw (w .code, c, a) at (written-suits d (w .written))
 
-    settled-is : settle noEntries (inHand (length kinds) next) (anyNumber ∷ []) (inOrder (d .parameters)) next
-        ≡ settled (settingBy left (d .parameters .first) ∷ []) next
-    settled-is = number-settled (length kinds) next left is (omega arith) d (w .fixed) suits
+    abbrev own : Settled
+    own = settleAll noEntries (inHand (length kinds) next) unmodifiedPlaces (d .parameters) next
 
-    start-is : (longest : ℕ) → numberedStart kinds longest next s ≡ startOf kinds longest d next
+    is : settledAs o ≡ own
+    is = rw (w .code, c, a) at (h .as-defined)
+
+    start-is : (longest : ℕ) → settledStart kinds longest own ≡ startOf kinds longest d next
     unfolding startOf
-    start-is longest =
-        rw (c, a) (ap (numberedStart kinds longest next) es ∙ sym (ap (settledStart kinds longest) settled-is))
+    start-is longest = rw (c, a)
 
-    pub start-given : (n : ℕ) → s ≡ Is n → (longest : ℕ) → Goes next 0 ≡ startOf kinds longest d next
-    start-given n e longest = sym (ap (numberedStart kinds longest next) e) ∙ start-is longest
+    pub start-refused : {code : ℕ} → o ≡ settledWrong code → (longest : ℕ) → Stops code ≡ startOf kinds longest d next
+    start-refused {code} e longest =
+        let k : unsettled code ≡ own = rw e at is in
+        ap (settledStart kinds longest) k ∙ start-is longest
 
-    pub start-own : s ≡ Absent → {r : Turn} → ((longest : ℕ) → r ≡ numberedStart kinds longest next Absent)
-        → (longest : ℕ) → r ≡ startOf kinds longest d next
-    start-own e f longest = f longest ∙ sym (ap (numberedStart kinds longest next) e) ∙ start-is longest
+    pub start-by : {s : Settings} {n : ArgumentPosition} {r : Turn} → o ≡ settledIs s n
+        → ((longest : ℕ) → r ≡ numberedStart kinds longest next (s .first)) → (longest : ℕ) → r ≡ startOf kinds longest d next
+    start-by {s} {n} e f longest =
+        let k : settled (listed s) (n .0) ≡ own = rw e at is in
+        let same : n .0 ≡ next =
+            subst (Settles (inRow unmodifiedPlaces) next) (sym k)
+            (settle-placed (inHand (length kinds) next) (inRow unmodifiedPlaces) (inOrder (d .parameters)) next (w .fixed) suits) .0 in
+        f longest
+        ∙ ap (λ (i : ℕ). numberedStart kinds longest i (s .first)) (sym same)
+        ∙ ap (settledStart kinds longest) k
+        ∙ start-is longest

@@ -1,221 +1,206 @@
--- The turn of an item as code works it out, form by form: each of its tests and answers. Assumes nothing.
+-- The turn of a directive as code works it out: its parameters without a table, and its argument by where it comes from.
+-- Assumes nothing.
 use Prim.Native.Nat.{ℕ, _+_, _-_, _≤_, _<_}
-use mathlib.Core.Path.{_≡_, refl, sym, ap, _∙_}
-use mathlib.Core.Bool.{Bool, true, false, cond}
-use mathlib.Core.List.{List, [], _∷_}
+use mathlib.Core.Path.{_≡_, refl, sym, ap, subst, _∙_}
+use mathlib.Core.Bool.{Bool, true, false, cond, not}
+use mathlib.Core.List.{List, _∷_}
 use native.Mathlib.Omega.{arith}
+use lib.Dec.{eqb}
 use lib.ListN.{length}
-use borrow.Author.Tests.{eq-eqb, ne-eqb}
+use borrow.Author.Tests.{lt-ltb, le-ltb, eq-eqb, ne-eqb, eqb-false, not-true}
+use Rattle.rules.specs.Choice.{both}
 use Rattle.rules.specs.Piece.{orElse, textOf, glyphOf}
+use Rattle.rules.specs.Rows.{anyNumber, formRow, formPlaces, inRow, inOrder, accepts}
 use Rattle.rules.specs.Table.{boolean, character}
-use Rattle.rules.specs.Working.{settled, settingsOf, own, back, glyphSource}
+use Rattle.rules.specs.Working.{Settled, settled, unsettled, settingsOf, settleAll, InPlace, Source, own, back, glyphSource, sourceBy, sourceOf}
+use Rattle.rules.specs.declared.ArgumentPosition.{ArgumentPosition}
 use Rattle.rules.specs.declared.Code.the-variants.{Writes}
 use Rattle.rules.specs.declared.Directive.{Directive}
 use Rattle.rules.specs.declared.Form.{Form}
 use Rattle.rules.specs.declared.Form.the-variants.{Object, Numeral, Glyph, Plural, Repeat, Fold}
 use Rattle.rules.specs.declared.Item.the-variants.{Written}
+use Rattle.rules.specs.declared.Origin.{Origin}
+use Rattle.rules.specs.declared.Origin.the-variants.{Nowhere, Next as NextArgument, NextOrBack, NextOrNumber}
+use Rattle.rules.specs.declared.Parameter.{Parameter}
+use Rattle.rules.specs.declared.Parameter.the-variants.{Next}
+use Rattle.rules.specs.declared.Parameters.{Parameters}
+use Rattle.rules.specs.declared.Place.the-variants.{Number as NumberPlace}
+use Rattle.rules.specs.declared.Places.{Places}
 use Rattle.rules.specs.declared.Setting.{Setting}
 use Rattle.rules.specs.declared.Setting.the-variants.{Absent, Is}
+use Rattle.rules.specs.declared.Settings.{Settings}
+use Rattle.rules.proofs.Tests.{both-true, not-both-ways}
+use Rattle.vet.specs.Plain.{isNext, noneNext}
+use Rattle.vet.specs.Turns.{kindIn, shownTurn, turnBy, turnOf}
+use Rattle.vet.specs.Use.{inHand, noEntries, useFrom}
 use Rattle.vet.specs.Vet.{Asked}
-use Rattle.vet.specs.Use.{workedOut}
-use Rattle.vet.specs.Turns.{kindIn, turnOf}
 use Rattle.vet.specs.Worst.{worst}
+use Rattle.vet.specs.declared.Turn.{Turn}
 use Rattle.vet.specs.declared.Turn.the-variants.{Goes, Stops}
 use Rattle.vet.proofs.Ordinary.{PlainDirective}
-use Rattle.vet.proofs.Settling.{directive-suits}
-use Rattle.vet.proofs.TurnLaws.{turn-unsettled, turn-given, turn-none, turn-wrong, turn-own, turn-first, turn-back}
+use Rattle.vet.proofs.Settling.{Settles as Stays, settle-plain, settle-placed, directive-suits}
+use Rattle.vet.proofs.TurnLaws.{turn-unsettled, turn-settled}
 use Rattle.vet.proofs.WorstLaws.{repeat-length, fold-length}
-use Rattle.turns.specs.Parts.{settingBy, Writing, Sizing, padding, numeralMost}
-use Rattle.turns.proofs.Worked.{object-width, object-step, object-least, object-settled, object-refused, numeral-settled, numeral-refused, number-settled, glyph-settled, glyph-refused, plural-settled, fold-settled}
-use Rattle.turns.proofs.WorstBy.{object-worst, numeral-worst}
+use Rattle.working.specs.Settling.{AllSupplied, Supplied, settledAs, listed, Settles}
+use Rattle.working.specs.declared.arguments.Hand.{Hand}
+use Rattle.working.specs.declared.settling.SettledOut.{SettledOut}
+use Rattle.working.specs.declared.settling.SettledOut.the-variants.{Is as settledIs, Wrong as settledWrong}
+use Rattle.turns.specs.Parts.{Writing, Settled as SettledBy, SettledOn}
 
--- a turn that goes on, with its size in other words
-goes-with : (next : ℕ) {a b : ℕ} → a ≡ b → Goes next a ≡ Goes next b
-goes-with next e = rw e
+-- without `v` no table is needed
+no-next : {t : List ℕ} {hand : Hand} (x : Parameter) → not (isNext x) ≡ true → Supplied t hand x
+no-next x e q = absurd (not-both-ways (rw q at e) refl)
 
--- the four settings of a directive, where so many arguments remain
-abbrev settingsAt : ℕ → Directive → List Setting
-settingsAt left d =
-    settingBy left (d .parameters .first)
-    ∷ settingBy left (d .parameters .second)
-    ∷ settingBy left (d .parameters .third)
-    ∷ settingBy left (d .parameters .fourth)
-    ∷ []
-
-module _ (kinds : List ℕ) (d : Directive) (next left : ℕ) (is : left ≡ length kinds - next) where
-  -- `~a` and `~s`
-  module _ (longest : ℕ) (q : Bool) (w : Writing (Object q) d) (h : Asked kinds longest) {a b m : ℕ}
-      (ea : a ≡ orElse (settingBy left (d .parameters .first)) 0)
-      (eb : b ≡ orElse (settingBy left (d .parameters .second)) 1)
-      (em : m ≡ orElse (settingBy left (d .parameters .third)) 0) where
-    few : left ≤ 1024
-    few = omega (arith, h .many)
-
-    pub object-sizing : (b ≡ 0 → ⊥) → Sizing a b m
-    object-sizing n = record {
-      width = omega (arith, object-width (length kinds) next left is few d q w);
-      least = omega arith;
-      most = omega (arith, object-step (length kinds) next left is few d q w);
-      pad = omega (arith, object-least (length kinds) next left is few d q w);
+pub fixed-supplied : {t : List ℕ} {hand : Hand} (ps : Parameters) → noneNext (inOrder ps) ≡ true → AllSupplied t hand ps
+fixed-supplied ps e =
+    let a = both-true (not (isNext (ps .first))) _ e in
+    let b = both-true (not (isNext (ps .second))) _ (a .1) in
+    let c = both-true (not (isNext (ps .third))) _ (b .1) in
+    let d = both-true (not (isNext (ps .fourth))) _ (c .1) in
+    let f = both-true (not (isNext (ps .fifth))) _ (d .1) in
+    record {
+      first = no-next (ps .first) (a .0);
+      second = no-next (ps .second) (b .0);
+      third = no-next (ps .third) (c .0);
+      fourth = no-next (ps .fourth) (d .0);
+      fifth = no-next (ps .fifth) (f .0);
     }
 
-    pub object-range : b ≡ 0 → Stops 8 ≡ turnOf kinds longest (Written d) next
-    object-range z =
-        sym (turn-unsettled kinds longest d (Object q) (w .code) next 8
-        (object-refused (length kinds) next left is few d q w (omega arith)))
+pub settled-on : {t : List ℕ} {count : ℕ} {ys : Places} {ps : Parameters} {next : ℕ} {r : SettledOut} → noneNext (inOrder ps) ≡ true
+    → Settles t (record { first = record { 0 = 0 }; count = count }) ys ps next r → SettledOn count ys ps next r
+settled-on {t} {count} {ys} {ps} {next} n s = record {
+  as-defined = s .as-defined next ∙ settle-plain _ (inHand count next) (inRow ys) (inOrder ps) next n;
+  lies = s .lies;
+}
 
-    module _ (n : b ≡ 0 → ⊥) where
-      object-all : workedOut (length kinds) (Object q) d next ≡ settled (settingsAt left d) next
-      object-all = object-settled (length kinds) next left is few d q w (omega arith)
+-- a directive that shows an argument of a kind
+module _ (longest : ℕ) (f : Form) (d : Directive) (s : Settings) (kind after : ℕ) where
+  pub shown-yes : accepts f kind ≡ true → {size : ℕ} → size ≡ worst longest f (d .colon) (d .at) s kind
+      → Goes after size ≡ shownTurn longest f d s kind after
+  shown-yes a e = rw (a, e)
 
-      pub object-none : length kinds ≤ next → Stops 6 ≡ turnOf kinds longest (Written d) next
-      object-none g = sym (turn-none kinds longest d (Object q) (w .code) next (settingsAt left d) next object-all refl g)
+  pub shown-no : accepts f kind ≡ false → Stops 7 ≡ shownTurn longest f d s kind after
+  shown-no a = rw a
 
-      pub object-wrong : next < length kinds → kindIn kinds next ≡ 4 → Stops 7 ≡ turnOf kinds longest (Written d) next
-      object-wrong g k =
-          sym (turn-wrong kinds longest d (Object q) (w .code) next (settingsAt left d) next object-all refl g
-          (rw (eq-eqb (kindIn kinds next) 4 k)))
+-- the argument by where it comes from
+module _ (kinds : List ℕ) (longest : ℕ) (f : Form) (d : Directive) (s : Settings) (next : ℕ) where
+  pub own-none : length kinds ≤ next → Stops 6 ≡ turnBy kinds longest (useFrom (length kinds) f d s next own)
+  own-none h = rw (le-ltb next (length kinds) h)
 
-      pub object-goes : next < length kinds → (kindIn kinds next ≡ 4 → ⊥) → (size : ℕ)
-          → size ≡ worst longest (Object q) false false (padding a b m) (kindIn kinds next)
-          → Goes (next + 1) size ≡ turnOf kinds longest (Written d) next
-      object-goes g k size e =
-          goes-with (next + 1) (e ∙ rw (ea, eb, em)
-          (object-worst longest q (d .colon) (d .at) (settingsOf (settingsAt left d)) (kindIn kinds next)))
-          ∙ sym (turn-own kinds longest d (Object q) (w .code) next (settingsAt left d) next object-all refl g
-          (rw (ne-eqb (kindIn kinds next) 4 k)))
+  pub own-shown : next < length kinds → {kind : ℕ} → kind ≡ kindIn kinds next → {r : Turn}
+      → r ≡ shownTurn longest f d s kind (next + 1) → r ≡ turnBy kinds longest (useFrom (length kinds) f d s next own)
+  own-shown h k e = e ∙ rw (lt-ltb next (length kinds) h, k)
 
-  -- `~d ~x ~o ~b`
-  module _ (base : ℕ) (w : Writing (Numeral base) d) (many : length kinds ≤ 1024) {a b : ℕ}
-      (ea : a ≡ orElse (settingBy left (d .parameters .first)) 0)
-      (eb : b ≡ orElse (settingBy left (d .parameters .fourth)) 3) where
-    little : left ≤ 1024
-    little = omega arith
+  pub back-none : next ≡ 0 → Stops 6 ≡ turnBy kinds longest (useFrom (length kinds) f d s next back)
+  back-none z = rw (eq-eqb next 0 z)
 
-    pub numeral-range : b ≡ 0 → (longest : ℕ) → Stops 8 ≡ turnOf kinds longest (Written d) next
-    numeral-range z longest =
-        sym (turn-unsettled kinds longest d (Numeral base) (w .code) next 8
-        (numeral-refused (length kinds) next left is little d base w (omega arith)))
+  pub back-shown : (next ≡ 0 → ⊥) → next ≤ length kinds → {kind : ℕ} → kind ≡ kindIn kinds (next - 1) → {r : Turn}
+      → r ≡ shownTurn longest f d s kind next → r ≡ turnBy kinds longest (useFrom (length kinds) f d s next back)
+  back-shown n h k e = e ∙ rw (ne-eqb next 0 n, lt-ltb (next - 1) (length kinds) (omega arith), k)
 
-    module _ (n : b ≡ 0 → ⊥) where
-      numeral-all : workedOut (length kinds) (Numeral base) d next ≡ settled (settingsAt left d) next
-      numeral-all = numeral-settled (length kinds) next left is little d base w (omega arith)
+-- what takes no argument writes what it writes of any value
+nowhere-text : (f : Form) → formRow f .origin ≡ Nowhere → (longest : ℕ) (colon at : Bool) (s : Settings) (kind : ℕ)
+    → worst longest f colon at s kind ≡ length (textOf f colon at s (boolean false))
+unfolding worst
+nowhere-text (Object q) e longest colon at s kind = absurd (let z : _≡_ {A = ℕ} 0 1 = cc in omega arith)
+nowhere-text (Numeral b) e longest colon at s kind = absurd (let z : _≡_ {A = ℕ} 0 1 = cc in omega arith)
+nowhere-text Glyph e longest colon at s kind = absurd (let z : _≡_ {A = ℕ} 0 1 = cc in omega arith)
+nowhere-text Plural e longest colon at s kind = absurd (let z : _≡_ {A = ℕ} 0 1 = cc in omega arith)
+nowhere-text (Repeat b) e longest colon at s kind = sym (repeat-length b colon at s (boolean false))
+nowhere-text Fold e longest colon at s kind = sym (fold-length colon at s (boolean false))
 
-      pub numeral-none : length kinds ≤ next → (longest : ℕ) → Stops 6 ≡ turnOf kinds longest (Written d) next
-      numeral-none g longest =
-          sym (turn-none kinds longest d (Numeral base) (w .code) next (settingsAt left d) next numeral-all refl g)
+pub nowhere-accepts : (f : Form) → formRow f .origin ≡ Nowhere → (kind : ℕ) → accepts f kind ≡ true
+nowhere-accepts (Object q) e kind = absurd (let z : _≡_ {A = ℕ} 0 1 = cc in omega arith)
+nowhere-accepts (Numeral b) e kind = absurd (let z : _≡_ {A = ℕ} 0 1 = cc in omega arith)
+nowhere-accepts Glyph e kind = absurd (let z : _≡_ {A = ℕ} 0 1 = cc in omega arith)
+nowhere-accepts Plural e kind = refl
+nowhere-accepts (Repeat b) e kind = refl
+nowhere-accepts Fold e kind = refl
 
-      pub numeral-wrong : next < length kinds → (kindIn kinds next ≡ 1 → ⊥) → (longest : ℕ)
-          → Stops 7 ≡ turnOf kinds longest (Written d) next
-      numeral-wrong g k longest =
-          sym (turn-wrong kinds longest d (Numeral base) (w .code) next (settingsAt left d) next numeral-all refl g
-          (ne-eqb (kindIn kinds next) 1 k))
+-- a character by its number
+numbered-text : (f : Form) → formRow f .origin ≡ NextOrNumber → (colon at : Bool) (s : Settings) (n : ℕ)
+    → textOf f colon at s (character n) ≡ glyphOf colon at n
+unfolding textOf
+numbered-text (Object q) e colon at s n = absurd (let z : _≡_ {A = ℕ} 0 1 = cc in omega arith)
+numbered-text (Numeral b) e colon at s n = absurd (let z : _≡_ {A = ℕ} 0 1 = cc in omega arith)
+numbered-text Glyph e colon at s n = refl
+numbered-text Plural e colon at s n = absurd (let z : _≡_ {A = ℕ} 0 1 = cc in omega arith)
+numbered-text (Repeat b) e colon at s n = absurd (let z : _≡_ {A = ℕ} 0 1 = cc in omega arith)
+numbered-text Fold e colon at s n = absurd (let z : _≡_ {A = ℕ} 0 1 = cc in omega arith)
 
-      pub numeral-goes : next < length kinds → kindIn kinds next ≡ 1 → (size : ℕ)
-          → size ≡ numeralMost base (d .colon) a b → (longest : ℕ)
-          → Goes (next + 1) size ≡ turnOf kinds longest (Written d) next
-      numeral-goes g k size e longest =
-          goes-with (next + 1) (e ∙ rw (ea, eb)
-          (numeral-worst longest base (d .colon) (d .at) (settingsOf (settingsAt left d)) (kindIn kinds next)
-          (omega arith)))
-          ∙ sym (turn-own kinds longest d (Numeral base) (w .code) next (settingsAt left d) next numeral-all refl g
-          (eq-eqb (kindIn kinds next) 1 k))
+module _ (kinds : List ℕ) (longest : ℕ) (f : Form) (d : Directive) (s : Settings) (next : ℕ) where
+  abbrev From : Source → Turn
+  From x = turnBy kinds longest (useFrom (length kinds) f d s next x)
 
-  -- `~c`
-  module _ (w : Writing Glyph d) {s : Setting} (es : s ≡ settingBy left (d .parameters .first)) where
-    module _ (code : ℕ) (e : s ≡ Is code) where
-      this : settingBy left (d .parameters .first) ≡ Is code
-      this = sym es ∙ e
+  pub numbered-given : formRow f .origin ≡ NextOrNumber → {n size : ℕ} → s .first ≡ Is n → size ≡ length (glyphOf (d .colon) (d .at) n)
+      → Goes next size ≡ From (glyphSource (s .first))
+  numbered-given o {n} e z =
+      ap (Goes next) (z ∙ ap (λ (t : List ℕ). length t) (sym (numbered-text f o (d .colon) (d .at) s n)))
+      ∙ sym (ap (λ (x : Setting). From (glyphSource x)) e)
 
-      pub glyph-range : 127 < code → (longest : ℕ) → Stops 8 ≡ turnOf kinds longest (Written d) next
-      glyph-range h longest =
-          sym (turn-unsettled kinds longest d Glyph (w .code) next 8
-          (glyph-refused (length kinds) next left is d w (rw this h)))
+  pub numbered-own : {r : Turn} → s .first ≡ Absent → r ≡ From own → r ≡ From (glyphSource (s .first))
+  numbered-own e h = h ∙ sym (ap (λ (x : Setting). From (glyphSource x)) e)
 
-      pub glyph-given : code ≤ 127 → (size : ℕ) → size ≡ length (glyphOf (d .colon) (d .at) code) → (longest : ℕ)
-          → Goes next size ≡ turnOf kinds longest (Written d) next
-      unfolding textOf
-      glyph-given h size f longest =
-          goes-with next f
-          ∙ sym (turn-given kinds longest d Glyph (w .code) next (settingBy left (d .parameters .first) ∷ []) next
-          (glyph-settled (length kinds) next left is d w (rw this h)) (character code) (ap glyphSource this))
+  -- by the origin
+  by-origin : {r : Turn} (o : Origin) → formRow f .origin ≡ o → r ≡ From (sourceBy o (d .colon) s) → r ≡ From (sourceOf f (d .colon) s)
+  by-origin o e h = h ∙ sym (ap (λ (x : Origin). From (sourceBy x (d .colon) s)) e)
 
-    module _ (e : s ≡ Absent) where
-      unset : settingBy left (d .parameters .first) ≡ Absent
-      unset = sym es ∙ e
+  pub by-next : {r : Turn} → formRow f .origin ≡ NextArgument → r ≡ From own → r ≡ From (sourceOf f (d .colon) s)
+  by-next o h = by-origin NextArgument o h
 
-      glyph-all : workedOut (length kinds) Glyph d next ≡ settled (settingBy left (d .parameters .first) ∷ []) next
-      glyph-all = glyph-settled (length kinds) next left is d w (rw unset (omega arith))
+  pub by-back : {r : Turn} → formRow f .origin ≡ NextOrBack → d .colon ≡ true → r ≡ From back → r ≡ From (sourceOf f (d .colon) s)
+  by-back o c h = by-origin NextOrBack o (h ∙ sym (ap (λ (b : Bool). From (cond b back own)) c))
 
-      pub glyph-none : length kinds ≤ next → (longest : ℕ) → Stops 6 ≡ turnOf kinds longest (Written d) next
-      glyph-none g longest =
-          sym (turn-none kinds longest d Glyph (w .code) next (settingBy left (d .parameters .first) ∷ []) next
-          glyph-all (ap glyphSource unset) g)
+  pub by-no-back : {r : Turn} → formRow f .origin ≡ NextOrBack → d .colon ≡ false → r ≡ From own → r ≡ From (sourceOf f (d .colon) s)
+  by-no-back o c h = by-origin NextOrBack o (h ∙ sym (ap (λ (b : Bool). From (cond b back own)) c))
 
-      pub glyph-wrong : next < length kinds → (kindIn kinds next ≡ 2 → ⊥) → (longest : ℕ)
-          → Stops 7 ≡ turnOf kinds longest (Written d) next
-      glyph-wrong g k longest =
-          sym (turn-wrong kinds longest d Glyph (w .code) next (settingBy left (d .parameters .first) ∷ []) next
-          glyph-all (ap glyphSource unset) g (ne-eqb (kindIn kinds next) 2 k))
+  pub by-number : {r : Turn} → formRow f .origin ≡ NextOrNumber → r ≡ From (glyphSource (s .first)) → r ≡ From (sourceOf f (d .colon) s)
+  by-number o h = by-origin NextOrNumber o h
 
-      pub glyph-goes : next < length kinds → kindIn kinds next ≡ 2 → (size : ℕ)
-          → size ≡ cond (d .at) 11 (cond (d .colon) 2 1) → (longest : ℕ)
-          → Goes (next + 1) size ≡ turnOf kinds longest (Written d) next
-      unfolding worst
-      glyph-goes g k size f longest =
-          goes-with (next + 1) f
-          ∙ sym (turn-own kinds longest d Glyph (w .code) next (settingBy left (d .parameters .first) ∷ []) next
-          glyph-all (ap glyphSource unset) g (eq-eqb (kindIn kinds next) 2 k))
+  pub by-nowhere : formRow f .origin ≡ Nowhere → {size : ℕ} → size ≡ worst longest f (d .colon) (d .at) s 0
+      → Goes next size ≡ From (sourceOf f (d .colon) s)
+  by-nowhere o e = by-origin Nowhere o (ap (Goes next) (e ∙ nowhere-text f o longest (d .colon) (d .at) s 0))
 
-  -- `~~ ~% ~_ ~| ~/`
-  pub repeat-goes : (b : ℕ) → Writing (Repeat b) d → length kinds ≤ 1024 → (size : ℕ)
-      → size ≡ orElse (settingBy left (d .parameters .first)) 1 → (longest : ℕ)
-      → Goes next size ≡ turnOf kinds longest (Written d) next
-  repeat-goes b w many size e longest =
-      goes-with next (e ∙ sym (repeat-length b (d .colon) (d .at)
-      (settingsOf (settingBy left (d .parameters .first) ∷ [])) (boolean false)))
-      ∙ sym (turn-given kinds longest d (Repeat b) (w .code) next (settingBy left (d .parameters .first) ∷ []) next
-      (number-settled (length kinds) next left is (omega arith) d (w .fixed) (w .suits)) (boolean false) refl)
+-- a directive of a form, from its worked-out parameters
+module _ (kinds : List ℕ) (longest : ℕ) (f : Form) (d : Directive) (next : ℕ) (w : Writing f d) {o : SettledOut}
+    (h : SettledOn (length kinds) (formPlaces f) (d .parameters) next o) where
+  stays : Stays (inRow (formPlaces f)) next (settleAll noEntries (inHand (length kinds) next) (formPlaces f) (d .parameters) next)
+  stays = settle-placed (inHand (length kinds) next) (inRow (formPlaces f)) (inOrder (d .parameters)) next (w .fixed) (w .suits)
 
--- `~p`
-module _ (kinds : List ℕ) (d : Directive) (next : ℕ) (w : Writing Plural d) where
-  plural-source : (colon : Bool) → d .colon ≡ colon → cond (d .colon) back own ≡ cond colon back own
-  plural-source colon e = ap (λ (b : Bool). cond b back own) e
+  pub turn-refused : {code : ℕ} → o ≡ settledWrong code → Stops code ≡ turnOf kinds longest (Written d) next
+  turn-refused {code} e =
+      let is : unsettled code ≡ settleAll noEntries (inHand (length kinds) next) (formPlaces f) (d .parameters) next = rw e at (h .as-defined) in
+      sym (turn-unsettled kinds longest d f (w .code) next code (sym is))
 
-  pub plural-first : d .colon ≡ true → next ≡ 0 → (longest : ℕ) → Stops 6 ≡ turnOf kinds longest (Written d) next
-  plural-first e z longest =
-      sym (turn-first kinds longest d Plural (w .code) next [] next (plural-settled (length kinds) next d)
-      (plural-source true e) z)
+  module _ {s : Settings} {n : ArgumentPosition} (e : o ≡ settledIs s n) where
+    pub settled-well : SettledBy f s
+    settled-well = record { based = w .based; places = rw e at (h .lies (w .suits)) }
 
-  pub plural-back : d .colon ≡ true → (next ≡ 0 → ⊥) → next ≤ length kinds → (size : ℕ) → size ≡ cond (d .at) 3 1
-      → (longest : ℕ) → Goes next size ≡ turnOf kinds longest (Written d) next
-  unfolding worst
-  plural-back e z h size f longest =
-      goes-with next f
-      ∙ sym (turn-back kinds longest d Plural (w .code) next [] next (plural-settled (length kinds) next d)
-      (plural-source true e) z (omega arith) refl)
+    is : settled (listed s) (n .0) ≡ settleAll noEntries (inHand (length kinds) next) (formPlaces f) (d .parameters) next
+    is = rw e at (h .as-defined)
 
-  pub plural-none : d .colon ≡ false → length kinds ≤ next → (longest : ℕ)
-      → Stops 6 ≡ turnOf kinds longest (Written d) next
-  plural-none e h longest =
-      sym (turn-none kinds longest d Plural (w .code) next [] next (plural-settled (length kinds) next d)
-      (plural-source false e) h)
+    same : n .0 ≡ next
+    same = subst (Stays (inRow (formPlaces f)) next) (sym is) stays .0
 
-  pub plural-goes : d .colon ≡ false → next < length kinds → (size : ℕ) → size ≡ cond (d .at) 3 1
-      → (longest : ℕ) → Goes (next + 1) size ≡ turnOf kinds longest (Written d) next
-  unfolding worst
-  plural-goes e h size f longest =
-      goes-with (next + 1) f
-      ∙ sym (turn-own kinds longest d Plural (w .code) next [] next (plural-settled (length kinds) next d)
-      (plural-source false e) h refl)
+    pub turn-worked : {r : Turn} → r ≡ turnBy kinds longest (useFrom (length kinds) f d s next (sourceOf f (d .colon) s))
+        → r ≡ turnOf kinds longest (Written d) next
+    turn-worked t =
+        t
+        ∙ ap (λ (i : ℕ). turnBy kinds longest (useFrom (length kinds) f d s i (sourceOf f (d .colon) s))) (sym same)
+        ∙ sym (turn-settled kinds longest d f (w .code) next (listed s) (n .0) (sym is))
 
--- tilde-newline
-pub fold-goes : (d : Directive) (next : ℕ) → Writing Fold d → (size : ℕ) → size ≡ cond (d .at) 1 0
-    → (kinds : List ℕ) (longest : ℕ) → Goes next size ≡ turnOf kinds longest (Written d) next
-fold-goes d next w size e kinds longest =
-    goes-with next (e ∙ sym (fold-length (d .colon) (d .at) (settingsOf []) (boolean false)))
-    ∙ sym (turn-given kinds longest d Fold (w .code) next [] next (fold-settled (length kinds) next d) (boolean false)
-    refl)
+-- a kind that `~a` takes
+pub no-list : (kind : ℕ) → kind ≤ 4 → not (eqb kind 4) ≡ true → kind < 4
+no-list kind h e = let n : kind ≡ 4 → ⊥ = eqb-false kind 4 (not-true (eqb kind 4) e) in omega arith
+
+-- a setting in a number place, or its default
+pub number-least : (least most : ℕ) (x : Setting) (n : ℕ) → InPlace (NumberPlace least most) x → least ≤ n → least ≤ orElse x n
+number-least least most Absent n a h = h
+number-least least most (Is k) n a h = a .0
+
+pub number-most : (least most : ℕ) (x : Setting) (n : ℕ) → InPlace (NumberPlace least most) x → n ≤ most → orElse x n ≤ most
+number-most least most Absent n a h = h
+number-most least most (Is k) n a h = a .1
 
 -- a plain directive is of the form of its code
 pub writing-of : (d : Directive) → PlainDirective d → (f : Form) → d .code ≡ Writes f → Writing f d
@@ -227,6 +212,3 @@ writing-of d w f e =
       fixed = w .fixed;
       based = rw same at (w .based);
     }
-
-pub of-form : {f g : Form} {d : Directive} → f ≡ g → Writing f d → Writing g d
-of-form {d = d} e w = rw e at w

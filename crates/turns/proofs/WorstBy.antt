@@ -7,8 +7,8 @@ use native.Mathlib.Omega.{arith}
 use Rattle.rules.specs.Piece.{orElse}
 use Rattle.rules.specs.declared.Form.the-variants.{Object, Numeral}
 use Rattle.rules.specs.declared.Settings.{Settings}
-use Rattle.vet.specs.Worst.{larger, greatest, worst}
-use Rattle.vet.proofs.WorstLaws.{leastDigits, worst-boolean, worst-integer, worst-character, worst-name, worst-string, worst-quoted, worst-numeral, worst-grouped}
+use Rattle.vet.specs.Worst.{larger, greatest, leastDigits, worst}
+use Rattle.vet.proofs.WorstLaws.{worst-boolean, worst-integer, worst-character, worst-name, worst-string, worst-quoted, worst-numeral, worst-grouped}
 use Rattle.turns.specs.Parts.{padding, numeralMost}
 
 -- `~a` and `~s`

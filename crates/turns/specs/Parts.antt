@@ -2,33 +2,38 @@
 use Prim.Native.Nat.{ℕ, _+_, _-_, _/_, _≤_}
 use mathlib.Core.Path.{_≡_}
 use mathlib.Core.Bool.{Bool, true, cond}
-use Rattle.rules.specs.Directive.{FormRight, formPlaces, inOrder, eachSuits}
+use Rattle.rules.specs.Directive.{FormRight}
+use Rattle.rules.specs.Rows.{formPlaces, inRow, inOrder, eachSuits}
+use Rattle.rules.specs.Working.{InPlaces, settleAll}
 use Rattle.rules.specs.declared.Code.the-variants.{Writes}
 use Rattle.rules.specs.declared.Directive.{Directive}
 use Rattle.rules.specs.declared.Form.{Form}
-use Rattle.rules.specs.declared.Parameter.{Parameter}
-use Rattle.rules.specs.declared.Parameter.the-variants.{Default, Number, Character, Next, Remaining}
-use Rattle.rules.specs.declared.Setting.{Setting}
+use Rattle.rules.specs.declared.Parameters.{Parameters}
+use Rattle.rules.specs.declared.Places.{Places}
 use Rattle.rules.specs.declared.Setting.the-variants.{Absent, Is}
 use Rattle.rules.specs.declared.Settings.{Settings}
 use Rattle.vet.specs.Plain.{noneNext}
-use Rattle.vet.specs.Worst.{larger}
-use Rattle.vet.proofs.WorstLaws.{leastDigits}
-
--- a parameter that is no `v`, where so many arguments remain: `#` is their number
-abbrev pub settingBy : ℕ → Parameter → Setting
-settingBy remaining Default = Absent
-settingBy remaining (Number n) = Is n
-settingBy remaining (Character b) = Is b
-settingBy remaining Next = Absent
-settingBy remaining Remaining = Is remaining
+use Rattle.vet.specs.Use.{inHand, noEntries}
+use Rattle.vet.specs.Worst.{larger, leastDigits}
+use Rattle.working.specs.Settling.{settledAs, AllLie}
+use Rattle.working.specs.declared.settling.SettledOut.{SettledOut}
 
 -- a directive of a form, as it stands in an accepted plain text: its parameters suit its places, and none is a `v`
 pub record Writing (f : Form) (d : Directive) : Type 0 where
   pub code : d .code ≡ Writes f
-  pub suits : eachSuits (formPlaces f) (inOrder (d .parameters)) ≡ true
+  pub suits : eachSuits (inRow (formPlaces f)) (inOrder (d .parameters)) ≡ true
   pub fixed : noneNext (inOrder (d .parameters)) ≡ true
   pub based : FormRight f
+
+-- the worked-out parameters of a form
+pub record Settled (f : Form) (s : Settings) : Type 0 where
+  pub based : FormRight f
+  pub places : InPlaces (formPlaces f) s
+
+-- what working out parameters without `v` promises of its answer r, where there are so many arguments
+pub record SettledOn (count : ℕ) (ys : Places) (ps : Parameters) (next : ℕ) (r : SettledOut) : Type 0 where
+  pub as-defined : settledAs r ≡ settleAll noEntries (inHand count next) ys ps next
+  pub lies : eachSuits (inRow ys) (inOrder ps) ≡ true → AllLie ys r
 
 -- the ranges of minwidth, padinc and minpad
 pub record Sizing (minwidth padinc minpad : ℕ) : Type 0 where
@@ -39,7 +44,7 @@ pub record Sizing (minwidth padinc minpad : ℕ) : Type 0 where
 
 -- the three of them as settings
 abbrev pub padding : ℕ → ℕ → ℕ → Settings
-padding minwidth padinc minpad = record { first = Is minwidth; second = Is padinc; third = Is minpad; fourth = Absent }
+padding minwidth padinc minpad = record { first = Is minwidth; second = Is padinc; third = Is minpad; fourth = Absent; fifth = Absent }
 
 -- the sign and the digits of the least integer, in groups of a width with true, or at least minwidth bytes
 abbrev pub numeralMost : ℕ → Bool → ℕ → ℕ → ℕ

@@ -1,23 +1,22 @@
 // The greatest length of one piece, without a loop over lengths.
 use numbers::digit_count;
+use rules::Form;
+use rules::Settings;
+use rules::scalars::less;
+use rules::scalars::number_or;
 ghost use mathlib.Core.Path.{_≡_};
-ghost use mathlib.Core.Bool.{false, cond};
-ghost use Prim.Native.Nat.{_-_, _≤_, _<_};
+ghost use mathlib.Core.Bool.{Bool, true, false, cond};
+ghost use Prim.Native.Nat.{ℕ, _≤_, _<_};
 ghost use lib.ListN.{length};
 ghost use Rattle.rules.specs.Piece.{nameOf, glyphOf};
-ghost use Rattle.rules.specs.declared.Form.the-variants.{Object};
+ghost use Rattle.rules.specs.Rows.{formPlaces, accepts};
+ghost use Rattle.rules.specs.Working.{InPlaces};
+ghost use Rattle.rules.specs.declared.Form.the-variants.{Object, Numeral};
 ghost use Rattle.vet.specs.Worst.{larger as largerOf, roundUp, topOf, greatest as greatestOf, worst};
-ghost use Rattle.turns.specs.Parts.{Sizing, padding, numeralMost};
+ghost use Rattle.turns.specs.Parts.{Sizing, Settled, padding, numeralMost};
 
 // The magnitude of the least integer.
 const LEAST_MAGNITUDE: u64 = 9223372036854775808;
-
-// a - b, or 0.
-fn less(a: usize, b: usize) -> usize
-    ensures { λ r. ⌜ r ≡ a - b ⌝ }
-{
-    if b < a { a - b } else { 0 }
-}
 
 pub fn larger(a: usize, b: usize) -> usize
     ensures { λ r. ⌜ r ≡ largerOf a b ⌝ }
@@ -118,6 +117,64 @@ pub fn worst_plural(at: bool) -> usize
     ensures { λ r. ⌜ r ≡ cond at 3 1 ⌝ }
 {
     if at { 3 } else { 1 }
+}
+
+// Tilde-newline, which writes the newline with `@`.
+fn worst_fold(at: bool) -> usize
+    ensures { λ r. ⌜ r ≡ cond at 1 0 ⌝ }
+{
+    if at { 1 } else { 0 }
+}
+
+// ~a and ~s by their settings.
+fn worst_padded(quoted: bool, settings: Settings, kind: u8, longest: usize) -> usize
+    requires { ⌜ InPlaces (formPlaces (Object quoted)) settings ⌝ }
+    requires { ⌜ (kind < 4) × (longest ≤ 4096) ⌝ }
+    ensures { λ r. ⌜ ((colon at : Bool) → r ≡ worst longest (Object quoted) colon at settings kind) ⌝ }
+{
+    let first = settings.first;
+    let second = settings.second;
+    let third = settings.third;
+    let minwidth = number_or(first, 0);
+    let padinc = number_or(second, 1);
+    let minpad = number_or(third, 0);
+    worst_object(quoted, minwidth, padinc, minpad, kind, longest)
+}
+
+// ~d ~x ~o ~b by their settings.
+fn worst_grouped(base: u64, colon: bool, settings: Settings) -> usize
+    requires { ⌜ (2 ≤ base) × (base ≤ 36) ⌝ }
+    requires { ⌜ InPlaces (formPlaces (Numeral base)) settings ⌝ }
+    ensures { λ r. ⌜ ((longest kind : ℕ) (at : Bool) → r ≡ worst longest (Numeral base) colon at settings kind) ⌝ }
+{
+    let first = settings.first;
+    let fourth = settings.fourth;
+    worst_numeral(base, colon, number_or(first, 0), number_or(fourth, 3))
+}
+
+// The greatest length of the piece of a form, over the values of a kind that it takes.
+pub fn worst_of(
+    form: Form,
+    colon: bool,
+    at: bool,
+    settings: Settings,
+    kind: u8,
+    longest: usize,
+) -> usize
+    requires { ⌜ Settled form settings ⌝ }
+    requires { ⌜ (kind ≤ 4) × (longest ≤ 4096) ⌝ }
+    requires { ⌜ accepts form kind ≡ true ⌝ }
+    ensures { λ r. ⌜ r ≡ worst longest form colon at settings kind ⌝ }
+{
+    let first = settings.first;
+    match form {
+        Form::Object(quoted) => worst_padded(quoted, settings, kind, longest),
+        Form::Numeral(base) => worst_grouped(base, colon, settings),
+        Form::Glyph => worst_glyph(colon, at),
+        Form::Plural => worst_plural(at),
+        Form::Repeat(_) => number_or(first, 1),
+        Form::Fold => worst_fold(at),
+    }
 }
 
 // A character's name.

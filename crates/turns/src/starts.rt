@@ -1,13 +1,14 @@
 // The argument from which the clauses of a conditional run.
-use crate::settings::setting_of;
-use crate::turns::INTEGER;
 use crate::turns::NONE_LEFT;
 use crate::turns::WRONG_KIND;
+use crate::turns::settle_fixed;
+use fitting::rows::row_in;
 use rules::Directive;
 use rules::Setting;
 use vet::Turn;
+use working::SettledOut;
 ghost use mathlib.Core.Path.{_≡_};
-ghost use mathlib.Core.Bool.{cond};
+ghost use mathlib.Core.Bool.{false, cond};
 ghost use Prim.Native.Nat.{ℕ, _+_, _≤_};
 ghost use lib.Dec.{eqb};
 ghost use lib.ListN.{length};
@@ -22,6 +23,8 @@ ghost use Rattle.vet.specs.Plain.{Opener};
 pub const NOT_VETTABLE: u32 = 11;
 
 const BOOLEAN: u8 = 0;
+
+const INTEGER: u8 = 1;
 
 // ~:[
 fn start_two(kinds: &[u8], next: usize) -> Turn
@@ -70,10 +73,40 @@ fn start_numbered(kinds: &[u8], next: usize) -> Turn
     Turn::Stops(WRONG_KIND)
 }
 
+// ~[ by its setting, which picks a clause without an argument.
+fn start_settled(kinds: &[u8], next: usize, setting: Setting) -> Turn
+    requires { ⌜ next ≤ length (now kinds) ⌝ }
+    ensures { λ r. ⌜ ((longest : ℕ) → r ≡ numberedStart (now (kinds .entry)) longest next setting) ⌝ }
+{
+    match setting {
+        Setting::Is(_) => Turn::Goes { next, size: 0 },
+        Setting::Absent => start_numbered(kinds, next),
+    }
+}
+
+// ~[ without a modifier
+fn start_plain(d: Directive, kinds: &[u8], next: usize) -> Turn
+    requires { ⌜ Opener d ⌝ }
+    requires { ⌜ (d .colon ≡ false) × (d .at ≡ false) ⌝ }
+    requires { ⌜ next ≤ length (now kinds) ⌝ }
+    ensures { λ r. ⌜ ((longest : ℕ) → r ≡ startOf (now (kinds .entry)) longest d next) ⌝ }
+{
+    let row = row_in(d);
+    let places = row.places;
+    let ps = d.parameters;
+    let settled = settle_fixed(places, ps, kinds, next);
+    match settled {
+        SettledOut::Is { settings, next: _ } => {
+            let first = settings.first;
+            start_settled(kinds, next, first)
+        }
+        SettledOut::Wrong(code) => Turn::Stops(code),
+    }
+}
+
 pub fn start_of(d: Directive, kinds: &[u8], next: usize) -> Turn
     requires { ⌜ Opener d ⌝ }
     requires { ⌜ next ≤ length (now kinds) ⌝ }
-    requires { ⌜ length (now kinds) ≤ 1024 ⌝ }
     ensures { λ r. ⌜ ((longest : ℕ) → r ≡ startOf (now (kinds .entry)) longest d next) ⌝ }
 {
     if d.colon {
@@ -82,11 +115,5 @@ pub fn start_of(d: Directive, kinds: &[u8], next: usize) -> Turn
     if d.at {
         return start_one(kinds, next);
     }
-    let ps = d.parameters;
-    let p1 = ps.first;
-    let setting = setting_of(p1, kinds.len() - next);
-    match setting {
-        Setting::Is(_) => Turn::Goes { next, size: 0 },
-        Setting::Absent => start_numbered(kinds, next),
-    }
+    start_plain(d, kinds, next)
 }

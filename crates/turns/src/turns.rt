@@ -1,24 +1,35 @@
 // What a directive that writes does to a vet.
 use crate::lengths::glyph_size;
-use crate::lengths::worst_glyph;
-use crate::lengths::worst_numeral;
-use crate::lengths::worst_object;
-use crate::lengths::worst_plural;
-use crate::settings::number_of;
-use crate::settings::setting_of;
+use crate::lengths::worst_of;
+use fitting::rows::form_row;
+use fitting::rows::takes_kind;
+use rules::ArgumentPosition;
 use rules::Directive;
+use rules::EntryIndex;
 use rules::Form;
+use rules::Origin;
+use rules::Parameters;
+use rules::Places;
 use rules::Setting;
+use rules::Settings;
+use rules::scalars::wide;
 use vet::Turn;
+use working::Hand;
+use working::SettledOut;
+use working::settle;
 ghost use mathlib.Core.Path.{_≡_};
-ghost use mathlib.Core.List.{List};
-ghost use Prim.Native.Nat.{ℕ, _≤_};
+ghost use mathlib.Core.Bool.{true};
+ghost use Prim.Native.Nat.{_≤_};
 ghost use lib.ListN.{length};
-ghost use Rattle.rules.specs.declared.Form.the-variants.{Object, Numeral, Glyph, Plural, Repeat, Fold};
+ghost use Rattle.rules.specs.Rows.{formRow, inOrder};
+ghost use Rattle.rules.specs.Working.{own, back, glyphSource, sourceOf};
 ghost use Rattle.rules.specs.declared.Item.the-variants.{Written};
+ghost use Rattle.rules.specs.declared.Origin.the-variants.{NextOrNumber};
+ghost use Rattle.vet.specs.Plain.{noneNext};
 ghost use Rattle.vet.specs.Vet.{Asked};
-ghost use Rattle.vet.specs.Turns.{turnOf};
-ghost use Rattle.turns.specs.Parts.{Writing};
+ghost use Rattle.vet.specs.Turns.{shownTurn, turnBy, turnOf};
+ghost use Rattle.vet.specs.Use.{useFrom};
+ghost use Rattle.turns.specs.Parts.{Writing, Settled, SettledOn};
 
 // An argument is wanted, and none is left.
 pub const NONE_LEFT: u32 = 6;
@@ -26,156 +37,136 @@ pub const NONE_LEFT: u32 = 6;
 // The argument is of a kind that the directive does not take.
 pub const WRONG_KIND: u32 = 7;
 
-// The value of a `#` lies outside its place's range.
-const OUT_OF_RANGE: u32 = 8;
-
-pub const INTEGER: u8 = 1;
-
-const CHARACTER: u8 = 2;
-
-const LIST: u8 = 4;
-
-// ~a and ~s
-fn turn_object(d: Directive, quoted: bool, kinds: &[u8], next: usize, longest: usize) -> Turn
-    requires { ⌜ Writing (Object quoted) d ⌝ }
-    requires { ⌜ Asked (now kinds) longest ⌝ }
+// The parameters of a directive without `v`: there is no table, and none is read.
+pub fn settle_fixed(places: Places, ps: Parameters, kinds: &[u8], next: usize) -> SettledOut
+    requires { ⌜ noneNext (inOrder ps) ≡ true ⌝ }
     requires { ⌜ next ≤ length (now kinds) ⌝ }
-    ensures { λ r. ⌜ r ≡ turnOf (now (kinds .entry)) longest (Written d) next ⌝ }
+    ensures { λ r. ⌜ SettledOn (length (now (kinds .entry))) places ps next r ⌝ }
 {
-    let ps = d.parameters;
-    let p1 = ps.first;
-    let p2 = ps.second;
-    let p3 = ps.third;
-    let remaining = kinds.len() - next;
-    let minwidth = number_of(p1, 0, remaining);
-    let padinc = number_of(p2, 1, remaining);
-    let minpad = number_of(p3, 0, remaining);
-    if padinc == 0 {
-        return Turn::Stops(OUT_OF_RANGE);
-    }
-    if kinds.len() <= next {
-        return Turn::Stops(NONE_LEFT);
-    }
-    let kind = kinds[next];
-    if kind == LIST {
-        return Turn::Stops(WRONG_KIND);
-    }
-    Turn::Goes {
-        next: next + 1,
-        size: worst_object(quoted, minwidth, padinc, minpad, kind, longest),
-    }
+    let hand = Hand {
+        first: EntryIndex(0),
+        count: kinds.len(),
+    };
+    settle(&kinds[0..0], hand, places, ps, ArgumentPosition(next))
 }
 
-// ~d ~x ~o ~b
-fn turn_numeral(d: Directive, base: u64, kinds: &[u8], next: usize) -> Turn
-    requires { ⌜ Writing (Numeral base) d ⌝ }
-    requires { ⌜ next ≤ length (now kinds) ⌝ }
-    requires { ⌜ length (now kinds) ≤ 1024 ⌝ }
-    ensures { λ r. ⌜ ((longest : ℕ) → r ≡ turnOf (now (kinds .entry)) longest (Written d) next) ⌝ }
+// Argument i, after which `after` is the next.
+fn turn_shown(
+    form: Form,
+    d: Directive,
+    settings: Settings,
+    kind: u8,
+    after: usize,
+    longest: usize,
+) -> Turn
+    requires { ⌜ Settled form settings ⌝ }
+    requires { ⌜ (kind ≤ 4) × (longest ≤ 4096) ⌝ }
+    ensures { λ r. ⌜ r ≡ shownTurn longest form d settings kind after ⌝ }
 {
-    let ps = d.parameters;
-    let p1 = ps.first;
-    let p4 = ps.fourth;
-    let remaining = kinds.len() - next;
-    let width = number_of(p1, 0, remaining);
-    let group = number_of(p4, 3, remaining);
-    if group == 0 {
-        return Turn::Stops(OUT_OF_RANGE);
-    }
-    if kinds.len() <= next {
-        return Turn::Stops(NONE_LEFT);
-    }
-    let kind = kinds[next];
-    if kind == INTEGER {
+    if takes_kind(form, wide(kind)) {
         return Turn::Goes {
-            next: next + 1,
-            size: worst_numeral(base, d.colon, width, group),
+            next: after,
+            size: worst_of(form, d.colon, d.at, settings, kind, longest),
         };
     }
     Turn::Stops(WRONG_KIND)
 }
 
-// ~c, which takes an argument or is given a character by its parameter.
-fn turn_glyph(d: Directive, kinds: &[u8], next: usize) -> Turn
-    requires { ⌜ Writing Glyph d ⌝ }
+// The next argument.
+fn turn_own(
+    form: Form,
+    d: Directive,
+    settings: Settings,
+    kinds: &[u8],
+    next: usize,
+    longest: usize,
+) -> Turn
+    requires { ⌜ Settled form settings ⌝ }
+    requires { ⌜ Asked (now kinds) longest ⌝ }
     requires { ⌜ next ≤ length (now kinds) ⌝ }
-    ensures { λ r. ⌜ ((longest : ℕ) → r ≡ turnOf (now (kinds .entry)) longest (Written d) next) ⌝ }
+    ensures { λ r. ⌜ r ≡ turnBy (now (kinds .entry)) longest (useFrom (length (now (kinds .entry))) form d settings next own) ⌝ }
 {
-    let ps = d.parameters;
-    let p1 = ps.first;
-    let setting = setting_of(p1, kinds.len() - next);
-    match setting {
-        Setting::Is(code) => {
-            if 127 < code {
-                return Turn::Stops(OUT_OF_RANGE);
-            }
-            Turn::Goes {
-                next,
-                size: glyph_size(d.colon, d.at, code),
-            }
-        }
-        Setting::Absent => {
-            if kinds.len() <= next {
-                return Turn::Stops(NONE_LEFT);
-            }
-            let kind = kinds[next];
-            if kind == CHARACTER {
-                return Turn::Goes {
-                    next: next + 1,
-                    size: worst_glyph(d.colon, d.at),
-                };
-            }
-            Turn::Stops(WRONG_KIND)
-        }
-    }
-}
-
-// ~p, which with `:` steps back one argument.
-fn turn_plural(d: Directive, kinds: &[u8], next: usize) -> Turn
-    requires { ⌜ Writing Plural d ⌝ }
-    requires { ⌜ next ≤ length (now kinds) ⌝ }
-    ensures { λ r. ⌜ ((longest : ℕ) → r ≡ turnOf (now (kinds .entry)) longest (Written d) next) ⌝ }
-{
-    let size = worst_plural(d.at);
-    if d.colon {
-        if next == 0 {
-            return Turn::Stops(NONE_LEFT);
-        }
-        return Turn::Goes { next, size };
-    }
     if kinds.len() <= next {
         return Turn::Stops(NONE_LEFT);
     }
-    Turn::Goes {
-        next: next + 1,
-        size,
-    }
+    turn_shown(form, d, settings, kinds[next], next + 1, longest)
 }
 
-// ~~ ~% ~_ ~| ~/
-fn turn_repeat(d: Directive, kinds: &[u8], next: usize) -> Turn
-    requires { ⌜ ((b : ℕ) × Writing (Repeat b) d) ⌝ }
+// The argument before the next one.
+fn turn_back(
+    form: Form,
+    d: Directive,
+    settings: Settings,
+    kinds: &[u8],
+    next: usize,
+    longest: usize,
+) -> Turn
+    requires { ⌜ Settled form settings ⌝ }
+    requires { ⌜ Asked (now kinds) longest ⌝ }
     requires { ⌜ next ≤ length (now kinds) ⌝ }
-    requires { ⌜ length (now kinds) ≤ 1024 ⌝ }
-    ensures { λ r. ⌜ ((longest : ℕ) → r ≡ turnOf (now (kinds .entry)) longest (Written d) next) ⌝ }
+    ensures { λ r. ⌜ r ≡ turnBy (now (kinds .entry)) longest (useFrom (length (now (kinds .entry))) form d settings next back) ⌝ }
 {
-    let ps = d.parameters;
-    let p1 = ps.first;
-    Turn::Goes {
-        next,
-        size: number_of(p1, 1, kinds.len() - next),
+    if next == 0 {
+        return Turn::Stops(NONE_LEFT);
+    }
+    turn_shown(form, d, settings, kinds[next - 1], next, longest)
+}
+
+// The next argument, unless the first parameter is the number of a character.
+fn turn_numbered(
+    form: Form,
+    d: Directive,
+    settings: Settings,
+    kinds: &[u8],
+    next: usize,
+    longest: usize,
+) -> Turn
+    requires { ⌜ formRow form .origin ≡ NextOrNumber ⌝ }
+    requires { ⌜ Settled form settings ⌝ }
+    requires { ⌜ Asked (now kinds) longest ⌝ }
+    requires { ⌜ next ≤ length (now kinds) ⌝ }
+    ensures { λ r. ⌜ r ≡ turnBy (now (kinds .entry)) longest (useFrom (length (now (kinds .entry))) form d settings next (glyphSource (settings .first))) ⌝ }
+{
+    let first = settings.first;
+    match first {
+        Setting::Is(code) => Turn::Goes {
+            next,
+            size: glyph_size(d.colon, d.at, code),
+        },
+        Setting::Absent => turn_own(form, d, settings, kinds, next, longest),
     }
 }
 
-// Tilde-newline, which writes the newline with `@`.
-fn turn_fold(d: Directive, next: usize) -> Turn
-    requires { ⌜ Writing Fold d ⌝ }
-    ensures { λ r. ⌜ ((kinds : List ℕ) (longest : ℕ) → r ≡ turnOf kinds longest (Written d) next) ⌝ }
+// A directive whose parameters are worked out.
+fn turn_settled(
+    form: Form,
+    d: Directive,
+    settings: Settings,
+    kinds: &[u8],
+    next: usize,
+    longest: usize,
+) -> Turn
+    requires { ⌜ Settled form settings ⌝ }
+    requires { ⌜ Asked (now kinds) longest ⌝ }
+    requires { ⌜ next ≤ length (now kinds) ⌝ }
+    ensures { λ r. ⌜ r ≡ turnBy (now (kinds .entry)) longest (useFrom (length (now (kinds .entry))) form d settings next (sourceOf form (d .colon) settings)) ⌝ }
 {
-    if d.at {
-        return Turn::Goes { next, size: 1 };
+    let row = form_row(form);
+    let origin = row.origin;
+    match origin {
+        Origin::Nowhere => Turn::Goes {
+            next,
+            size: worst_of(form, d.colon, d.at, settings, 0, longest),
+        },
+        Origin::Next => turn_own(form, d, settings, kinds, next, longest),
+        Origin::NextOrBack => {
+            if d.colon {
+                return turn_back(form, d, settings, kinds, next, longest);
+            }
+            turn_own(form, d, settings, kinds, next, longest)
+        }
+        Origin::NextOrNumber => turn_numbered(form, d, settings, kinds, next, longest),
     }
-    Turn::Goes { next, size: 0 }
 }
 
 // The turn of a directive of a form.
@@ -185,12 +176,19 @@ pub fn turn_form(d: Directive, form: Form, kinds: &[u8], next: usize, longest: u
     requires { ⌜ next ≤ length (now kinds) ⌝ }
     ensures { λ r. ⌜ r ≡ turnOf (now (kinds .entry)) longest (Written d) next ⌝ }
 {
-    match form {
-        Form::Object(quoted) => turn_object(d, quoted, kinds, next, longest),
-        Form::Numeral(base) => turn_numeral(d, base, kinds, next),
-        Form::Glyph => turn_glyph(d, kinds, next),
-        Form::Plural => turn_plural(d, kinds, next),
-        Form::Repeat(_) => turn_repeat(d, kinds, next),
-        Form::Fold => turn_fold(d, next),
+    let row = form_row(form);
+    let places = row.places;
+    let ps = d.parameters;
+    let settled = settle_fixed(places, ps, kinds, next);
+    match settled {
+        SettledOut::Is { settings, next: _ } => turn_settled(
+            form,
+            d,
+            settings,
+            kinds,
+            next,
+            longest,
+        ),
+        SettledOut::Wrong(code) => Turn::Stops(code),
     }
 }

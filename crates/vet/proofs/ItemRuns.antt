@@ -6,7 +6,8 @@ use mathlib.Core.List.{List}
 use native.Mathlib.Omega.{arith}
 use lib.ListN.{length}
 use Rattle.rules.specs.Flow.{Flow, refused, put}
-use Rattle.rules.specs.Piece.{textOf, kindOf, accepts}
+use Rattle.rules.specs.Piece.{textOf, kindOf}
+use Rattle.rules.specs.Rows.{accepts}
 use Rattle.rules.specs.Run.{choose, Frame, run}
 use Rattle.rules.specs.Table.{Value, View}
 use Rattle.rules.specs.Text.{Sequence, acts}

@@ -3,25 +3,27 @@
 use Prim.Native.Nat.{ℕ, _+_, _<_}
 use mathlib.Core.Path.{_≡_, _∙_}
 use mathlib.Core.Bool.{Bool, true, false, cond}
-use mathlib.Core.List.{List}
+use mathlib.Core.List.{List, [], _∷_}
 use native.Mathlib.Omega.{arith}
 use lib.Dec.{ltb, eqb}
 use lib.ListN.{length}
 use borrow.Author.Tests.{ltb-true, eqb-true}
-use Rattle.rules.specs.Directive.{placesOf, inOrder}
+use Rattle.rules.specs.Choice.{either}
+use Rattle.rules.specs.Rows.{noPlaces, inRow, inOrder, eachSuits}
 use Rattle.rules.specs.Piece.{kindOf}
 use Rattle.rules.specs.Run.{Flow, clauseAt, isFalse, onSettled, withSettings, pickBy, pickNumbered, pick}
 use Rattle.rules.specs.Table.{Value, boolean, integer, character, string, list, View}
 use Rattle.rules.specs.Text.{Sequence, end, Clauses}
-use Rattle.rules.specs.Working.{Context, Settled, settled, unsettled, settle, settingsOf}
+use Rattle.rules.specs.Working.{Context, Settled, settled, unsettled, settingsOf}
 use Rattle.rules.specs.declared.Bracket.the-variants.{Conditional}
 use Rattle.rules.specs.declared.Code.the-variants.{Opens}
 use Rattle.rules.specs.declared.Directive.{Directive}
 use Rattle.rules.specs.declared.Setting.{Setting}
 use Rattle.rules.specs.declared.Setting.the-variants.{Absent, Is}
+use Rattle.rules.proofs.Rowed.{written-suits, none-settled}
 use Rattle.vet.specs.Turns.{kindIn}
 use Rattle.vet.specs.Use.{inHand}
-use Rattle.vet.specs.Ways.{hasFallback, onOwn, numberedStart, settledStart, startOf}
+use Rattle.vet.specs.Ways.{hasFallback, onOwn, numberedStart, unmodifiedPlaces, settledStart, startOf}
 use Rattle.vet.specs.declared.Turn.{Turn}
 use Rattle.vet.specs.declared.Turn.the-variants.{Goes, Stops}
 use Rattle.vet.proofs.Clauses.{Each, each-within, each-number, each-integer}
@@ -65,12 +67,19 @@ module _ (kinds : List ℕ) (longest : ℕ) (v : View)
   own-picks : (i : ℕ) (go : Turn) → (ltb i count ≡ true → Picks go) → Picks (onOwn kinds longest i go)
   own-picks i go h = by-test Picks (ltb i count) go (Stops 6) h (λ _. tt)
 
+  -- with a modifier nothing is worked out
+  modified : either (d .colon) (d .at) ≡ true
+      → flow ≡ pick v p m d cs here (settingsOf (Absent ∷ Absent ∷ Absent ∷ Absent ∷ Absent ∷ [])) next on
+  modified e =
+      let o = b .opener in
+      let s : eachSuits (inRow noPlaces) (inOrder (d .parameters)) ≡ true = rw (o .code, e) at (written-suits d (o .written)) in
+      rw (o .written, o .code, e, none-settled v here (d .parameters) next s)
+
   -- `~:[`
   two-picks : d .colon ≡ true → Picks (onOwn kinds longest next (Goes (next + 1) 0))
-  unfolding settle
   two-picks e =
       own-picks next (Goes (next + 1) 0)
-      (λ t a. rw (b .opener .written, b .opener .code, e, t) (by (isFalse (valueIn v count next)) a))
+      (λ t a. rw (modified (rw e), e, t) (by (isFalse (valueIn v count next)) a))
     where
       by : (f : Bool) → AnyRun (next + 1) → P (on (clauseAt cs (cond f 0 1) end) (next + 1))
       by true a = each-within (λ x. P (on x (next + 1))) cs (a .each) 0 end (b .some)
@@ -79,11 +88,10 @@ module _ (kinds : List ℕ) (longest : ℕ) (v : View)
   -- `~@[`
   one-picks : d .colon ≡ false → d .at ≡ true
       → Picks (onOwn kinds longest next (cond (eqb (kindIn kinds next) 0) (Goes next 0) (Stops 11)))
-  unfolding settle
   one-picks e f =
       own-picks next _
       (λ t. by-test Picks (eqb (kindIn kinds next) 0) (Goes next 0) (Stops 11)
-      (λ _ a. rw (b .opener .written, b .opener .code, e, f, t) (by (isFalse (valueIn v count next)) a)) (λ _. tt))
+      (λ _ a. rw (modified (rw (e, f)), e, f, t) (by (isFalse (valueIn v count next)) a)) (λ _. tt))
     where
       by : (y : Bool) → AnyRun next → P (on (cond y end (clauseAt cs 0 end)) (cond y (next + 1) next))
       by true a = a .boolean e f
@@ -122,9 +130,8 @@ module _ (kinds : List ℕ) (longest : ℕ) (v : View)
     number-picks : Picks (settledStart kinds longest (workedNumber kinds longest d next))
     number-picks =
         let o = b .opener in
-        let places = placesOf (Opens Conditional) false in
         by-settled (workedNumber kinds longest d next)
-        (rw (o .written, o .code, e, f, settle-plain v here places (inOrder (d .parameters)) next (o .fixed)))
+        (rw (o .written, o .code, e, f, settle-plain v here (inRow unmodifiedPlaces) (inOrder (d .parameters)) next (o .fixed)))
 
   pub picks : Picks (startOf kinds longest d next)
   unfolding startOf

@@ -7,7 +7,8 @@ use native.Mathlib.Omega.{arith}
 use lib.Dec.{ltb}
 use lib.ListN.{length}
 use Rattle.rules.specs.Number.{digitsOf, magnitudeOf, signOf}
-use Rattle.rules.specs.Piece.{orElse, digitsIn, numeralOf, accepts}
+use Rattle.rules.specs.Piece.{orElse, digitsIn, numeralOf}
+use Rattle.rules.specs.Rows.{accepts}
 use Rattle.rules.specs.declared.Form.{Form}
 use Rattle.rules.specs.declared.Form.the-variants.{Object, Numeral, Glyph, Plural, Repeat, Fold}
 use Rattle.rules.specs.declared.Item.{Item}

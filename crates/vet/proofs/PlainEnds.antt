@@ -6,7 +6,8 @@ use mathlib.Core.List.{List, [], _∷_}
 use lib.ListN.{length}
 use Rattle.rules.specs.Table.{View}
 use Rattle.rules.specs.Text.{Token}
-use Rattle.rules.specs.Piece.{textOf, kindOf, accepts}
+use Rattle.rules.specs.Piece.{textOf, kindOf}
+use Rattle.rules.specs.Rows.{accepts}
 use Rattle.rules.specs.Flow.{Flow, refused, put, finishOf}
 use Rattle.rules.specs.Run.{choose}
 use Rattle.vet.specs.declared.Turn.the-variants.{Goes, Stops}

@@ -8,10 +8,11 @@ use native.Mathlib.Omega.{arith}
 use lib.Dec.{ltb, eqb}
 use lib.ListN.{length}
 use Rattle.rules.specs.Table.{Value, View, entryIn}
-use Rattle.rules.specs.Directive.{formPlaces, placesOf, either, inOrder}
+use Rattle.rules.specs.Choice.{either}
+use Rattle.rules.specs.Rows.{rowOf, formPlaces, placesIn, inRow, inOrder, accepts}
 use Rattle.rules.specs.Text.{Token, acts, Level, innermost, itemBefore, levelsOf}
-use Rattle.rules.specs.Piece.{textOf, kindOf, accepts}
-use Rattle.rules.specs.Working.{Settled, settled, unsettled, settle, settingsOf, Source, own, back, glyphSource, sourceOf}
+use Rattle.rules.specs.Piece.{textOf, kindOf}
+use Rattle.rules.specs.Working.{Settled, settled, unsettled, settingsOf, settleAll, Source, own, back, glyphSource, sourceOf}
 use Rattle.rules.specs.Flow.{Flow, done, refused, put}
 use Rattle.rules.specs.Run.{choose, write, writeFrom, onSettled, directiveActs, itemActs, turn, walk, run}
 use Rattle.rules.specs.declared.Code.{Code}
@@ -121,10 +122,10 @@ module _ (v : View) (count : ℕ) where
       let on-one : Settings → ℕ → Flow = λ s after. writeFrom v p m f d c s after on (sourceOf f (d .colon) s) in
       ap (λ (k : Code). directiveActs v p m d k c on) (w .code)
       ∙ ap
-      (λ (b : Bool). choose b (λ _. onSettled p m (settle v c (placesOf (d .code) (either (d .colon) (d .at))) xs next) on-one) (λ _. refused 5 p m))
+      (λ (b : Bool). choose b (λ _. onSettled p m (settleAll v c (placesIn d) (d .parameters) next) on-one) (λ _. refused 5 p m))
       (w .written)
-      ∙ ap (λ (k : Code). onSettled p m (settle v c (placesOf k (either (d .colon) (d .at))) xs next) on-one) (w .code)
-      ∙ ap (λ (z : Settled). onSettled p m z on-one) (settle-plain v c (formPlaces f) xs next (w .fixed))
+      ∙ ap (λ (k : Code). onSettled p m (settleAll v c (rowOf k (either (d .colon) (d .at)) .places) (d .parameters) next) on-one) (w .code)
+      ∙ ap (λ (z : Settled). onSettled p m z on-one) (settle-plain v c (inRow (formPlaces f)) xs next (w .fixed))
       ∙ settled-same p m d f next on (workedOut count f d next)
       ∙ sym (ap (λ (k : Code). flowBy p m (useCode count d k next) on) (w .code))
   item-same p m BadNumber next on o = absurd o

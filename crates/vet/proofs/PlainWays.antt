@@ -4,13 +4,12 @@ use mathlib.Core.Path.{_≡_, refl}
 use mathlib.Core.Bool.{true, false}
 use mathlib.Core.List.{List, [], _∷_}
 use native.Mathlib.Omega.{arith}
-use Rattle.rules.specs.Directive.{inOrder}
+use Rattle.rules.specs.Rows.{rowOf, inOrder, plainBut}
 use Rattle.rules.specs.Text.{Token, tokensAt, textVerdict, innermost, levelsOf, levelsAt}
-use Rattle.rules.specs.declared.Bracket.the-variants.{Conditional, Iteration}
-use Rattle.rules.specs.declared.Code.{Code}
-use Rattle.rules.specs.declared.Code.the-variants.{Writes, Jump, Escape, Opens, Separator, Closes, Unknown}
 use Rattle.rules.specs.declared.Item.{Item}
 use Rattle.rules.specs.declared.Item.the-variants.{End, Literal, Written, BadNumber, Unfinished}
+use Rattle.rules.specs.declared.Plainness.{Plainness}
+use Rattle.rules.specs.declared.Plainness.the-variants.{Plain, Conditional as PlainButFor, Never}
 use Rattle.rules.specs.declared.Verdict.{Verdict}
 use Rattle.rules.specs.declared.Verdict.the-variants.{Accepted, Refused}
 use Rattle.rules.proofs.Tests.{both-true, true-both}
@@ -27,15 +26,10 @@ use Rattle.vet.proofs.PlainVet.{onTurn as onItem, vetFrom, vetPlain}
 use Rattle.vet.proofs.TurnLaws.{Low, item-low}
 
 -- what is plain a vet takes
-code-vettable : (c : Code) → plainCode false c ≡ true → plainCode true c ≡ true
-code-vettable (Writes f) e = refl
-code-vettable Jump e = e
-code-vettable Escape e = e
-code-vettable (Opens Conditional) e = refl
-code-vettable (Opens Iteration) e = e
-code-vettable Separator e = refl
-code-vettable (Closes b) e = refl
-code-vettable Unknown e = refl
+plain-vettable-too : (p : Plainness) → plainBut false p ≡ true → plainBut true p ≡ true
+plain-vettable-too Plain e = refl
+plain-vettable-too PlainButFor e = refl
+plain-vettable-too Never e = e
 
 item-vettable : (x : Item) → plainItem false x ≡ true → plainItem true x ≡ true
 unfolding plainItem
@@ -43,7 +37,7 @@ item-vettable End e = refl
 item-vettable (Literal b) e = refl
 item-vettable (Written d) e =
     let h = both-true (plainCode false (d .code)) (noneNext (inOrder (d .parameters))) e in
-    true-both (code-vettable (d .code) (h .0)) (h .1)
+    true-both (plain-vettable-too (rowOf (d .code) false .plainness) (h .0)) (h .1)
 item-vettable BadNumber e = refl
 item-vettable Unfinished e = refl
 

@@ -8,20 +8,20 @@ use native.Mathlib.Omega.{arith}
 use lib.Dec.{ltb, eqb}
 use lib.ListN.{length}
 use borrow.Author.Tests.{ltb-true, eqb-true}
-use Rattle.rules.specs.Directive.{placesOf, either, inOrder}
-use Rattle.rules.specs.Working.{Settled, settled, unsettled, settle, settingsOf}
-use Rattle.rules.specs.declared.Bracket.the-variants.{Conditional}
-use Rattle.rules.specs.declared.Code.the-variants.{Opens}
+use Rattle.rules.specs.Choice.{either}
+use Rattle.rules.specs.Rows.{inRow, inOrder}
+use Rattle.rules.specs.Working.{Settled, settled, unsettled, settingsOf, settleAll}
 use Rattle.rules.specs.declared.Directive.{Directive}
 use Rattle.rules.specs.declared.Setting.{Setting}
 use Rattle.rules.specs.declared.Setting.the-variants.{Absent, Is}
+use Rattle.rules.proofs.Rowed.{written-suits}
 use Rattle.vet.specs.Plain.{Opener}
 use Rattle.vet.specs.Turns.{kindIn}
 use Rattle.vet.specs.Use.{inHand, noEntries}
-use Rattle.vet.specs.Ways.{onOwn, numberedStart, settledStart, startOf}
+use Rattle.vet.specs.Ways.{onOwn, numberedStart, unmodifiedPlaces, settledStart, startOf}
 use Rattle.vet.specs.declared.Turn.{Turn}
 use Rattle.vet.specs.declared.Turn.the-variants.{Goes, Stops}
-use Rattle.vet.proofs.Settling.{Settles, settle-placed, written-suits}
+use Rattle.vet.proofs.Settling.{Settles, settle-placed}
 use Rattle.vet.proofs.Uses.{by-test}
 
 -- what a way through a format may fail with
@@ -56,7 +56,7 @@ module _ (kinds : List ℕ) (longest : ℕ) where
       (λ b. by-test (Started count) (eqb (kindIn kinds next) 1) _ _ (λ _. (b, refl)) (λ _. inl (omega arith, omega arith)))
   numbered-started next (Is n) h = (h, refl)
 
-  settled-started : (next : ℕ) (z : Settled) → next ≤ count → Settles (placesOf (Opens Conditional) false) next z
+  settled-started : (next : ℕ) (z : Settled) → next ≤ count → Settles (inRow unmodifiedPlaces) next z
       → Started count (settledStart kinds longest z)
   settled-started next (settled ss after) h s = numbered-started after (settingsOf ss .first) (omega (arith, s .0))
   settled-started next (unsettled code) h s = inl s
@@ -64,13 +64,13 @@ module _ (kinds : List ℕ) (longest : ℕ) where
   -- the worked-out parameters of `~[`
   abbrev pub workedNumber : Directive → ℕ → Settled
   workedNumber d next =
-      settle noEntries (inHand count next) (placesOf (Opens Conditional) false) (inOrder (d .parameters)) next
+      settleAll noEntries (inHand count next) unmodifiedPlaces (d .parameters) next
 
   number-settles : (d : Directive) (next : ℕ) → Opener d → either (d .colon) (d .at) ≡ false
-      → Settles (placesOf (Opens Conditional) false) next (workedNumber d next)
+      → Settles (inRow unmodifiedPlaces) next (workedNumber d next)
   number-settles d next o e =
-      settle-placed (inHand count next) (placesOf (Opens Conditional) false) (inOrder (d .parameters)) next (o .fixed)
-      (rw e at (written-suits d (Opens Conditional) (o .code) (o .written)))
+      settle-placed (inHand count next) (inRow unmodifiedPlaces) (inOrder (d .parameters)) next (o .fixed)
+      (rw (o .code, e) at (written-suits d (o .written)))
 
   pub start-turned : (d : Directive) (next : ℕ) → next ≤ count → Opener d → Started count (startOf kinds longest d next)
   unfolding startOf

@@ -9,8 +9,9 @@ use lib.Dec.{eqb}
 use lib.ListN.{length}
 use borrow.Author.Tests.{eqb-true, not-true}
 use Rattle.rules.specs.Choice.{both}
-use Rattle.rules.specs.Directive.{CodeRight, inOrder, itemAt}
-use Rattle.rules.specs.Text.{Block, opened, separated, isConditional, rightCount, isCloserOf, isWhole, deepest, tokensAt, textVerdict, Sequence, end, acts, escapes, iterates, chooses, Clauses, none, clause, Level, innermost, outer, before, asClauses, levelsAt, sequenceOf}
+use Rattle.rules.specs.Directive.{CodeRight, itemAt}
+use Rattle.rules.specs.Rows.{inOrder}
+use Rattle.rules.specs.Text.{Block, opened, separated, isConditional, rightCount, isCloserOf, isWhole, deepest, tokensAt, textVerdict, Sequence, end, acts, escapes, iterates, chooses, Clauses, none, clause, Level, innermost, outer, before, asClauses, levelsAt, sequenceOf, placeAfter}
 use Rattle.rules.specs.declared.Bracket.{Bracket}
 use Rattle.rules.specs.declared.Bracket.the-variants.{Conditional, Iteration}
 use Rattle.rules.specs.declared.Code.{Code}
@@ -20,8 +21,8 @@ use Rattle.rules.specs.declared.Item.{Item}
 use Rattle.rules.specs.declared.Item.the-variants.{End, Literal, Written, BadNumber, Unfinished}
 use Rattle.rules.specs.declared.Verdict.the-variants.{Accepted}
 use Rattle.rules.proofs.Bases.{code-right}
-use Rattle.rules.proofs.Tests.{not-both-ways}
-use Rattle.rules.proofs.TextLaws.{placeAfter, stands, next-inside, tokens-is, levels-end, levels-literal, levels-writes, levels-conditional, levels-separator, levels-closer, Sound, sound-start, sound-end, sound-literal, sound-bad, sound-unfinished, sound-known, sound-writes, sound-opener, sound-separator, sound-closer}
+use Rattle.rules.proofs.Tests.{both-true, not-both-ways}
+use Rattle.rules.proofs.TextLaws.{stands, next-inside, tokens-is, levels-end, levels-literal, levels-writes, levels-conditional, levels-separator, levels-closer, Sound, sound-start, sound-end, sound-literal, sound-bad, sound-unfinished, sound-known, sound-writes, sound-opener, sound-separator, sound-closer}
 use Rattle.vet.specs.Plain.{Opener, plainCode, noneNext, plainItem, plainFrom, vettableVerdict}
 use Rattle.vet.proofs.Clauses.{clausesIn}
 use Rattle.vet.proofs.Ordinary.{Ordinary, past-test}
@@ -129,7 +130,7 @@ module _ (t : List ℕ) (p : ℕ) (d : Directive) (e : itemAt t p ≡ Written d)
       let r = sound-writes t os p s d e f q in
       rw (levels-writes t p d e f q)
       (before-vettable k os (levelsAt t (d .next)) (acts p (Written d))
-      (λ x y. (record { form = f; code = q; written = r .0; fixed = n; based = b }, y)) (on os k h (r .1) v))
+      (λ x y. (record { form = f; code = q; written = r .0; fixed = both-true (plainCode true (Writes f)) _ n .1; based = b }, y)) (on os k h (r .1) v))
   directive-vettable Jump q b n k h = absurd (not-both-ways n refl)
   directive-vettable Escape q b n k h = absurd (not-both-ways n refl)
   directive-vettable (Opens Iteration) q b n k h = absurd (not-both-ways n refl)

@@ -4,8 +4,11 @@ use Prim.Native.Nat.{ℕ}
 use mathlib.Core.Bool.{cond}
 use mathlib.Core.List.{List}
 use lib.ListN.{length, getD}
-use Rattle.rules.specs.Piece.{accepts}
+use Rattle.rules.specs.Rows.{accepts}
+use Rattle.rules.specs.declared.Directive.{Directive}
+use Rattle.rules.specs.declared.Form.{Form}
 use Rattle.rules.specs.declared.Item.{Item}
+use Rattle.rules.specs.declared.Settings.{Settings}
 use Rattle.vet.specs.Use.{Use, writes, shows, stops, useOf}
 use Rattle.vet.specs.Worst.{worst}
 use Rattle.vet.specs.declared.Turn.{Turn}
@@ -15,12 +18,15 @@ use Rattle.vet.specs.declared.Turn.the-variants.{Goes, Stops}
 abbrev pub kindIn : List ℕ → ℕ → ℕ
 kindIn kinds i = getD kinds i 0
 
+-- a directive that shows an argument of a kind, after which `next` is the next one: "kind 7", and else the piece's
+-- greatest length
+abbrev pub shownTurn : ℕ → Form → Directive → Settings → ℕ → ℕ → Turn
+shownTurn longest f d s kind next = cond (accepts f kind) (Goes next (worst longest f (d .colon) (d .at) s kind)) (Stops 7)
+
 module _ (kinds : List ℕ) (longest : ℕ) where
-  -- "kind 7", and else the piece's greatest length
   abbrev pub turnBy : Use → Turn
   turnBy (writes text next) = Goes next (length text)
-  turnBy (shows f d s i next) =
-      cond (accepts f (kindIn kinds i)) (Goes next (worst longest f (d .colon) (d .at) s (kindIn kinds i))) (Stops 7)
+  turnBy (shows f d s i next) = shownTurn longest f d s (kindIn kinds i) next
   turnBy (stops code) = Stops code
 
   unfoldable pub turnOf : Item → ℕ → Turn

@@ -5,12 +5,13 @@ use mathlib.Core.Bool.{Bool, false, cond}
 use mathlib.Core.List.{List}
 use lib.Dec.{ltb, eqb}
 use lib.ListN.{length}
-use Rattle.rules.specs.Directive.{placesOf, inOrder}
+use Rattle.rules.specs.Rows.{rowOf}
 use Rattle.rules.specs.Text.{Sequence, end, acts, escapes, iterates, chooses, Clauses, none, clause}
-use Rattle.rules.specs.Working.{Settled, settled, unsettled, settle, settingsOf}
+use Rattle.rules.specs.Working.{Settled, settled, unsettled, settingsOf, settleAll}
 use Rattle.rules.specs.declared.Bracket.the-variants.{Conditional}
 use Rattle.rules.specs.declared.Code.the-variants.{Opens}
 use Rattle.rules.specs.declared.Directive.{Directive}
+use Rattle.rules.specs.declared.Places.{Places}
 use Rattle.rules.specs.declared.Setting.{Setting}
 use Rattle.rules.specs.declared.Setting.the-variants.{Absent, Is}
 use Rattle.vet.specs.Turns.{kindIn, turnOf}
@@ -73,6 +74,10 @@ abbrev pub onWays : ℕ → (Ends → Ends) → Ways → (ℕ → ℕ → Way) �
 onWays p closing (ending e) on = onEnds p (closing e) on
 onWays p closing (failing code q) on = fails code q
 
+-- the places of `~[` without a modifier
+abbrev pub unmodifiedPlaces : Places
+unmodifiedPlaces = rowOf (Opens Conditional) false .places
+
 module _ (kinds : List ℕ) (longest : ℕ) where
   abbrev pub count : ℕ
   count = length kinds
@@ -96,7 +101,7 @@ module _ (kinds : List ℕ) (longest : ℕ) where
   startOf d next =
       cond (d .colon) (onOwn next (Goes (next + 1) 0))
       (cond (d .at) (onOwn next (cond (eqb (kindIn kinds next) 0) (Goes next 0) (Stops 11)))
-      (settledStart (settle noEntries (inHand count next) (placesOf (Opens Conditional) false) (inOrder (d .parameters)) next)))
+      (settledStart (settleAll noEntries (inHand count next) unmodifiedPlaces (d .parameters) next)))
 
   unfoldable mutual
     -- the ways through a sequence from the argument `next`, where the pieces before it are `sum` bytes at the most; a format

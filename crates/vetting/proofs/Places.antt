@@ -6,13 +6,14 @@ use mathlib.Core.List.{List}
 use native.Mathlib.Omega.{arith}
 use lib.ListN.{length}
 use Rattle.rules.specs.Choice.{both}
-use Rattle.rules.specs.Directive.{inOrder, itemAt}
-use Rattle.rules.specs.Text.{tokensAt}
+use Rattle.rules.specs.Directive.{itemAt}
+use Rattle.rules.specs.Rows.{inOrder}
+use Rattle.rules.specs.Text.{tokensAt, placeAfter}
 use Rattle.rules.specs.declared.Directive.{Directive}
 use Rattle.rules.specs.declared.Item.{Item}
 use Rattle.rules.specs.declared.Item.the-variants.{End, Literal, Written, BadNumber, Unfinished}
 use Rattle.rules.specs.declared.Verdict.the-variants.{Accepted, Refused}
-use Rattle.rules.proofs.TextLaws.{placeAfter, Stands, stands, tokens-is}
+use Rattle.rules.proofs.TextLaws.{Stands, stands, tokens-is}
 use Rattle.vet.specs.Plain.{plainCode, isNext, noneNext, plainItem, plainFrom, vettableVerdict}
 use Rattle.vet.proofs.Loop.{Follows, plain-on, plain-not, plain-end}
 
@@ -62,12 +63,13 @@ both-end : (b : Bool) → both b true ≡ b
 both-end true = refl
 both-end false = refl
 
--- a directive, from the tests of its code and of its four parameters
-pub directive-vettable : (d : Directive) {k a b c e last more all r : Bool} → k ≡ plainCode true (d .code)
-    → a ≡ not (isNext (d .parameters .first)) → b ≡ not (isNext (d .parameters .second))
-    → c ≡ not (isNext (d .parameters .third)) → e ≡ not (isNext (d .parameters .fourth))
-    → last ≡ both c e → more ≡ both b last → all ≡ both a more → r ≡ both k all
+-- a directive, from the tests of its code and of its five parameters
+pub directive-vettable : (d : Directive) {k s₁ s₂ s₃ s₄ s₅ a b c e r : Bool} → k ≡ plainCode true (d .code)
+    → s₁ ≡ not (isNext (d .parameters .first)) → s₂ ≡ not (isNext (d .parameters .second))
+    → s₃ ≡ not (isNext (d .parameters .third)) → s₄ ≡ not (isNext (d .parameters .fourth))
+    → s₅ ≡ not (isNext (d .parameters .fifth))
+    → a ≡ both s₄ s₅ → b ≡ both s₃ a → c ≡ both s₂ b → e ≡ both s₁ c → r ≡ both k e
     → r ≡ both (plainCode true (d .code)) (noneNext (inOrder (d .parameters)))
-directive-vettable d {k} {a} {b} {c} {e} ek ea eb ec ee el em en er =
-    er ∙ rw (en, em, el, ← ek, ← ea, ← eb, ← ec, ← ee)
-    (ap (λ (x : Bool). both k (both a (both b (both c x)))) (sym (both-end e)))
+directive-vettable d {k} {s₁} {s₂} {s₃} {s₄} {s₅} ek e₁ e₂ e₃ e₄ e₅ ea eb ec ee er =
+    er ∙ rw (ee, ec, eb, ea, ← ek, ← e₁, ← e₂, ← e₃, ← e₄, ← e₅)
+    (ap (λ (x : Bool). both k (both s₁ (both s₂ (both s₃ (both s₄ x))))) (sym (both-end s₅)))

@@ -5,7 +5,8 @@ use mathlib.Core.Bool.{true}
 use mathlib.Core.List.{List, []}
 use native.Mathlib.Omega.{arith}
 use lib.ListN.{length}
-use Rattle.rules.specs.Directive.{itemAt, inOrder}
+use Rattle.rules.specs.Directive.{itemAt}
+use Rattle.rules.specs.Rows.{inOrder}
 use Rattle.rules.specs.Text.{tokensAt, textVerdict}
 use Rattle.rules.specs.declared.Bracket.{Bracket}
 use Rattle.rules.specs.declared.Bracket.the-variants.{Conditional, Iteration}

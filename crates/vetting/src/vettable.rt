@@ -1,36 +1,38 @@
 // Which formats a vet takes: those that are plain but for their conditionals.
-use fitting::places::both;
+use fitting::rows::row_of;
 use reader::directive::item_at;
-use rules::Bracket;
 use rules::Code;
 use rules::Directive;
 use rules::Item;
 use rules::Parameter;
+use rules::Plainness;
 use rules::Verdict;
+use rules::scalars::both;
 use turns::starts::NOT_VETTABLE;
 ghost use mathlib.Core.Path.{_≡_};
 ghost use mathlib.Core.Bool.{true, not};
 ghost use Prim.Native.Nat.{_<_};
 ghost use Rattle.rules.specs.Choice.{both};
-ghost use Rattle.rules.specs.Directive.{inOrder};
-ghost use Rattle.rules.proofs.TextLaws.{placeAfter};
+ghost use Rattle.rules.specs.Rows.{inOrder, plainBut};
+ghost use Rattle.rules.specs.Text.{placeAfter};
 ghost use Rattle.vet.specs.Plain.{plainCode, isNext, noneNext, plainItem, vettableVerdict};
+
+fn plain_but_choosing(plainness: Plainness) -> bool
+    ensures { λ r. ⌜ r ≡ plainBut true plainness ⌝ }
+{
+    match plainness {
+        Plainness::Plain => true,
+        Plainness::Conditional => true,
+        Plainness::Never => false,
+    }
+}
 
 fn is_vettable_code(code: Code) -> bool
     ensures { λ r. ⌜ r ≡ plainCode true code ⌝ }
 {
-    match code {
-        Code::Writes(_) => true,
-        Code::Jump => false,
-        Code::Escape => false,
-        Code::Opens(bracket) => match bracket {
-            Bracket::Conditional => true,
-            Bracket::Iteration => false,
-        },
-        Code::Separator => true,
-        Code::Closes(_) => true,
-        Code::Unknown => true,
-    }
+    let row = row_of(code, false);
+    let plainness = row.plainness;
+    plain_but_choosing(plainness)
 }
 
 // The parameter is no `v`.
@@ -55,8 +57,10 @@ fn is_vettable_directive(d: Directive) -> bool
     let p2 = ps.second;
     let p3 = ps.third;
     let p4 = ps.fourth;
-    let last = both(is_fixed(p3), is_fixed(p4));
-    let all = both(is_fixed(p1), both(is_fixed(p2), last));
+    let p5 = ps.fifth;
+    let last = both(is_fixed(p4), is_fixed(p5));
+    let from_second = both(is_fixed(p2), both(is_fixed(p3), last));
+    let all = both(is_fixed(p1), from_second);
     both(is_vettable_code(code), all)
 }
 

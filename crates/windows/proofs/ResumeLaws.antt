@@ -11,7 +11,7 @@ use lib.ListN.{length, take, drop, length-append, take-append-drop}
 use lib.Seq.{length-take-le, take-at, drop-at}
 use borrow.Author.Tests.{lt-ltb, le-ltb, ne-eqb, le-leb}
 use Rattle.rules.specs.Answer.{flowOf}
-use Rattle.rules.specs.Directive.{either}
+use Rattle.rules.specs.Choice.{either}
 use Rattle.rules.specs.Flow.{limit, Finish}
 use Rattle.rules.specs.Table.{entryCount, argumentCount, viewOf, tableVerdict}
 use Rattle.rules.specs.Text.{textVerdict}

@@ -5,8 +5,7 @@ use mathlib.Core.Bool.{Bool, true, false, cond, not}
 use mathlib.Core.List.{List, [], _++_}
 use lib.Dec.{ltb, eqb}
 use lib.ListN.{length, take, drop}
-use Rattle.rules.specs.Choice.{both}
-use Rattle.rules.specs.Directive.{either}
+use Rattle.rules.specs.Choice.{both, either}
 use Rattle.nesting.specs.Moves.{Told}
 use Rattle.windows.specs.declared.state.State.{State}
 use Rattle.windows.specs.declared.state.Resumed.{Resumed}

@@ -5,7 +5,8 @@ use mathlib.Core.Bool.{Bool, true, false}
 use mathlib.Core.List.{List, [], _∷_, _++_, map}
 use lib.ListN.{length, drop, replicate}
 use Rattle.rules.specs.Flow.{givenText}
-use Rattle.rules.specs.Directive.{codeNamed, step, scan, itemOf, wellWritten}
+use Rattle.rules.specs.Directive.{codeNamed, step, scan, itemOf}
+use Rattle.rules.specs.Rows.{wellWritten}
 use Rattle.rules.specs.Text.{tokensFrom, tokensAt, directiveMet, verdictOf, textVerdict, levelsOf, levelsAt}
 use Rattle.rules.specs.Table.{poolOf, entryAt, rightFor, valueBy, valueAt, firstBad, tableVerdict, valuesFrom, viewOf}
 use Rattle.rules.specs.Piece.{escaped, bareOf, timesPadded, textOf}

@@ -13,8 +13,10 @@ use borrow.Author.Tests.{le-ltb, lt-ltb, leb-true}
 use Rattle.rules.specs.Choice.{both}
 use Rattle.rules.specs.Number.{isNegative, magnitudeOf}
 use Rattle.rules.specs.Table.{integer, meant, viewOf}
-use Rattle.rules.specs.Directive.{Place, number, character, suits}
-use Rattle.rules.specs.Working.{worked, wrong, argumentIn, inRange, fromValue, fromCount, workOut}
+use Rattle.rules.specs.Rows.{suits}
+use Rattle.rules.specs.declared.Place.{Place}
+use Rattle.rules.specs.declared.Place.the-variants.{Empty, Number as NumberPlace, Character as CharacterPlace}
+use Rattle.rules.specs.Working.{worked, wrong, argumentIn, inRange, fromValue, fromCount, workOut, InPlace}
 use Rattle.rules.specs.declared.Argument.{Argument}
 use Rattle.rules.specs.declared.Argument.the-variants.{Boolean, Integer, Character as CharacterArgument, Text, Entries}
 use Rattle.rules.specs.declared.ArgumentPosition.{ArgumentPosition}
@@ -24,9 +26,10 @@ use Rattle.rules.specs.declared.Setting.{Setting}
 use Rattle.rules.specs.declared.Setting.the-variants.{Absent, Is}
 use Rattle.rules.proofs.Argument.{the-type}
 use Rattle.rules.proofs.Parameter.{the-type as parameter-type}
+use Rattle.rules.proofs.Place.{the-type as place-type}
 use Rattle.rules.proofs.Tests.{both-true, not-both-ways}
 use Rattle.rules.proofs.TableLaws.{accepted-sound}
-use Rattle.working.specs.Settling.{handAt, InHand, InPlace, workedAs, Reaches, Lies, Works, isWritten, WrittenAs}
+use Rattle.working.specs.Settling.{handAt, InHand, workedAs, Reaches, Lies, Works, isWritten, WrittenAs}
 use Rattle.working.specs.declared.arguments.Hand.{Hand}
 use Rattle.working.specs.declared.places.WorkedOut.{WorkedOut}
 use Rattle.working.specs.declared.places.WorkedOut.the-variants.{Is as workedIs, Wrong as workedWrong}
@@ -37,52 +40,63 @@ hand-small {t} {hand} h = omega (arith, h .within, accepted-sound t (h .accepted
 
 -- an absent setting lies in every place
 pub absent-lies : (y : Place) → InPlace y Absent
-absent-lies (number least most) = tt
-absent-lies character = tt
+absent-lies Empty = tt
+absent-lies (NumberPlace least most) = tt
+absent-lies CharacterPlace = tt
 
 number-lies : (y : Place) (n : ℕ) → suits y (Number n) ≡ true → InPlace y (Is n)
-number-lies (number least most) n e =
+number-lies Empty n e = absurd (not-both-ways e refl)
+number-lies (NumberPlace least most) n e =
     let parts = both-true (leb least n) (leb n most) e in
     (leb-true least n (parts .0), leb-true n most (parts .1))
-number-lies character n e = absurd (not-both-ways e refl)
+number-lies CharacterPlace n e = absurd (not-both-ways e refl)
 
 byte-lies : (y : Place) (b w : ℕ) → w < 256 → suits y (Character b) ≡ true → InPlace y (Is w)
-byte-lies (number least most) b w h e = absurd (not-both-ways e refl)
-byte-lies character b w h e = h
+byte-lies Empty b w h e = absurd (not-both-ways e refl)
+byte-lies (NumberPlace least most) b w h e = absurd (not-both-ways e refl)
+byte-lies CharacterPlace b w h e = h
 
 -- a number that is tested against the range of its place
 tested-reaches : (count next : ℕ) (b : Bool) (s : Setting) → next ≤ count → Reaches count (cond b (worked s next) (wrong 8))
 tested-reaches count next true s h = h
 tested-reaches count next false s h = tt
 
-tested-lies : (least most n next : ℕ) (b : Bool) → (b ≡ true → (least ≤ n) × (n ≤ most)) → Lies (number least most) (cond b (worked (Is n) next) (wrong 8))
+tested-lies : (least most n next : ℕ) (b : Bool) → (b ≡ true → (least ≤ n) × (n ≤ most)) → Lies (NumberPlace least most) (cond b (worked (Is n) next) (wrong 8))
 tested-lies least most n next true h = h refl
 tested-lies least most n next false h = tt
 
-range-lies : (least most n next : ℕ) → Lies (number least most) (inRange least most n next)
+range-lies : (least most n next : ℕ) → Lies (NumberPlace least most) (inRange least most n next)
 range-lies least most n next =
     tested-lies least most n next (both (leb least n) (leb n most))
     (λ e. let parts = both-true (leb least n) (leb n most) e in (leb-true least n (parts .0), leb-true n most (parts .1)))
 
 count-reaches : (count : ℕ) (y : Place) (n next : ℕ) → next ≤ count → Reaches count (fromCount y n next)
-count-reaches count (number least most) n next h = tested-reaches count next (both (leb least n) (leb n most)) (Is n) h
-count-reaches count character n next h = tt
+count-reaches count Empty n next h = tt
+count-reaches count (NumberPlace least most) n next h = tested-reaches count next (both (leb least n) (leb n most)) (Is n) h
+count-reaches count CharacterPlace n next h = tt
 
 count-lies : (y : Place) (n next : ℕ) → Lies y (fromCount y n next)
-count-lies (number least most) n next = range-lies least most n next
-count-lies character n next = tt
+count-lies Empty n next = tt
+count-lies (NumberPlace least most) n next = range-lies least most n next
+count-lies CharacterPlace n next = tt
+
+-- `k` says that the tag is not that of a number place
+pub no-remaining : (n next : ℕ) (y : Place) → OneOf (0 ∷ 2 ∷ []) (tagOf place-type y) → wrong 8 ≡ fromCount y n next
+no-remaining n next Empty k = refl
+no-remaining n next (NumberPlace least most) k = absurd (⊎-elim (λ a. omega arith) (λ a. omega arith) k)
+no-remaining n next CharacterPlace k = refl
 
 -- an integer argument in a number place, by what the code has at hand: its sign and its magnitude
-from-negative : (least most n : ℕ) (z : ℤ) → isNegative z ≡ true → fromValue (number least most) (integer z) n ≡ wrong 8
+from-negative : (least most n : ℕ) (z : ℤ) → isNegative z ≡ true → fromValue (NumberPlace least most) (integer z) n ≡ wrong 8
 from-negative least most n (pos m) e = absurd (not-both-ways e refl)
 from-negative least most n (negsuc m) e = refl
 
-from-positive : (least most n : ℕ) (z : ℤ) → isNegative z ≡ false → fromValue (number least most) (integer z) n ≡ inRange least most (magnitudeOf z) n
+from-positive : (least most n : ℕ) (z : ℤ) → isNegative z ≡ false → fromValue (NumberPlace least most) (integer z) n ≡ inRange least most (magnitudeOf z) n
 from-positive least most n (pos m) e = refl
 from-positive least most n (negsuc m) e = absurd (not-both-ways refl e)
 
 -- arguments of the other kinds: `k` says that the tag is one of theirs
-from-no-integer : (t : List ℕ) (least most n : ℕ) (a : Argument) → OneOf (0 ∷ 2 ∷ 3 ∷ 4 ∷ []) (tagOf the-type a) → fromValue (number least most) (meant t a) n ≡ wrong 7
+from-no-integer : (t : List ℕ) (least most n : ℕ) (a : Argument) → OneOf (0 ∷ 2 ∷ 3 ∷ 4 ∷ []) (tagOf the-type a) → fromValue (NumberPlace least most) (meant t a) n ≡ wrong 7
 from-no-integer t least most n (Boolean b) k = refl
 from-no-integer t least most n (Integer z) k =
     absurd (⊎-elim (λ a. omega arith) (λ b. ⊎-elim (λ a. omega arith) (λ c. ⊎-elim (λ a. omega arith) (λ a. omega arith) c) b) k)
@@ -90,7 +104,7 @@ from-no-integer t least most n (CharacterArgument b) k = refl
 from-no-integer t least most n (Text start end) k = refl
 from-no-integer t least most n (Entries first count) k = refl
 
-from-no-character : (t : List ℕ) (n : ℕ) (a : Argument) → OneOf (0 ∷ 1 ∷ 3 ∷ 4 ∷ []) (tagOf the-type a) → fromValue character (meant t a) n ≡ wrong 7
+from-no-character : (t : List ℕ) (n : ℕ) (a : Argument) → OneOf (0 ∷ 1 ∷ 3 ∷ 4 ∷ []) (tagOf the-type a) → fromValue CharacterPlace (meant t a) n ≡ wrong 7
 from-no-character t n (Boolean b) k = refl
 from-no-character t n (Integer z) k = refl
 from-no-character t n (CharacterArgument b) k =
@@ -146,6 +160,11 @@ pub none-left : {t : List ℕ} {hand : Hand} {y : Place} {next : ArgumentPositio
 unfolding workOut
 none-left {t} {hand} {y} {next} h = record { as-defined = rw (le-ltb (next .0) (hand .count) h); reaches = tt; lies = λ _. tt }
 
+-- `v` where there is no place, and an argument is left
+pub no-place : {t : List ℕ} {hand : Hand} {next : ArgumentPosition} → next .0 < hand .count → Works t hand Empty Next (next .0) (workedWrong 7)
+unfolding workOut
+no-place {t} {hand} {next} h = record { as-defined = rw (lt-ltb (next .0) (hand .count) h); reaches = tt; lies = λ _. tt }
+
 -- `v`, where an argument is left and the reader answers a
 pub record IsNext (t : List ℕ) (hand : Hand) (next : ArgumentPosition) (a : Argument) : Type 0 where
   pub below : next .0 < hand .count
@@ -157,48 +176,48 @@ module _ {t : List ℕ} {hand : Hand} {next : ArgumentPosition} {a : Argument} (
   from-next y = rw (lt-ltb (next .0) (hand .count) (h .below), h .value)
 
   -- z₂ is the integer z as the machine hands it on
-  pub next-negative : {least most : ℕ} {z z₂ : ℤ} → a ≡ Integer z → z₂ ≡ z → isNegative z₂ ≡ true → Works t hand (number least most) Next (next .0) (workedWrong 8)
+  pub next-negative : {least most : ℕ} {z z₂ : ℤ} → a ≡ Integer z → z₂ ≡ z → isNegative z₂ ≡ true → Works t hand (NumberPlace least most) Next (next .0) (workedWrong 8)
   next-negative {least} {most} {z} e same negative = record {
     as-defined =
-        let is : fromValue (number least most) (integer z) (next .0 + 1) ≡ workOut (viewOf t) (handAt hand 0) (number least most) Next (next .0) = rw e at (from-next (number least most)) in
+        let is : fromValue (NumberPlace least most) (integer z) (next .0 + 1) ≡ workOut (viewOf t) (handAt hand 0) (NumberPlace least most) Next (next .0) = rw e at (from-next (NumberPlace least most)) in
         sym (from-negative least most (next .0 + 1) z (rw same at negative)) ∙ is;
     reaches = tt;
     lies = λ _. tt;
   }
 
   pub next-number : {least most w : ℕ} {z z₂ : ℤ} {after : ArgumentPosition} {r : WorkedOut} → a ≡ Integer z → z₂ ≡ z → isNegative z₂ ≡ false → w ≡ magnitudeOf z₂
-      → after .0 ≡ next .0 + 1 → workedAs r ≡ inRange least most w (after .0) → Works t hand (number least most) Next (next .0) r
+      → after .0 ≡ next .0 + 1 → workedAs r ≡ inRange least most w (after .0) → Works t hand (NumberPlace least most) Next (next .0) r
   next-number {least} {most} {w} {z} {z₂} {after} {r} e same positive magnitude follows is =
       let n = magnitudeOf z in
       let is₂ : workedAs r ≡ inRange least most n (next .0 + 1) = rw (magnitude, same, follows) at is in
       record {
         as-defined =
-            let from : fromValue (number least most) (integer z) (next .0 + 1) ≡ workOut (viewOf t) (handAt hand 0) (number least most) Next (next .0) = rw e at (from-next (number least most)) in
+            let from : fromValue (NumberPlace least most) (integer z) (next .0 + 1) ≡ workOut (viewOf t) (handAt hand 0) (NumberPlace least most) Next (next .0) = rw e at (from-next (NumberPlace least most)) in
             is₂ ∙ sym (from-positive least most (next .0 + 1) z (rw same at positive)) ∙ from;
         reaches = rw is₂ (tested-reaches (hand .count) (next .0 + 1) (both (leb least n) (leb n most)) (Is n) (omega arith));
         lies = λ _. rw is₂ (range-lies least most n (next .0 + 1));
       }
 
-  pub next-no-integer : {least most : ℕ} → OneOf (0 ∷ 2 ∷ 3 ∷ 4 ∷ []) (tagOf the-type a) → Works t hand (number least most) Next (next .0) (workedWrong 7)
+  pub next-no-integer : {least most : ℕ} → OneOf (0 ∷ 2 ∷ 3 ∷ 4 ∷ []) (tagOf the-type a) → Works t hand (NumberPlace least most) Next (next .0) (workedWrong 7)
   next-no-integer {least} {most} k = record {
-    as-defined = sym (from-no-integer t least most (next .0 + 1) a k) ∙ from-next (number least most);
+    as-defined = sym (from-no-integer t least most (next .0 + 1) a k) ∙ from-next (NumberPlace least most);
     reaches = tt;
     lies = λ _. tt;
   }
 
   pub next-character : {b w : ℕ} {after : ArgumentPosition} → a ≡ CharacterArgument b → (w ≡ b) × (w < 256) → after .0 ≡ next .0 + 1
-      → Works t hand character Next (next .0) (workedIs (Is w) after)
+      → Works t hand CharacterPlace Next (next .0) (workedIs (Is w) after)
   next-character {b} {w} {after} e same follows = record {
     as-defined =
-        let is : worked (Is b) (next .0 + 1) ≡ workOut (viewOf t) (handAt hand 0) character Next (next .0) = rw e at (from-next character) in
+        let is : worked (Is b) (next .0 + 1) ≡ workOut (viewOf t) (handAt hand 0) CharacterPlace Next (next .0) = rw e at (from-next CharacterPlace) in
         rw (same .0, follows) is;
     reaches = omega arith;
     lies = λ _. same .1;
   }
 
-  pub next-no-character : OneOf (0 ∷ 1 ∷ 3 ∷ 4 ∷ []) (tagOf the-type a) → Works t hand character Next (next .0) (workedWrong 7)
+  pub next-no-character : OneOf (0 ∷ 1 ∷ 3 ∷ 4 ∷ []) (tagOf the-type a) → Works t hand CharacterPlace Next (next .0) (workedWrong 7)
   next-no-character k = record {
-    as-defined = sym (from-no-character t (next .0 + 1) a k) ∙ from-next character;
+    as-defined = sym (from-no-character t (next .0 + 1) a k) ∙ from-next CharacterPlace;
     reaches = tt;
     lies = λ _. tt;
   }

@@ -8,14 +8,18 @@ use numbers::magnitude;
 use rules::Argument;
 use rules::ArgumentPosition;
 use rules::Parameter;
+use rules::Place;
 use rules::Setting;
+use rules::scalars::wide;
+use rules::scalars::widened;
 ghost use mathlib.Core.Path.{_≡_};
 ghost use mathlib.Core.Bool.{true};
-ghost use Prim.Native.Nat.{_-_, _≤_, _<_};
-ghost use Rattle.rules.specs.Directive.{number, character};
+ghost use mathlib.Core.List.{List};
+ghost use Prim.Native.Nat.{ℕ, _-_, _≤_};
 ghost use Rattle.rules.specs.Working.{inRange, fromCount};
-ghost use Rattle.working.specs.Settling.{InHand, placeOf, workedAs, Works, isWritten, WrittenAs};
 ghost use Rattle.rules.specs.declared.Parameter.the-variants.{Next};
+ghost use Rattle.rules.specs.declared.Place.the-variants.{Empty, Number as NumberPlace, Character as CharacterPlace};
+ghost use Rattle.working.specs.Settling.{InHand, Supplied, workedAs, Works, isWritten, WrittenAs};
 
 // A parameter wants an argument, and none is left.
 const NONE_LEFT: u32 = 6;
@@ -26,20 +30,6 @@ const WRONG_KIND: u32 = 7;
 // The value of a parameter lies outside its place's range.
 const OUT_OF_RANGE: u32 = 8;
 
-// The largest number that a parameter can be.
-const MOST_NUMBER: usize = 4096;
-
-// The largest number of a character.
-const MOST_CHARACTER: usize = 127;
-
-// A place for a parameter: for a number from 0 to 4096, one from 1 on, the number of a character, or a character.
-pub enum Slot {
-    AnyNumber,
-    CountingNumber,
-    CharacterNumber,
-    Character,
-}
-
 // A parameter that is worked out, with the next argument after it; or the code that refuses it.
 pub enum WorkedOut {
     Is {
@@ -47,20 +37,6 @@ pub enum WorkedOut {
         next: ArgumentPosition,
     },
     Wrong(u32),
-}
-
-// A byte as a number, with its range.
-fn wide(byte: u8) -> usize
-    ensures { λ r. ⌜ (r ≡ byte) × (r < 256) ⌝ }
-{
-    byte as usize
-}
-
-pub fn widened(n: u16) -> usize
-    ensures is { λ r. ⌜ r ≡ n ⌝ }
-    ensures within { λ r. ⌜ r ≤ 65535 ⌝ }
-{
-    n as usize
 }
 
 // A number for a place from least to most.
@@ -89,7 +65,7 @@ fn number_argument(
 ) -> WorkedOut
     requires { ⌜ InHand (now table) hand ⌝ }
     requires { ⌜ next .0 ≤ hand .count ⌝ }
-    ensures { λ r. ⌜ Works (now (table .entry)) hand (number least most) Next (next .0) r ⌝ }
+    ensures { λ r. ⌜ Works (now (table .entry)) hand (NumberPlace least most) Next (next .0) r ⌝ }
 {
     if hand.count <= next.0 {
         return WorkedOut::Wrong(NONE_LEFT);
@@ -110,7 +86,7 @@ fn number_argument(
 fn character_argument(table: &[u8], hand: Hand, next: ArgumentPosition) -> WorkedOut
     requires { ⌜ InHand (now table) hand ⌝ }
     requires { ⌜ next .0 ≤ hand .count ⌝ }
-    ensures { λ r. ⌜ Works (now (table .entry)) hand character Next (next .0) r ⌝ }
+    ensures { λ r. ⌜ Works (now (table .entry)) hand CharacterPlace Next (next .0) r ⌝ }
 {
     if hand.count <= next.0 {
         return WorkedOut::Wrong(NONE_LEFT);
@@ -125,31 +101,42 @@ fn character_argument(table: &[u8], hand: Hand, next: ArgumentPosition) -> Worke
     }
 }
 
+// `v` where there is no place.
+fn no_argument(hand: Hand, next: ArgumentPosition) -> WorkedOut
+    ensures { λ r. ⌜ ((t : List ℕ) → Works t hand Empty Next (next .0) r) ⌝ }
+{
+    if hand.count <= next.0 {
+        return WorkedOut::Wrong(NONE_LEFT);
+    }
+    WorkedOut::Wrong(WRONG_KIND)
+}
+
 // `v` in a place.
-fn work_next(table: &[u8], hand: Hand, slot: Slot, next: ArgumentPosition) -> WorkedOut
+fn work_next(table: &[u8], hand: Hand, place: Place, next: ArgumentPosition) -> WorkedOut
     requires { ⌜ InHand (now table) hand ⌝ }
     requires { ⌜ next .0 ≤ hand .count ⌝ }
-    ensures { λ r. ⌜ Works (now (table .entry)) hand (placeOf slot) Next (next .0) r ⌝ }
+    ensures { λ r. ⌜ Works (now (table .entry)) hand place Next (next .0) r ⌝ }
 {
-    match slot {
-        Slot::AnyNumber => number_argument(table, hand, 0, MOST_NUMBER, next),
-        Slot::CountingNumber => number_argument(table, hand, 1, MOST_NUMBER, next),
-        Slot::CharacterNumber => number_argument(table, hand, 0, MOST_CHARACTER, next),
-        Slot::Character => character_argument(table, hand, next),
+    match place {
+        Place::Empty => no_argument(hand, next),
+        Place::Number { least, most } => {
+            let low = widened(least);
+            let high = widened(most);
+            number_argument(table, hand, low, high, next)
+        }
+        Place::Character => character_argument(table, hand, next),
     }
 }
 
 // `#` in a place.
-fn work_remaining(hand: Hand, slot: Slot, next: ArgumentPosition) -> WorkedOut
+fn work_remaining(hand: Hand, place: Place, next: ArgumentPosition) -> WorkedOut
     requires { ⌜ next .0 ≤ hand .count ⌝ }
-    ensures { λ r. ⌜ workedAs r ≡ fromCount (placeOf slot) (hand .count - next .0) (next .0) ⌝ }
+    ensures { λ r. ⌜ workedAs r ≡ fromCount place (hand .count - next .0) (next .0) ⌝ }
 {
     let n = remaining(hand, next);
-    match slot {
-        Slot::AnyNumber => in_range(n, 0, MOST_NUMBER, next),
-        Slot::CountingNumber => in_range(n, 1, MOST_NUMBER, next),
-        Slot::CharacterNumber => in_range(n, 0, MOST_CHARACTER, next),
-        Slot::Character => WorkedOut::Wrong(OUT_OF_RANGE),
+    match place {
+        Place::Number { least, most } => in_range(n, widened(least), widened(most), next),
+        _ => WorkedOut::Wrong(OUT_OF_RANGE),
     }
 }
 
@@ -180,21 +167,21 @@ pub fn written(x: Parameter) -> Setting
     }
 }
 
-// A parameter in a place.
+// A parameter in a place. Only `v` reads the table.
 pub fn work_out(
     table: &[u8],
     hand: Hand,
-    slot: Slot,
+    place: Place,
     x: Parameter,
     next: ArgumentPosition,
 ) -> WorkedOut
-    requires { ⌜ InHand (now table) hand ⌝ }
+    requires { ⌜ Supplied (now table) hand x ⌝ }
     requires { ⌜ next .0 ≤ hand .count ⌝ }
-    ensures { λ r. ⌜ Works (now (table .entry)) hand (placeOf slot) x (next .0) r ⌝ }
+    ensures { λ r. ⌜ Works (now (table .entry)) hand place x (next .0) r ⌝ }
 {
     match x {
-        Parameter::Next => work_next(table, hand, slot, next),
-        Parameter::Remaining => work_remaining(hand, slot, next),
+        Parameter::Next => work_next(table, hand, place, next),
+        Parameter::Remaining => work_remaining(hand, place, next),
         _ => WorkedOut::Is {
             setting: written(x),
             next,

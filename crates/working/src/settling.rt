@@ -1,25 +1,20 @@
-// The parameters of a directive, worked out left to right by the places of its code.
+// The parameters of a directive, worked out left to right in its places.
 use crate::arguments::Hand;
-use crate::places::Slot;
 use crate::places::WorkedOut;
 use crate::places::is_written;
 use crate::places::work_out;
 use crate::places::written;
+use fitting::rows::row_in;
 use rules::ArgumentPosition;
-use rules::Bracket;
-use rules::Code;
 use rules::Directive;
-use rules::Form;
 use rules::Parameters;
+use rules::Places;
 use rules::Setting;
 use rules::Settings;
 ghost use mathlib.Core.Path.{_≡_};
-ghost use mathlib.Core.Bool.{true, cond};
-ghost use mathlib.Core.List.{[], _∷_};
+ghost use mathlib.Core.Bool.{true};
 ghost use Prim.Native.Nat.{_≤_};
-ghost use Rattle.rules.specs.Directive.{either, character, anyNumber, countingNumber, formPlaces, placesOf};
-ghost use Rattle.working.specs.Settling.{InHand, placeOf, allWritten, noneSettled, Settles, SettlesLast, SettlesWritten, SettlesDirective};
-ghost use Rattle.rules.specs.declared.Code.the-variants.{Opens};
+ghost use Rattle.working.specs.Settling.{InHand, AllSupplied, allWritten, refusedBy, Settles, SettlesDirective, SettlesLast, SettlesWritten};
 
 // The parameters of a directive, worked out, with the next argument after them; or the code that refuses them.
 pub enum SettledOut {
@@ -30,128 +25,6 @@ pub enum SettledOut {
     Wrong(u32),
 }
 
-// No place.
-fn settle_none(next: ArgumentPosition) -> SettledOut
-    ensures { λ r. ⌜ r ≡ noneSettled next ⌝ }
-{
-    SettledOut::Is {
-        settings: Settings {
-            first: Setting::Absent,
-            second: Setting::Absent,
-            third: Setting::Absent,
-            fourth: Setting::Absent,
-        },
-        next,
-    }
-}
-
-// One place.
-fn settle_one(
-    table: &[u8],
-    hand: Hand,
-    slot: Slot,
-    ps: Parameters,
-    next: ArgumentPosition,
-) -> SettledOut
-    requires { ⌜ InHand (now table) hand ⌝ }
-    requires { ⌜ next .0 ≤ hand .count ⌝ }
-    ensures { λ r. ⌜ Settles (now (table .entry)) hand (placeOf slot ∷ []) ps (next .0) r ⌝ }
-{
-    let p1 = ps.first;
-    let a = work_out(table, hand, slot, p1, next);
-    match a {
-        WorkedOut::Wrong(code) => SettledOut::Wrong(code),
-        WorkedOut::Is {
-            setting: first,
-            next: n1,
-        } => SettledOut::Is {
-            settings: Settings {
-                first,
-                second: Setting::Absent,
-                third: Setting::Absent,
-                fourth: Setting::Absent,
-            },
-            next: n1,
-        },
-    }
-}
-
-// The last two of four places, where the first two are worked out to first and second.
-fn settle_last(
-    table: &[u8],
-    hand: Hand,
-    y3: Slot,
-    y4: Slot,
-    ps: Parameters,
-    first: Setting,
-    second: Setting,
-    next: ArgumentPosition,
-) -> SettledOut
-    requires { ⌜ InHand (now table) hand ⌝ }
-    requires { ⌜ next .0 ≤ hand .count ⌝ }
-    ensures { λ r. ⌜ SettlesLast (now (table .entry)) hand (placeOf y3) (placeOf y4) ps first second (next .0) r ⌝ }
-{
-    let p3 = ps.third;
-    let p4 = ps.fourth;
-    let a = work_out(table, hand, y3, p3, next);
-    match a {
-        WorkedOut::Wrong(code) => SettledOut::Wrong(code),
-        WorkedOut::Is {
-            setting: third,
-            next: n3,
-        } => {
-            let b = work_out(table, hand, y4, p4, n3);
-            match b {
-                WorkedOut::Wrong(code) => SettledOut::Wrong(code),
-                WorkedOut::Is { setting, next } => SettledOut::Is {
-                    settings: Settings {
-                        first,
-                        second,
-                        third,
-                        fourth: setting,
-                    },
-                    next,
-                },
-            }
-        }
-    }
-}
-
-// Four places, the first for any number.
-fn settle_four(
-    table: &[u8],
-    hand: Hand,
-    y2: Slot,
-    y3: Slot,
-    y4: Slot,
-    ps: Parameters,
-    next: ArgumentPosition,
-) -> SettledOut
-    requires { ⌜ InHand (now table) hand ⌝ }
-    requires { ⌜ next .0 ≤ hand .count ⌝ }
-    ensures { λ r. ⌜ Settles (now (table .entry)) hand (anyNumber ∷ placeOf y2 ∷ placeOf y3 ∷ placeOf y4 ∷ []) ps (next .0) r ⌝ }
-{
-    let p1 = ps.first;
-    let p2 = ps.second;
-    let a = work_out(table, hand, Slot::AnyNumber, p1, next);
-    match a {
-        WorkedOut::Wrong(code) => SettledOut::Wrong(code),
-        WorkedOut::Is {
-            setting: first,
-            next: n1,
-        } => {
-            let b = work_out(table, hand, y2, p2, n1);
-            match b {
-                WorkedOut::Wrong(code) => SettledOut::Wrong(code),
-                WorkedOut::Is {
-                    setting: second,
-                    next: n2,
-                } => settle_last(table, hand, y3, y4, ps, first, second, n2),
-            }
-        }
-    }
-}
-
 // Whether all parameters are written out, as they nearly always are.
 fn all_written(ps: Parameters) -> bool
     ensures { λ r. ⌜ r ≡ allWritten ps ⌝ }
@@ -160,17 +33,20 @@ fn all_written(ps: Parameters) -> bool
     let p2 = ps.second;
     let p3 = ps.third;
     let p4 = ps.fourth;
+    let p5 = ps.fifth;
     if is_written(p1) {
         if is_written(p2) {
             if is_written(p3) {
-                return is_written(p4);
+                if is_written(p4) {
+                    return is_written(p5);
+                }
             }
         }
     }
     false
 }
 
-// Four places, whatever they are, for parameters that are all written out.
+// Parameters that are all written out, whatever their places.
 fn settle_written(ps: Parameters, next: ArgumentPosition) -> SettledOut
     requires { ⌜ allWritten ps ≡ true ⌝ }
     ensures { λ r. ⌜ SettlesWritten ps next r ⌝ }
@@ -179,85 +55,142 @@ fn settle_written(ps: Parameters, next: ArgumentPosition) -> SettledOut
     let p2 = ps.second;
     let p3 = ps.third;
     let p4 = ps.fourth;
+    let p5 = ps.fifth;
     SettledOut::Is {
         settings: Settings {
             first: written(p1),
             second: written(p2),
             third: written(p3),
             fourth: written(p4),
+            fifth: written(p5),
         },
         next,
     }
 }
 
-// The places of ~a and ~s: minwidth, padinc, minpad, padchar.
-fn settle_object(table: &[u8], hand: Hand, ps: Parameters, next: ArgumentPosition) -> SettledOut
-    requires { ⌜ InHand (now table) hand ⌝ }
-    requires { ⌜ next .0 ≤ hand .count ⌝ }
-    ensures { λ r. ⌜ Settles (now (table .entry)) hand (anyNumber ∷ countingNumber ∷ anyNumber ∷ character ∷ []) ps (next .0) r ⌝ }
+// The code that refuses a parameter; 0 where it is not refused.
+fn refusal(a: WorkedOut) -> SettledOut
+    ensures { λ r. ⌜ r ≡ refusedBy a ⌝ }
 {
-    if all_written(ps) {
-        return settle_written(ps, next);
+    match a {
+        WorkedOut::Wrong(code) => SettledOut::Wrong(code),
+        WorkedOut::Is {
+            setting: _,
+            next: _,
+        } => SettledOut::Wrong(0),
     }
-    let padinc = Slot::CountingNumber;
-    let minpad = Slot::AnyNumber;
-    let padchar = Slot::Character;
-    settle_four(table, hand, padinc, minpad, padchar, ps, next)
 }
 
-// The places of ~d ~x ~o ~b: width, pad, comma, commawidth.
-fn settle_numeral(table: &[u8], hand: Hand, ps: Parameters, next: ArgumentPosition) -> SettledOut
-    requires { ⌜ InHand (now table) hand ⌝ }
-    requires { ⌜ next .0 ≤ hand .count ⌝ }
-    ensures { λ r. ⌜ Settles (now (table .entry)) hand (anyNumber ∷ character ∷ character ∷ countingNumber ∷ []) ps (next .0) r ⌝ }
-{
-    if all_written(ps) {
-        return settle_written(ps, next);
-    }
-    let pad = Slot::Character;
-    let comma = Slot::Character;
-    let commawidth = Slot::CountingNumber;
-    settle_four(table, hand, pad, comma, commawidth, ps, next)
-}
-
-// The places of a directive that writes.
-fn settle_form(
+// The last three of five, where the first two are worked out to first and second.
+fn settle_last(
     table: &[u8],
     hand: Hand,
-    form: Form,
+    places: Places,
+    ps: Parameters,
+    first: Setting,
+    second: Setting,
+    next: ArgumentPosition,
+) -> SettledOut
+    requires { ⌜ AllSupplied (now table) hand ps ⌝ }
+    requires { ⌜ next .0 ≤ hand .count ⌝ }
+    ensures { λ r. ⌜ SettlesLast (now (table .entry)) hand places ps first second (next .0) r ⌝ }
+{
+    let y3 = places.third;
+    let y4 = places.fourth;
+    let y5 = places.fifth;
+    let p3 = ps.third;
+    let p4 = ps.fourth;
+    let p5 = ps.fifth;
+    let a = work_out(table, hand, y3, p3, next);
+    let WorkedOut::Is {
+        setting: third,
+        next: n3,
+    } = a
+    else {
+        return refusal(a);
+    };
+    let b = work_out(table, hand, y4, p4, n3);
+    let WorkedOut::Is {
+        setting: fourth,
+        next: n4,
+    } = b
+    else {
+        return refusal(b);
+    };
+    let c = work_out(table, hand, y5, p5, n4);
+    let WorkedOut::Is {
+        setting: fifth,
+        next: n5,
+    } = c
+    else {
+        return refusal(c);
+    };
+    SettledOut::Is {
+        settings: Settings {
+            first,
+            second,
+            third,
+            fourth,
+            fifth,
+        },
+        next: n5,
+    }
+}
+
+// Parameters in places, one after the other.
+fn settle_each(
+    table: &[u8],
+    hand: Hand,
+    places: Places,
     ps: Parameters,
     next: ArgumentPosition,
 ) -> SettledOut
-    requires { ⌜ InHand (now table) hand ⌝ }
+    requires { ⌜ AllSupplied (now table) hand ps ⌝ }
     requires { ⌜ next .0 ≤ hand .count ⌝ }
-    ensures { λ r. ⌜ Settles (now (table .entry)) hand (formPlaces form) ps (next .0) r ⌝ }
+    ensures { λ r. ⌜ Settles (now (table .entry)) hand places ps (next .0) r ⌝ }
 {
-    match form {
-        Form::Object(_) => settle_object(table, hand, ps, next),
-        Form::Numeral(_) => settle_numeral(table, hand, ps, next),
-        Form::Glyph => settle_one(table, hand, Slot::CharacterNumber, ps, next),
-        Form::Plural => settle_none(next),
-        Form::Repeat(_) => settle_one(table, hand, Slot::AnyNumber, ps, next),
-        Form::Fold => settle_none(next),
-    }
+    let y1 = places.first;
+    let y2 = places.second;
+    let p1 = ps.first;
+    let p2 = ps.second;
+    let a = work_out(table, hand, y1, p1, next);
+    let WorkedOut::Is {
+        setting: first,
+        next: n1,
+    } = a
+    else {
+        return refusal(a);
+    };
+    let b = work_out(table, hand, y2, p2, n1);
+    let WorkedOut::Is {
+        setting: second,
+        next: n2,
+    } = b
+    else {
+        return refusal(b);
+    };
+    settle_last(table, hand, places, ps, first, second, n2)
 }
 
-// Whether an opener has a place for a number: ~[ only without a modifier.
-fn has_number(bracket: Bracket, colon: bool, at: bool) -> bool
-    ensures { λ r. ⌜ placesOf (Opens bracket) (either colon at) ≡ cond r (anyNumber ∷ []) [] ⌝ }
+// Parameters in places. Only `v` reads the table: where there is none, nothing is asked of it.
+pub fn settle(
+    table: &[u8],
+    hand: Hand,
+    places: Places,
+    ps: Parameters,
+    next: ArgumentPosition,
+) -> SettledOut
+    requires { ⌜ AllSupplied (now table) hand ps ⌝ }
+    requires { ⌜ next .0 ≤ hand .count ⌝ }
+    ensures { λ r. ⌜ Settles (now (table .entry)) hand places ps (next .0) r ⌝ }
 {
-    match bracket {
-        Bracket::Conditional => {
-            if colon {
-                return false;
-            }
-            !at
-        }
-        Bracket::Iteration => true,
+    if all_written(ps) {
+        return settle_written(ps, next);
     }
+    settle_each(table, hand, places, ps, next)
 }
 
-// The parameters of a directive, worked out left to right by the places of its code.
+// The parameters of a directive, in its own places.
 pub fn settle_directive(
     table: &[u8],
     hand: Hand,
@@ -268,20 +201,8 @@ pub fn settle_directive(
     requires { ⌜ next .0 ≤ hand .count ⌝ }
     ensures { λ r. ⌜ SettlesDirective (now (table .entry)) hand d (next .0) r ⌝ }
 {
-    let code = d.code;
+    let row = row_in(d);
+    let places = row.places;
     let ps = d.parameters;
-    match code {
-        Code::Writes(form) => settle_form(table, hand, form, ps, next),
-        Code::Jump => settle_one(table, hand, Slot::AnyNumber, ps, next),
-        Code::Escape => settle_none(next),
-        Code::Opens(bracket) => {
-            if has_number(bracket, d.colon, d.at) {
-                return settle_one(table, hand, Slot::AnyNumber, ps, next);
-            }
-            settle_none(next)
-        }
-        Code::Separator => settle_none(next),
-        Code::Closes(_) => settle_none(next),
-        Code::Unknown => settle_none(next),
-    }
+    settle(table, hand, places, ps, next)
 }

@@ -1,7 +1,7 @@
 -- What is shown is the argument that is taken, if its kind is right. Assumes nothing.
 use mathlib.Core.Path.{_∙_, ap, sym}
 use borrow.Author.Needs.{needs}
-use Rattle.rules.specs.Piece.{accepts}
+use Rattle.rules.specs.Rows.{accepts}
 use Rattle.acting.proofs.Plans.{plans-none, plans-shown, plans-other}
 use Rattle.acting.proofs.planning.plan_settled.Statement.{statement}
 use Rattle.acting.proofs.planning.plan_settled.Tie as tie

@@ -19,18 +19,18 @@ number-or-requires c κs = search needs
 byte-or-requires : tie.Need-byte-or-requires
 byte-or-requires c κs = search needs
 
-lacking-requires : tie.Need-lacking-requires
-lacking-requires c κs = search needs
+less-requires : tie.Need-less-requires
+less-requires c κs = search needs
 
 padded-piece-requires : tie.Need-padded-piece-requires
 padded-piece-requires c κs =
     let start = c .before .before .before .before in
     omega (
       arith,
-      (c .lacking .ensures),
+      (c .less .ensures),
       (c .before .before .number-or .ensures),
       in-range
-          (start .args .settings .first) 0 (start .pre .places .0) (omega arith) (omega arith),
+          (start .args .settings .first) 0 (start .pre .places .first) (omega arith) (omega arith),
     )
 
 returns : tie.Need-returns
@@ -39,7 +39,7 @@ returns c =
     λ t.
     let m = makes-same (ap (unpadded (start .args .base) (start .args .colon) (start .args .at) (start .args .settings))
     (toZ-ofZ w64 (start .args .x) (start .fits .x))) ((c .before .before .before .before .numeral-body .ensures) t) in
-    gives-same (left-is _ (c .before .lacking .ensures) (c .before .before .before .number-or .ensures)
+    gives-same (left-is _ (c .before .less .ensures) (c .before .before .before .number-or .ensures)
     (c .before .before .byte-or .ensures) (makes-size m)) ((c .padded-piece .ensures) t _ m)
 
 pub make-numeral-spec : {M : Type 1} → statement M
@@ -49,6 +49,6 @@ make-numeral-spec =
     numeral-body-requires
     number-or-requires
     byte-or-requires
-    lacking-requires
+    less-requires
     padded-piece-requires
     returns)

@@ -26,9 +26,9 @@ byte-or-requires c κs = search needs
 padding-requires : tie.Need-padding-requires
 padding-requires c κs =
     let start = c .before .before .before .before .before .before in
-    let first = in-range (start .args .settings .first) 0 (start .pre .0 .places .0) (omega arith) (omega arith) in
-    let second = in-range (start .args .settings .second) 1 (start .pre .0 .places .1 .0) (omega arith) (omega arith) in
-    let third = in-range (start .args .settings .third) 0 (start .pre .0 .places .1 .1 .0) (omega arith) (omega arith)
+    let first = in-range (start .args .settings .first) 0 (start .pre .0 .places .first) (omega arith) (omega arith) in
+    let second = in-range (start .args .settings .second) 1 (start .pre .0 .places .second) (omega arith) (omega arith) in
+    let third = in-range (start .args .settings .third) 0 (start .pre .0 .places .third) (omega arith) (omega arith)
     in (
       (
         omega (arith, (c .before .before .before .number-or .ensures), first),

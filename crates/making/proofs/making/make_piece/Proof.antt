@@ -65,7 +65,7 @@ number-or-requires c κs = search needs
 run-body-requires : tie.Need-run-body-requires
 run-body-requires c κs =
     let start = c .before .before .before .before .before in
-    let first = (rw (c .before .before .form3 .given .1) at (start .pre .0)) .places .0 in
+    let first = (rw (c .before .before .form3 .given .1) at (start .pre .0)) .places .first in
     omega (arith, (c .number-or .ensures), in-range (start .args .settings .first) 1 first (omega arith) (omega arith))
 
 padded-piece-requires-3 : tie.Need-padded-piece-requires-3

@@ -23,7 +23,7 @@ figure-body-requires c κs =
       omega (
         arith,
         (c .number-or .ensures),
-        (in-range (start .args .settings .fourth) 3 (start .pre .places .1 .1 .1 .0) (omega arith) (omega arith)),
+        (in-range (start .args .settings .fourth) 3 (start .pre .places .fourth) (omega arith) (omega arith)),
       ),
     )
 
@@ -33,7 +33,7 @@ returns c =
     let base = (start .args .base) in
     let s = (start .args .settings) in
     let x = (start .args .x) in
-    let fourth = in-range (s .fourth) 3 (start .pre .places .1 .1 .1 .0) (omega arith) (omega arith) in
+    let fourth = in-range (s .fourth) 3 (start .pre .places .fourth) (omega arith) (omega arith) in
     λ t. makes-same
     (ap (numberOf base (start .args .at) (c .before .number-or .result) (c .before .before .byte-or .result))
     (toZ-ofZ w64 x (start .fits .x))

@@ -2,6 +2,7 @@
 use mathlib.Core.Path.{sym, subst, _∙_}
 use mathlib.Core.Bool.{true, false}
 use borrow.Author.Tests.{not-true, not-false}
+use Rattle.rules.proofs.Rowed.{written-suits}
 use Rattle.working.specs.Settling.{SettlesDirective}
 use Rattle.nesting.proofs.OpenLaws.{ready-hand, ready-next, passes-fit, open-ill, open-unsettled, open-settled}
 use borrow.Author.Needs.{needs}
@@ -41,13 +42,13 @@ is-iteration-requires : tie.Need-is-iteration-requires
 is-iteration-requires c κs = search needs
 
 open-iteration-requires : tie.Need-open-iteration-requires
-open-iteration-requires c κs = let a = c .before .before .before .before .before .before .before .before .before .before .before .before .before .args in let g = (subst (SettlesDirective (a .table .now) (a .here .hand) (a .d) (a .here .next .0)) (c .before .before .before .settled2 .given .1) (c .before .before .before .before .before .settle-directive .ensures)) in (c .before .before .before .before .before .before .before .before .before .before .before .before .before .pre .1, (g .reaches, passes-fit (a .d) _ (sym (c .before .is-iteration .ensures) ∙ c .if2 .taken) (g .lies (sym (c .before .before .before .before .before .before .before .is-well-written .ensures) ∙ not-false _ (c .before .before .before .before .before .before .if1 .left)))))
+open-iteration-requires c κs = let a = c .before .before .before .before .before .before .before .before .before .before .before .before .before .args in let g = (subst (SettlesDirective (a .table .now) (a .here .hand) (a .d) (a .here .next .0)) (c .before .before .before .settled2 .given .1) (c .before .before .before .before .before .settle-directive .ensures)) in (c .before .before .before .before .before .before .before .before .before .before .before .before .before .pre .1, (g .in-places .reaches, passes-fit (a .d) _ (sym (c .before .is-iteration .ensures) ∙ c .if2 .taken) (g .in-places .lies (written-suits (a .d) (sym (c .before .before .before .before .before .before .before .is-well-written .ensures) ∙ not-false _ (c .before .before .before .before .before .before .if1 .left))))))
 
 returns-2 : tie.Need-returns-2
 returns-2 c = let a = c .before .before .before .before .before .before .before .before .before .before .before .before .before .before .args in open-settled (a .text .now) (a .table .now) (a .here) (a .nest) (a .d) (c .before .before .before .before .before .before .before .before .before .before .before .before .before .before .pre .1) true (sym (c .before .before .is-iteration .ensures) ∙ c .before .if2 .taken) (sym (c .before .before .before .before .before .before .before .before .is-well-written .ensures) ∙ not-false _ (c .before .before .before .before .before .before .before .if1 .left)) (subst (SettlesDirective (a .table .now) (a .here .hand) (a .d) (a .here .next .0)) (c .before .before .before .before .settled2 .given .1) (c .before .before .before .before .before .before .settle-directive .ensures)) (c .open-iteration .ensures (a .here .next .0))
 
 open-conditional-requires : tie.Need-open-conditional-requires
-open-conditional-requires c κs = let a = c .before .before .before .before .before .before .before .before .before .before .before .before .before .args in let g = (subst (SettlesDirective (a .table .now) (a .here .hand) (a .d) (a .here .next .0)) (c .before .before .before .settled2 .given .1) (c .before .before .before .before .before .settle-directive .ensures)) in (c .before .before .before .before .before .before .before .before .before .before .before .before .before .pre .0, (c .before .before .before .before .before .before .before .before .before .before .before .before .before .pre .1, g .reaches))
+open-conditional-requires c κs = let a = c .before .before .before .before .before .before .before .before .before .before .before .before .before .args in let g = (subst (SettlesDirective (a .table .now) (a .here .hand) (a .d) (a .here .next .0)) (c .before .before .before .settled2 .given .1) (c .before .before .before .before .before .settle-directive .ensures)) in (c .before .before .before .before .before .before .before .before .before .before .before .before .before .pre .0, (c .before .before .before .before .before .before .before .before .before .before .before .before .before .pre .1, g .in-places .reaches))
 
 returns-3 : tie.Need-returns-3
 returns-3 c = let a = c .before .before .before .before .before .before .before .before .before .before .before .before .args in open-unsettled (a .text .now) (a .table .now) (a .here) (a .nest) (a .d) (c .before .before .before .before .before .before .before .before .before .before .before .before .pre .1) (sym (c .before .before .before .before .before .before .is-well-written .ensures) ∙ not-false _ (c .before .before .before .before .before .if1 .left)) (subst (SettlesDirective (a .table .now) (a .here .hand) (a .d) (a .here .next .0)) (c .before .before .settled .given .1) (c .before .before .before .before .settle-directive .ensures)) (c .over2 .ensures)

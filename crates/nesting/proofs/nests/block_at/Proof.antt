@@ -6,7 +6,7 @@ use Rattle.nesting.proofs.nests.block_at.Tie as tie
 use Rattle.nesting.proofs.nests.block_at.Reads as reads
 use Rattle.nesting.proofs.nests.block_at.Lts as lts
 use Rattle.nesting.proofs.nests.passes_of.Reads as passes-of-reads
-use Rattle.working.proofs.widened.Reads as widened-reads
+use Rattle.rules.proofs.scalars.widened.Reads as widened-reads
 
 mul-widened : tie.Need-mul-widened
 mul-widened c = search needs

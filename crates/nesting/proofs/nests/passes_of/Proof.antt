@@ -8,7 +8,7 @@ use Rattle.nesting.proofs.nests.passes_of.Statement.{statement}
 use Rattle.nesting.proofs.nests.passes_of.Tie as tie
 use Rattle.nesting.proofs.nests.passes_of.Reads as reads
 use Rattle.nesting.proofs.nests.passes_of.Lts as lts
-use Rattle.working.proofs.widened.Reads as widened-reads
+use Rattle.rules.proofs.scalars.widened.Reads as widened-reads
 
 returns : tie.Need-returns
 returns c = (ap passesOf (sym (c .if1 .taken)), tt)

@@ -15,14 +15,21 @@ placed-requires-3 c κs = search needs
 placed-requires-4 : tie.Need-placed-requires-4
 placed-requires-4 c κs = search needs
 
-add-t12 : tie.Need-add-t12
-add-t12 c = search needs
+placed-requires-5 : tie.Need-placed-requires-5
+placed-requires-5 c κs = search needs
+
+add-t14 : tie.Need-add-t14
+add-t14 c = search needs
 
 returns : tie.Need-returns
 returns c =
-    let by-placed = c .before .before .before in
-    let by-placed2 = c .before .before in
-    rw (by-placed .placed .ensures, by-placed2 .placed2 .ensures, c .before .placed3 .ensures, c .placed4 .ensures)
+    rw (
+      c .before .before .before .before .placed .ensures,
+      c .before .before .before .placed2 .ensures,
+      c .before .before .placed3 .ensures,
+      c .before .placed4 .ensures,
+      c .placed5 .ensures,
+    )
 
 pub with-parameter-spec : {M : Type 1} → statement M
 with-parameter-spec =
@@ -32,5 +39,6 @@ with-parameter-spec =
     placed-requires-2
     placed-requires-3
     placed-requires-4
-    add-t12
+    placed-requires-5
+    add-t14
     returns)

@@ -1,94 +1,52 @@
--- `turn_form` meets its contract, form by form. Assumes nothing.
+use Rattle.turns.proofs.TurnBy.{settled-well, turn-worked, turn-refused}
 use borrow.Author.Needs.{needs}
-use Rattle.turns.proofs.TurnBy.{of-form}
 use Rattle.turns.proofs.turns.turn_form.Statement.{statement}
 use Rattle.turns.proofs.turns.turn_form.Tie as tie
+use Rattle.turns.proofs.turns.turn_form.Reads as reads
+use Rattle.turns.proofs.turns.turn_form.Lts as lts
+use Rattle.fitting.proofs.rows.form_row.Reads as form-row-reads
+use Rattle.turns.proofs.turns.settle_fixed.Reads as settle-fixed-reads
+use Rattle.turns.proofs.turns.turn_settled.Reads as turn-settled-reads
 
-enum-known-form : tie.Need-enum-known-form
-enum-known-form c = search needs
+-- src/turns.rt:179:9
+form-row-requires : tie.Need-form-row-requires
+form-row-requires c κs = search needs
 
-turn-object-requires : tie.Need-turn-object-requires
-turn-object-requires c κs =
-    let pre = c .before .before .before .before .pre in
-    (of-form (c .before .form .given .1) (pre .0), ((pre .1 .0), (pre .1 .1)))
+-- src/turns.rt:182:9
+settle-fixed-requires : tie.Need-settle-fixed-requires
+settle-fixed-requires c κs = search needs
 
-enum-known-form-2 : tie.Need-enum-known-form-2
-enum-known-form-2 c = search needs
+-- src/turns.rt:184:26
+enum-known-settled : tie.Need-enum-known-settled
+enum-known-settled c = search needs
 
-turn-numeral-requires : tie.Need-turn-numeral-requires
-turn-numeral-requires c κs =
-    let pre = c .before .before .before .before .pre in
-    (of-form (c .before .form2 .given .1) (pre .0), ((pre .1 .1), (pre .1 .0 .many)))
+-- src/turns.rt:184:49
+turn-settled-requires : tie.Need-turn-settled-requires
+turn-settled-requires c κs =
+    let a = c .before .before .before .before .before .before .before .before .args in (settled-well (a .kinds .now) (a .longest) (a .form) (a .d) (a .next) (c .before .before .before .before .before .before .before .before .pre .0) (rw (c .before .before .before .before .before .before .form-row .ensures) at (c .before .before .before .settle-fixed .ensures)) (c .before .settled .given .1), c .before .before .before .before .before .before .before .before .pre .1)
 
-enum-told : tie.Need-enum-told
-enum-told c = search needs
+-- src/turns.rt:192:27
+enum-known-settled-2 : tie.Need-enum-known-settled-2
+enum-known-settled-2 c = search needs
 
-turn-glyph-requires : tie.Need-turn-glyph-requires
-turn-glyph-requires c κs =
-    let pre = c .before .before .before .pre in
-    (of-form (c .enum-told .given .1) (pre .0), (pre .1 .1))
-
-enum-told-2 : tie.Need-enum-told-2
-enum-told-2 c = search needs
-
-turn-plural-requires : tie.Need-turn-plural-requires
-turn-plural-requires c κs =
-    let pre = c .before .before .before .pre in
-    (of-form (c .enum-told2 .given .1) (pre .0), (pre .1 .1))
-
-enum-told-3 : tie.Need-enum-told-3
-enum-told-3 c = search needs
-
-turn-repeat-requires : tie.Need-turn-repeat-requires
-turn-repeat-requires c κs =
-    let pre = c .before .before .before .pre in
-    ((_, of-form (c .enum-told3 .given .1) (pre .0)), ((pre .1 .1), (pre .1 .0 .many)))
-
-enum-told-4 : tie.Need-enum-told-4
-enum-told-4 c = search needs
-
-turn-fold-requires : tie.Need-turn-fold-requires
-turn-fold-requires c κs = of-form (c .enum-told4 .given .1) (c .before .before .before .pre .0)
-
+-- src/turns.rt:173:1
 returns : tie.Need-returns
-returns c = search needs
+returns c =
+    let a = c .before .before .before .before .before .before .before .before .before .args in turn-worked (a .kinds .now) (a .longest) (a .form) (a .d) (a .next) (c .before .before .before .before .before .before .before .before .before .pre .0) (rw (c .before .before .before .before .before .before .before .form-row .ensures) at (c .before .before .before .before .settle-fixed .ensures)) (c .before .before .settled .given .1) (c .turn-settled .ensures)
 
+-- src/turns.rt:173:1
 returns-2 : tie.Need-returns-2
-returns-2 c = (c .turn-numeral .ensures) (c .before .before .before .before .before .args .longest)
-
-returns-3 : tie.Need-returns-3
-returns-3 c = (c .turn-glyph .ensures) (c .before .before .before .before .args .longest)
-
-returns-4 : tie.Need-returns-4
-returns-4 c = (c .turn-plural .ensures) (c .before .before .before .before .args .longest)
-
-returns-5 : tie.Need-returns-5
-returns-5 c = (c .turn-repeat .ensures) (c .before .before .before .before .args .longest)
-
-returns-6 : tie.Need-returns-6
-returns-6 c =
-    let args = c .before .before .before .before .args in
-    (c .turn-fold .ensures) (args .kinds .now) (args .longest)
+returns-2 c =
+    let a = c .before .before .before .before .before .before .before .before .args in turn-refused (a .kinds .now) (a .longest) (a .form) (a .d) (a .next) (c .before .before .before .before .before .before .before .before .pre .0) (rw (c .before .before .before .before .before .before .form-row .ensures) at (c .before .before .before .settle-fixed .ensures)) (c .before .settled2 .given .1)
 
 pub turn-form-spec : {M : Type 1} → statement M
 turn-form-spec =
     tie.close
     (tie.spec
-    enum-known-form
-    turn-object-requires
-    enum-known-form-2
-    turn-numeral-requires
-    enum-told
-    turn-glyph-requires
-    enum-told-2
-    turn-plural-requires
-    enum-told-3
-    turn-repeat-requires
-    enum-told-4
-    turn-fold-requires
+    form-row-requires
+    settle-fixed-requires
+    enum-known-settled
+    turn-settled-requires
+    enum-known-settled-2
     returns
-    returns-2
-    returns-3
-    returns-4
-    returns-5
-    returns-6)
+    returns-2)

@@ -124,9 +124,8 @@ count-sequence-claims t =
 
 count-block-start-of-requires : (t : ℕ) → count-block-lts.Need-start-of-requires (count-block-claims t) (count-block-at t) count-block.Post
 count-block-start-of-requires t c κs =
-    let args = c .before .before .args in
     let pre = c .before .before .pre .1 in
-    (pre .1 .1 .1 .0, (pre .1 .1 .1 .1, pre .0 .many))
+    (pre .1 .1 .1 .0, pre .1 .1 .1 .1)
 
 count-block-enum-known-turn : (t : ℕ) → count-block-lts.Need-enum-known-turn (count-block-claims t) (count-block-at t) count-block.Post
 count-block-enum-known-turn t c = search needs

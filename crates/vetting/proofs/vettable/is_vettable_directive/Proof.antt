@@ -1,48 +1,63 @@
--- `is_vettable_directive` meets its contract: the code and the four parameters. Assumes nothing.
-use borrow.Author.Needs.{needs}
 use Rattle.vetting.proofs.Places.{directive-vettable}
+use borrow.Author.Needs.{needs}
 use Rattle.vetting.proofs.vettable.is_vettable_directive.Statement.{statement}
 use Rattle.vetting.proofs.vettable.is_vettable_directive.Tie as tie
+use Rattle.vetting.proofs.vettable.is_vettable_directive.Reads as reads
+use Rattle.vetting.proofs.vettable.is_vettable_directive.Lts as lts
+use Rattle.rules.proofs.scalars.both.Reads as both-reads
+use Rattle.vetting.proofs.vettable.is_fixed.Reads as is-fixed-reads
+use Rattle.vetting.proofs.vettable.is_vettable_code.Reads as is-vettable-code-reads
 
+-- src/vettable.rt:61:21
 is-fixed-requires : tie.Need-is-fixed-requires
 is-fixed-requires c κs = search needs
 
+-- src/vettable.rt:61:35
 is-fixed-requires-2 : tie.Need-is-fixed-requires-2
 is-fixed-requires-2 c κs = search needs
 
+-- src/vettable.rt:61:9
 both-requires : tie.Need-both-requires
 both-requires c κs = search needs
 
+-- src/vettable.rt:62:28
 is-fixed-requires-3 : tie.Need-is-fixed-requires-3
 is-fixed-requires-3 c κs = search needs
 
+-- src/vettable.rt:62:47
 is-fixed-requires-4 : tie.Need-is-fixed-requires-4
 is-fixed-requires-4 c κs = search needs
 
+-- src/vettable.rt:62:42
 both-requires-2 : tie.Need-both-requires-2
 both-requires-2 c κs = search needs
 
+-- src/vettable.rt:62:9
 both-requires-3 : tie.Need-both-requires-3
 both-requires-3 c κs = search needs
 
-is-vettable-code-requires : tie.Need-is-vettable-code-requires
-is-vettable-code-requires c κs = search needs
+-- src/vettable.rt:63:20
+is-fixed-requires-5 : tie.Need-is-fixed-requires-5
+is-fixed-requires-5 c κs = search needs
 
+-- src/vettable.rt:63:9
 both-requires-4 : tie.Need-both-requires-4
 both-requires-4 c κs = search needs
 
+-- src/vettable.rt:64:10
+is-vettable-code-requires : tie.Need-is-vettable-code-requires
+is-vettable-code-requires c κs = search needs
+
+-- src/vettable.rt:64:5
+both-requires-5 : tie.Need-both-requires-5
+both-requires-5 c κs = search needs
+
+-- src/vettable.rt:51:1
 returns : tie.Need-returns
 returns c =
-    let args = c .before .before .before .before .before .before .before .before .before .before .args in
-    let is-fixed = c .before .before .before .before .before .before .before .before .is-fixed in
-    let is-fixed2 = c .before .before .before .before .before .before .before .is-fixed2 in
-    let both = c .before .before .before .before .before .before .both in
-    let is-fixed3 = c .before .before .before .before .before .is-fixed3 in
-    let is-fixed4 = c .before .before .before .before .is-fixed4 in
-    let both2 = c .before .before .before .both2 in
-    let both3 = c .before .before .both3 in
-    directive-vettable (args .d) (c .before .is-vettable-code .ensures) (is-fixed3 .ensures) (is-fixed4 .ensures)
-    (is-fixed .ensures) (is-fixed2 .ensures) (both .ensures) (both2 .ensures) (both3 .ensures) (c .both4 .ensures)
+    directive-vettable (c .before .before .before .before .before .before .before .before .before .before .before .before .args .d) (c .before .is-vettable-code .ensures)
+    (c .before .before .before .is-fixed5 .ensures) (c .before .before .before .before .before .before .before .is-fixed3 .ensures) (c .before .before .before .before .before .before .is-fixed4 .ensures) (c .before .before .before .before .before .before .before .before .before .before .is-fixed .ensures) (c .before .before .before .before .before .before .before .before .before .is-fixed2 .ensures)
+    (c .before .before .before .before .before .before .before .before .both .ensures) (c .before .before .before .before .before .both2 .ensures) (c .before .before .before .before .both3 .ensures) (c .before .before .both4 .ensures) (c .both5 .ensures)
 
 pub is-vettable-directive-spec : {M : Type 1} → statement M
 is-vettable-directive-spec =
@@ -55,6 +70,8 @@ is-vettable-directive-spec =
     is-fixed-requires-4
     both-requires-2
     both-requires-3
-    is-vettable-code-requires
+    is-fixed-requires-5
     both-requires-4
+    is-vettable-code-requires
+    both-requires-5
     returns)

@@ -1,7 +1,7 @@
 -- `place_after` meets its contract, item by item. Assumes nothing.
 use mathlib.Core.Path.{sym, ap}
 use borrow.Author.Needs.{needs}
-use Rattle.rules.proofs.TextLaws.{placeAfter}
+use Rattle.rules.specs.Text.{placeAfter}
 use Rattle.vetting.proofs.vettable.place_after.Statement.{statement}
 use Rattle.vetting.proofs.vettable.place_after.Tie as tie
 

@@ -1,57 +1,52 @@
--- `working::work_remaining` meets its contract: by what the place takes. Assumes nothing.
+use Rattle.working.proofs.WorkLaws.{no-remaining}
 use borrow.Author.Needs.{needs}
 use Rattle.working.proofs.places.work_remaining.Statement.{statement}
 use Rattle.working.proofs.places.work_remaining.Tie as tie
+use Rattle.working.proofs.places.work_remaining.Reads as reads
+use Rattle.working.proofs.places.work_remaining.Lts as lts
+use Rattle.rules.proofs.scalars.widened.Reads as widened-reads
+use Rattle.working.proofs.arguments.remaining.Reads as remaining-reads
+use Rattle.working.proofs.places.in_range.Reads as in-range-reads
 
+-- src/places.rt:136:9
 remaining-requires : tie.Need-remaining-requires
 remaining-requires c κs = search needs
 
-enum-told : tie.Need-enum-told
-enum-told c = search needs
+-- src/places.rt:138:25
+enum-known-place : tie.Need-enum-known-place
+enum-known-place c = search needs
 
+-- src/places.rt:138:54
+widened-requires : tie.Need-widened-requires
+widened-requires c κs = search needs
+
+-- src/places.rt:138:70
+widened-requires-2 : tie.Need-widened-requires-2
+widened-requires-2 c κs = search needs
+
+-- src/places.rt:138:42
 in-range-requires : tie.Need-in-range-requires
 in-range-requires c κs = search needs
 
-enum-told-2 : tie.Need-enum-told-2
-enum-told-2 c = search needs
-
-in-range-requires-2 : tie.Need-in-range-requires-2
-in-range-requires-2 c κs = search needs
-
-enum-told-3 : tie.Need-enum-told-3
-enum-told-3 c = search needs
-
-in-range-requires-3 : tie.Need-in-range-requires-3
-in-range-requires-3 c κs = search needs
-
-enum-told-4 : tie.Need-enum-told-4
-enum-told-4 c = search needs
-
+-- src/places.rt:132:1
 returns : tie.Need-returns
-returns c = rw (c .before .enum-told .given .1) (rw (c .before .before .before .remaining .ensures) at (c .in-range .ensures))
+returns c =
+    rw (c .before .before .before .before .place .given .1) (rw (c .before .before .widened .ensures .0, c .before .widened2 .ensures .0, c .before .before .before .before .before .before .remaining .ensures) at (c .in-range .ensures))
 
+-- src/places.rt:132:1
 returns-2 : tie.Need-returns-2
-returns-2 c = rw (c .before .enum-told2 .given .1) (rw (c .before .before .before .remaining .ensures) at (c .in-range2 .ensures))
-
-returns-3 : tie.Need-returns-3
-returns-3 c = rw (c .before .enum-told3 .given .1) (rw (c .before .before .before .remaining .ensures) at (c .in-range3 .ensures))
-
-returns-4 : tie.Need-returns-4
-returns-4 c = search needs
+returns-2 c =
+    let a = c .before .before .args in
+    no-remaining _ (a .next .0) (a .place) (c .match .keys2)
 
 pub work-remaining-spec : {M : Type 1} → statement M
 work-remaining-spec =
     tie.close
     (tie.spec
     remaining-requires
-    enum-told
+    enum-known-place
+    widened-requires
+    widened-requires-2
     in-range-requires
-    enum-told-2
-    in-range-requires-2
-    enum-told-3
-    in-range-requires-3
-    enum-told-4
     returns
-    returns-2
-    returns-3
-    returns-4)
+    returns-2)
