@@ -1,5 +1,4 @@
 // Which clause a conditional wants, by its parameter or its argument. The text is not looked at.
-use rules::scalars::not;
 use numbers::is_negative;
 use numbers::magnitude;
 use rules::Argument;
@@ -7,6 +6,7 @@ use rules::ArgumentPosition;
 use rules::Directive;
 use rules::Setting;
 use rules::Settings;
+use rules::scalars::not;
 use working::Hand;
 use working::argument_at;
 ghost use mathlib.Core.Path.{_≡_};

@@ -1,7 +1,5 @@
 // What an item does where it is met, while a whole text is read: it is refused, or opens, parts or closes a block.
-use rules::scalars::either;
 use fitting::places::is_well_written;
-use rules::scalars::not;
 use reader::directive::item_at;
 use reader::marks::END_CONDITIONAL;
 use reader::marks::END_ITERATION;
@@ -16,6 +14,8 @@ use rules::Bracket;
 use rules::Code;
 use rules::Directive;
 use rules::Item;
+use rules::scalars::either;
+use rules::scalars::not;
 ghost use mathlib.Core.Path.{_≡_};
 ghost use Rattle.rules.specs.Directive.{itemAt};
 ghost use Rattle.rules.specs.Rows.{wellWritten};

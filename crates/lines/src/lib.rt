@@ -1,12 +1,13 @@
 // Job lines: a frame in hexadecimal to the answer of its format, in hexadecimal.
 use engine::formatting::Outcome;
 use engine::formatting::format_text;
+use rules::scalars::hex_digit;
+use rules::scalars::wide;
 ghost use mathlib.Core.Path.{_≡_};
 ghost use mathlib.Core.List.{_++_};
 ghost use Prim.Native.Nat.{_+_, _*_, _/_, _%_, _≤_, _<_};
 ghost use lib.ListN.{length, take};
 ghost use Rattle.rules.specs.Job.{digitValue, hexOf, numbersOf, noFrame, answerLine};
-ghost use Rattle.rules.specs.Number.{digitByte};
 ghost use Rattle.lines.specs.Front.{AtFront};
 ghost use Rattle.lines.specs.Lent.{Decoded, FrameAnswered, LineAnswered};
 
@@ -58,14 +59,6 @@ fn decode(line: &[u8], frame: &mut [u8]) -> bool
         return false;
     }
     true
-}
-
-// The byte of a digit, in lower case.
-fn hex_digit(digit: u8) -> u8
-    requires { ⌜ digit < 16 ⌝ }
-    ensures { λ r. ⌜ r ≡ digitByte digit ⌝ }
-{
-    if digit < 10 { 48 + digit } else { 87 + digit }
 }
 
 // Writes bytes in hexadecimal from at on, and answers where they end.
@@ -130,12 +123,6 @@ fn refuse(out: &mut [u8]) -> usize
     out[0] = 102;
     out[1] = 102;
     2
-}
-
-fn wide(b: u8) -> usize
-    ensures { λ r. ⌜ (r ≡ b) × (r < 256) ⌝ }
-{
-    b as usize
 }
 
 // Answers the bytes of a line. The text of the format goes by way of text.

@@ -1,55 +1,43 @@
-use Rattle.rules.specs.declared.Origin.{Origin}
-use Rattle.rules.specs.Working.{sourceBy}
+-- `source_by` meets its contract, origin by origin. Assumes nothing.
 use mathlib.Core.Path.{_∙_, ap, sym}
 use borrow.Author.Needs.{needs}
+use Rattle.rules.specs.declared.Origin.{Origin}
+use Rattle.rules.specs.Working.{sourceBy}
 use Rattle.acting.proofs.planning.source_by.Statement.{statement}
 use Rattle.acting.proofs.planning.source_by.Tie as tie
-use Rattle.acting.proofs.planning.source_by.Reads as reads
-use Rattle.acting.proofs.planning.source_by.Lts as lts
-use Rattle.acting.proofs.planning.glyph_source.Reads as glyph-source-reads
 
--- src/planning.rt:53:42
 enum-told : tie.Need-enum-told
 enum-told c = search needs
 
--- src/planning.rt:54:25
 enum-told-2 : tie.Need-enum-told-2
 enum-told-2 c = search needs
 
--- src/planning.rt:56:16
 enum-told-3 : tie.Need-enum-told-3
 enum-told-3 c = search needs
 
--- src/planning.rt:57:17
 returns : tie.Need-returns
 returns c =
     (λ t. sym (ap (λ (o : Origin). sourceBy o (c .before .before .before .args .colon) (c .before .before .before .args .settings)) (c .before .enum-told3 .given .1) ∙ rw (c .if1 .taken)), λ t. tt)
 
--- src/planning.rt:62:17
 enum-told-4 : tie.Need-enum-told-4
 enum-told-4 c = search needs
 
--- src/planning.rt:63:13
 glyph-source-requires : tie.Need-glyph-source-requires
 glyph-source-requires c κs =
     rw (c .enum-told4 .given .1) at (c .before .before .pre)
 
--- src/planning.rt:47:1
 returns-2 : tie.Need-returns-2
 returns-2 c =
     (λ t. sym (ap (λ (o : Origin). sourceBy o (c .before .before .args .colon) (c .before .before .args .settings)) (c .enum-told .given .1)), λ t. tt)
 
--- src/planning.rt:47:1
 returns-3 : tie.Need-returns-3
 returns-3 c =
     (λ t. sym (ap (λ (o : Origin). sourceBy o (c .before .before .args .colon) (c .before .before .args .settings)) (c .enum-told2 .given .1)), λ t. tt)
 
--- src/planning.rt:47:1
 returns-4 : tie.Need-returns-4
 returns-4 c =
     (λ t. sym (ap (λ (o : Origin). sourceBy o (c .before .before .before .args .colon) (c .before .before .before .args .settings)) (c .before .enum-told3 .given .1) ∙ rw (c .if1 .left)), λ t. tt)
 
--- src/planning.rt:47:1
 returns-5 : tie.Need-returns-5
 returns-5 c =
     (λ t. (c .glyph-source .ensures .0) t ∙ sym (ap (λ (o : Origin). sourceBy o (c .before .before .before .args .colon) (c .before .before .before .args .settings)) (c .before .enum-told4 .given .1)), λ t. (c .glyph-source .ensures .1) t)

@@ -1,54 +1,40 @@
+-- `fits_into` meets its contract: the count and the five places. Assumes nothing.
 use lib.Dec.{leb}
-use Rattle.fitting.proofs.Tests.{fits-by}
 use borrow.Author.Needs.{needs}
+use Rattle.fitting.proofs.Tests.{fits-by}
 use Rattle.fitting.proofs.places.fits_into.Statement.{statement}
 use Rattle.fitting.proofs.places.fits_into.Tie as tie
-use Rattle.fitting.proofs.places.fits_into.Reads as reads
-use Rattle.fitting.proofs.places.fits_into.Lts as lts
-use Rattle.fitting.proofs.places.suits.Reads as suits-reads
-use Rattle.rules.proofs.scalars.both.Reads as both-reads
 
--- src/places.rt:78:21
 suits-requires : tie.Need-suits-requires
 suits-requires c κs = search needs
 
--- src/places.rt:78:36
 suits-requires-2 : tie.Need-suits-requires-2
 suits-requires-2 c κs = search needs
 
--- src/places.rt:78:9
 both-requires : tie.Need-both-requires
 both-requires c κs = search needs
 
--- src/places.rt:79:28
 suits-requires-3 : tie.Need-suits-requires-3
 suits-requires-3 c κs = search needs
 
--- src/places.rt:79:48
 suits-requires-4 : tie.Need-suits-requires-4
 suits-requires-4 c κs = search needs
 
--- src/places.rt:79:43
 both-requires-2 : tie.Need-both-requires-2
 both-requires-2 c κs = search needs
 
--- src/places.rt:79:9
 both-requires-3 : tie.Need-both-requires-3
 both-requires-3 c κs = search needs
 
--- src/places.rt:80:20
 suits-requires-5 : tie.Need-suits-requires-5
 suits-requires-5 c κs = search needs
 
--- src/places.rt:80:9
 both-requires-4 : tie.Need-both-requires-4
 both-requires-4 c κs = search needs
 
--- src/places.rt:81:5
 both-requires-5 : tie.Need-both-requires-5
 both-requires-5 c κs = search needs
 
--- src/places.rt:65:1
 returns : tie.Need-returns
 returns c =
     fits-by (let a = c .before .before .before .before .before .before .before .before .before .before .before .before .args in leb (a .ps .count) (a .places .count))

@@ -1,46 +1,33 @@
+-- `suits` meets its contract, by the place. Assumes nothing.
 use borrow.Author.Needs.{needs}
 use Rattle.fitting.proofs.places.suits.Statement.{statement}
 use Rattle.fitting.proofs.places.suits.Tie as tie
-use Rattle.fitting.proofs.places.suits.Reads as reads
-use Rattle.fitting.proofs.places.suits.Lts as lts
-use Rattle.fitting.proofs.places.suits_character.Reads as suits-character-reads
-use Rattle.fitting.proofs.places.suits_empty.Reads as suits-empty-reads
-use Rattle.fitting.proofs.places.suits_number.Reads as suits-number-reads
 
--- src/places.rt:58:25
 enum-told : tie.Need-enum-told
 enum-told c = search needs
 
--- src/places.rt:58:25
 suits-empty-requires : tie.Need-suits-empty-requires
 suits-empty-requires c κs = search needs
 
--- src/places.rt:59:25
 enum-known-place : tie.Need-enum-known-place
 enum-known-place c = search needs
 
--- src/places.rt:59:42
 suits-number-requires : tie.Need-suits-number-requires
 suits-number-requires c κs = search needs
 
--- src/places.rt:60:29
 enum-told-2 : tie.Need-enum-told-2
 enum-told-2 c = search needs
 
--- src/places.rt:60:29
 suits-character-requires : tie.Need-suits-character-requires
 suits-character-requires c κs = search needs
 
--- src/places.rt:54:1
 returns : tie.Need-returns
 returns c = search needs
 
--- src/places.rt:54:1
 returns-2 : tie.Need-returns-2
 returns-2 c =
     rw (c .suits-number .ensures, c .before .before .place .given .1)
 
--- src/places.rt:54:1
 returns-3 : tie.Need-returns-3
 returns-3 c = search needs
 

@@ -1,75 +1,55 @@
+-- `takes` meets its contract: each test is the definition's. Assumes nothing.
 use borrow.Author.Needs.{needs}
 use Rattle.fitting.proofs.places.takes.Statement.{statement}
 use Rattle.fitting.proofs.places.takes.Tie as tie
-use Rattle.fitting.proofs.places.takes.Reads as reads
-use Rattle.fitting.proofs.places.takes.Lts as lts
-use Rattle.rules.proofs.scalars.both.Reads as both-reads
-use Rattle.rules.proofs.scalars.either.Reads as either-reads
-use Rattle.rules.proofs.scalars.not.Reads as not-reads
 
--- src/places.rt:88:35
 enum-told : tie.Need-enum-told
 enum-told c = search needs
 
--- src/places.rt:88:35
 either-requires : tie.Need-either-requires
 either-requires c κs = search needs
 
--- src/places.rt:88:31
 not-requires : tie.Need-not-requires
 not-requires c κs = search needs
 
--- src/places.rt:89:29
 enum-told-2 : tie.Need-enum-told-2
 enum-told-2 c = search needs
 
--- src/places.rt:89:29
 not-requires-2 : tie.Need-not-requires-2
 not-requires-2 c κs = search needs
 
--- src/places.rt:90:26
 enum-told-3 : tie.Need-enum-told-3
 enum-told-3 c = search needs
 
--- src/places.rt:90:26
 not-requires-3 : tie.Need-not-requires-3
 not-requires-3 c κs = search needs
 
--- src/places.rt:91:34
 enum-told-4 : tie.Need-enum-told-4
 enum-told-4 c = search needs
 
--- src/places.rt:91:34
 both-requires : tie.Need-both-requires
 both-requires c κs = search needs
 
--- src/places.rt:91:30
 not-requires-4 : tie.Need-not-requires-4
 not-requires-4 c κs = search needs
 
--- src/places.rt:92:27
 enum-told-5 : tie.Need-enum-told-5
 enum-told-5 c = search needs
 
--- src/places.rt:84:1
 returns : tie.Need-returns
 returns c =
     rw (c .not .ensures, c .before .either .ensures, c .before .before .enum-told .given .1)
 
--- src/places.rt:84:1
 returns-2 : tie.Need-returns-2
 returns-2 c = search needs
 
--- src/places.rt:84:1
 returns-3 : tie.Need-returns-3
 returns-3 c = search needs
 
--- src/places.rt:84:1
 returns-4 : tie.Need-returns-4
 returns-4 c =
     rw (c .not4 .ensures, c .before .both .ensures, c .before .before .enum-told4 .given .1)
 
--- src/places.rt:84:1
 returns-5 : tie.Need-returns-5
 returns-5 c = search needs
 

@@ -1,108 +1,79 @@
+-- `form_row` meets its contract: it is the definition's list, row by row. Assumes nothing.
 use borrow.Author.Needs.{needs}
 use Rattle.fitting.proofs.rows.form_row.Statement.{statement}
 use Rattle.fitting.proofs.rows.form_row.Tie as tie
-use Rattle.fitting.proofs.rows.form_row.Reads as reads
-use Rattle.fitting.proofs.rows.form_row.Lts as lts
-use Rattle.fitting.proofs.rows.four_places.Reads as four-places-reads
-use Rattle.fitting.proofs.rows.no_argument.Reads as no-argument-reads
-use Rattle.fitting.proofs.rows.no_places.Reads as no-places-reads
-use Rattle.fitting.proofs.rows.number_to.Reads as number-to-reads
-use Rattle.fitting.proofs.rows.one_place.Reads as one-place-reads
 
--- src/rows.rt:89:9
 number-to-requires : tie.Need-number-to-requires
 number-to-requires c κs = search needs
 
--- src/rows.rt:90:9
 number-to-requires-2 : tie.Need-number-to-requires-2
 number-to-requires-2 c κs = search needs
 
--- src/rows.rt:94:21
 enum-told : tie.Need-enum-told
 enum-told c = search needs
 
--- src/rows.rt:94:21
 four-places-requires : tie.Need-four-places-requires
 four-places-requires c κs = search needs
 
--- src/rows.rt:101:21
 enum-told-2 : tie.Need-enum-told-2
 enum-told-2 c = search needs
 
--- src/rows.rt:101:21
 four-places-requires-2 : tie.Need-four-places-requires-2
 four-places-requires-2 c κs = search needs
 
--- src/rows.rt:108:31
 enum-told-3 : tie.Need-enum-told-3
 enum-told-3 c = search needs
 
--- src/rows.rt:108:31
 number-to-requires-3 : tie.Need-number-to-requires-3
 number-to-requires-3 c κs = search needs
 
--- src/rows.rt:108:21
 one-place-requires : tie.Need-one-place-requires
 one-place-requires c κs = search needs
 
--- src/rows.rt:115:21
 enum-told-4 : tie.Need-enum-told-4
 enum-told-4 c = search needs
 
--- src/rows.rt:115:21
 no-places-requires : tie.Need-no-places-requires
 no-places-requires c κs = search needs
 
--- src/rows.rt:121:40
 enum-told-5 : tie.Need-enum-told-5
 enum-told-5 c = search needs
 
--- src/rows.rt:121:40
 one-place-requires-2 : tie.Need-one-place-requires-2
 one-place-requires-2 c κs = search needs
 
--- src/rows.rt:121:28
 no-argument-requires : tie.Need-no-argument-requires
 no-argument-requires c κs = search needs
 
--- src/rows.rt:122:35
 enum-told-6 : tie.Need-enum-told-6
 enum-told-6 c = search needs
 
--- src/rows.rt:122:35
 no-places-requires-2 : tie.Need-no-places-requires-2
 no-places-requires-2 c κs = search needs
 
--- src/rows.rt:122:23
 no-argument-requires-2 : tie.Need-no-argument-requires-2
 no-argument-requires-2 c κs = search needs
 
--- src/rows.rt:86:1
 returns : tie.Need-returns
 returns c =
     rw (c .four-places .ensures, c .before .before .before .number-to2 .ensures, c .before .before .before .before .number-to .ensures, c .before .enum-told .given .1)
 
--- src/rows.rt:86:1
 returns-2 : tie.Need-returns-2
 returns-2 c =
     rw (c .four-places2 .ensures, c .before .before .before .number-to2 .ensures, c .before .before .before .before .number-to .ensures, c .before .enum-told2 .given .1)
 
--- src/rows.rt:86:1
 returns-3 : tie.Need-returns-3
 returns-3 c =
     rw (c .one-place .ensures, c .before .number-to3 .ensures, c .before .before .enum-told3 .given .1)
 
--- src/rows.rt:86:1
 returns-4 : tie.Need-returns-4
 returns-4 c =
     rw (c .no-places .ensures, c .before .enum-told4 .given .1)
 
--- src/rows.rt:86:1
 returns-5 : tie.Need-returns-5
 returns-5 c =
     rw (c .no-argument .ensures, c .before .one-place2 .ensures, c .before .before .before .before .before .number-to .ensures, c .before .before .enum-told5 .given .1)
 
--- src/rows.rt:86:1
 returns-6 : tie.Need-returns-6
 returns-6 c =
     rw (c .no-argument2 .ensures, c .before .no-places2 .ensures, c .before .before .enum-told6 .given .1)

@@ -1,47 +1,33 @@
+-- `opener_row` meets its contract, bracket by bracket. Assumes nothing.
 use borrow.Author.Needs.{needs}
 use Rattle.fitting.proofs.rows.opener_row.Statement.{statement}
 use Rattle.fitting.proofs.rows.opener_row.Tie as tie
-use Rattle.fitting.proofs.rows.opener_row.Reads as reads
-use Rattle.fitting.proofs.rows.opener_row.Lts as lts
-use Rattle.fitting.proofs.rows.conditional_places.Reads as conditional-places-reads
-use Rattle.fitting.proofs.rows.no_argument.Reads as no-argument-reads
-use Rattle.fitting.proofs.rows.number_to.Reads as number-to-reads
-use Rattle.fitting.proofs.rows.one_place.Reads as one-place-reads
 
--- src/rows.rt:141:13
 enum-told : tie.Need-enum-told
 enum-told c = search needs
 
--- src/rows.rt:141:13
 conditional-places-requires : tie.Need-conditional-places-requires
 conditional-places-requires c κs = search needs
 
--- src/rows.rt:140:33
 no-argument-requires : tie.Need-no-argument-requires
 no-argument-requires c κs = search needs
 
--- src/rows.rt:146:23
 enum-told-2 : tie.Need-enum-told-2
 enum-told-2 c = search needs
 
--- src/rows.rt:146:23
 number-to-requires : tie.Need-number-to-requires
 number-to-requires c κs = search needs
 
--- src/rows.rt:146:13
 one-place-requires : tie.Need-one-place-requires
 one-place-requires c κs = search needs
 
--- src/rows.rt:145:31
 no-argument-requires-2 : tie.Need-no-argument-requires-2
 no-argument-requires-2 c κs = search needs
 
--- src/rows.rt:136:1
 returns : tie.Need-returns
 returns c =
     rw (c .no-argument .ensures, c .before .conditional-places .ensures, c .before .before .enum-told .given .1)
 
--- src/rows.rt:136:1
 returns-2 : tie.Need-returns-2
 returns-2 c =
     rw (c .no-argument2 .ensures, c .before .one-place .ensures, c .before .before .number-to .ensures, c .before .before .before .enum-told2 .given .1)

@@ -1,20 +1,14 @@
+-- `row_in` meets its contract: the row of the code. Assumes nothing.
 use borrow.Author.Needs.{needs}
 use Rattle.fitting.proofs.rows.row_in.Statement.{statement}
 use Rattle.fitting.proofs.rows.row_in.Tie as tie
-use Rattle.fitting.proofs.rows.row_in.Reads as reads
-use Rattle.fitting.proofs.rows.row_in.Lts as lts
-use Rattle.fitting.proofs.rows.row_of.Reads as row-of-reads
-use Rattle.rules.proofs.scalars.either.Reads as either-reads
 
--- src/rows.rt:176:18
 either-requires : tie.Need-either-requires
 either-requires c κs = search needs
 
--- src/rows.rt:176:5
 row-of-requires : tie.Need-row-of-requires
 row-of-requires c κs = search needs
 
--- src/rows.rt:172:1
 returns : tie.Need-returns
 returns c =
     rw (c .row-of .ensures, c .before .either .ensures)

@@ -1,35 +1,28 @@
-use Rattle.turns.proofs.WorstBy.{numeral-worst}
-use Rattle.turns.proofs.TurnBy.{number-least}
+-- `worst_grouped` meets its contract: commawidth is at least 1. Assumes nothing.
 use mathlib.Core.Path.{sym, _∙_}
 use native.Mathlib.Omega.{arith}
 use borrow.Author.Needs.{needs}
+use Rattle.turns.proofs.WorstBy.{numeral-worst}
+use Rattle.turns.proofs.TurnBy.{number-least}
 use Rattle.turns.proofs.lengths.worst_grouped.Statement.{statement}
 use Rattle.turns.proofs.lengths.worst_grouped.Tie as tie
-use Rattle.turns.proofs.lengths.worst_grouped.Reads as reads
-use Rattle.turns.proofs.lengths.worst_grouped.Lts as lts
-use Rattle.rules.proofs.scalars.number_or.Reads as number-or-reads
-use Rattle.turns.proofs.lengths.worst_numeral.Reads as worst-numeral-reads
 
--- src/lengths.rt:145:32
 number-or-requires : tie.Need-number-or-requires
 number-or-requires c κs = search needs
 
--- src/lengths.rt:145:53
 number-or-requires-2 : tie.Need-number-or-requires-2
 number-or-requires-2 c κs = search needs
 
--- src/lengths.rt:145:5
 worst-numeral-requires : tie.Need-worst-numeral-requires
 worst-numeral-requires c κs =
     (c .before .before .pre .0, omega (arith, c .number-or2 .ensures, number-least 1 4096 (c .before .before .args .settings .fourth) 3 (c .before .before .pre .1 .fourth) (omega arith)))
 
--- src/lengths.rt:138:1
 returns : tie.Need-returns
 returns c =
     λ longest kind at.
-        c .worst-numeral .ensures
-        ∙ rw (c .before .before .number-or .ensures, c .before .number-or2 .ensures)
-        (numeral-worst longest (c .before .before .before .args .base) (c .before .before .before .args .colon) at (c .before .before .before .args .settings) kind (number-least 1 4096 (c .before .before .before .args .settings .fourth) 3 (c .before .before .before .pre .1 .fourth) (omega arith)))
+    c .worst-numeral .ensures
+    ∙ rw (c .before .before .number-or .ensures, c .before .number-or2 .ensures)
+    (numeral-worst longest (c .before .before .before .args .base) (c .before .before .before .args .colon) at (c .before .before .before .args .settings) kind (number-least 1 4096 (c .before .before .before .args .settings .fourth) 3 (c .before .before .before .pre .1 .fourth) (omega arith)))
 
 pub worst-grouped-spec : {M : Type 1} → statement M
 worst-grouped-spec =

@@ -1,98 +1,74 @@
+-- `worst_of` meets its contract, form by form. Assumes nothing.
+use borrow.Author.Needs.{needs}
 use Rattle.vet.specs.Worst.{worst}
 use Rattle.turns.proofs.TurnBy.{no-list}
-use borrow.Author.Needs.{needs}
 use Rattle.turns.proofs.lengths.worst_of.Statement.{statement}
 use Rattle.turns.proofs.lengths.worst_of.Tie as tie
-use Rattle.turns.proofs.lengths.worst_of.Reads as reads
-use Rattle.turns.proofs.lengths.worst_of.Lts as lts
-use Rattle.rules.proofs.scalars.number_or.Reads as number-or-reads
-use Rattle.turns.proofs.lengths.worst_fold.Reads as worst-fold-reads
-use Rattle.turns.proofs.lengths.worst_glyph.Reads as worst-glyph-reads
-use Rattle.turns.proofs.lengths.worst_grouped.Reads as worst-grouped-reads
-use Rattle.turns.proofs.lengths.worst_padded.Reads as worst-padded-reads
-use Rattle.turns.proofs.lengths.worst_plural.Reads as worst-plural-reads
 
--- src/lengths.rt:171:22
 enum-known-form : tie.Need-enum-known-form
 enum-known-form c = search needs
 
--- src/lengths.rt:171:33
 worst-padded-requires : tie.Need-worst-padded-requires
 worst-padded-requires c κs =
     ((rw (c .before .form .given .1) at (c .before .before .before .pre .0)) .places, (no-list _ (c .before .before .before .pre .1 .0 .0) (rw (c .before .form .given .1) at (c .before .before .before .pre .1 .1)), c .before .before .before .pre .1 .0 .1))
 
--- src/lengths.rt:172:23
 enum-known-form-2 : tie.Need-enum-known-form-2
 enum-known-form-2 c = search needs
 
--- src/lengths.rt:172:32
 worst-grouped-requires : tie.Need-worst-grouped-requires
 worst-grouped-requires c κs =
-    let w = rw (c .before .form2 .given .1) at (c .before .before .before .pre .0) in (w .based, w .places)
+    let w = rw (c .before .form2 .given .1) at (c .before .before .before .pre .0) in
+    (w .based, w .places)
 
--- src/lengths.rt:173:24
 enum-told : tie.Need-enum-told
 enum-told c = search needs
 
--- src/lengths.rt:173:24
 worst-glyph-requires : tie.Need-worst-glyph-requires
 worst-glyph-requires c κs = search needs
 
--- src/lengths.rt:174:25
 enum-told-2 : tie.Need-enum-told-2
 enum-told-2 c = search needs
 
--- src/lengths.rt:174:25
 worst-plural-requires : tie.Need-worst-plural-requires
 worst-plural-requires c κs = search needs
 
--- src/lengths.rt:175:28
 enum-told-3 : tie.Need-enum-told-3
 enum-told-3 c = search needs
 
--- src/lengths.rt:175:28
 number-or-requires : tie.Need-number-or-requires
 number-or-requires c κs = search needs
 
--- src/lengths.rt:176:23
 enum-told-4 : tie.Need-enum-told-4
 enum-told-4 c = search needs
 
--- src/lengths.rt:176:23
 worst-fold-requires : tie.Need-worst-fold-requires
 worst-fold-requires c κs = search needs
 
--- src/lengths.rt:156:1
 returns : tie.Need-returns
 unfolding worst
 returns c =
     rw (c .before .before .form .given .1) (c .worst-padded .ensures (c .before .before .before .before .args .colon) (c .before .before .before .before .args .at))
 
--- src/lengths.rt:156:1
 returns-2 : tie.Need-returns-2
 unfolding worst
 returns-2 c =
     rw (c .before .before .form2 .given .1) (c .worst-grouped .ensures (c .before .before .before .before .args .longest) (c .before .before .before .before .args .kind) (c .before .before .before .before .args .at))
 
--- src/lengths.rt:156:1
 returns-3 : tie.Need-returns-3
 unfolding worst
 returns-3 c =
     rw (c .before .enum-told .given .1) (c .worst-glyph .ensures)
 
--- src/lengths.rt:156:1
 returns-4 : tie.Need-returns-4
 unfolding worst
 returns-4 c =
     rw (c .before .enum-told2 .given .1) (c .worst-plural .ensures)
 
--- src/lengths.rt:156:1
 returns-5 : tie.Need-returns-5
 unfolding worst
 returns-5 c =
     rw (c .before .enum-told3 .given .1) (c .number-or .ensures)
 
--- src/lengths.rt:156:1
 returns-6 : tie.Need-returns-6
 unfolding worst
 returns-6 c =

@@ -1,45 +1,39 @@
-use Rattle.turns.proofs.WorstBy.{object-worst}
-use Rattle.turns.proofs.TurnBy.{number-least, number-most}
+-- `worst_padded` meets its contract: the settings lie in their places. Assumes nothing.
 use mathlib.Core.Path.{sym, _∙_}
 use native.Mathlib.Omega.{arith}
 use borrow.Author.Needs.{needs}
+use Rattle.turns.proofs.WorstBy.{object-worst}
+use Rattle.turns.proofs.TurnBy.{number-least, number-most}
 use Rattle.turns.proofs.lengths.worst_padded.Statement.{statement}
 use Rattle.turns.proofs.lengths.worst_padded.Tie as tie
-use Rattle.turns.proofs.lengths.worst_padded.Reads as reads
-use Rattle.turns.proofs.lengths.worst_padded.Lts as lts
-use Rattle.rules.proofs.scalars.number_or.Reads as number-or-reads
-use Rattle.turns.proofs.lengths.worst_object.Reads as worst-object-reads
 
--- src/lengths.rt:131:9
 number-or-requires : tie.Need-number-or-requires
 number-or-requires c κs = search needs
 
--- src/lengths.rt:132:9
 number-or-requires-2 : tie.Need-number-or-requires-2
 number-or-requires-2 c κs = search needs
 
--- src/lengths.rt:133:9
 number-or-requires-3 : tie.Need-number-or-requires-3
 number-or-requires-3 c κs = search needs
 
--- src/lengths.rt:134:5
 worst-object-requires : tie.Need-worst-object-requires
 worst-object-requires c κs =
-    let s = c .before .before .before .args .settings in
-    (record {
-      width = omega (arith, c .before .before .number-or .ensures, number-most 0 4096 (s .first) 0 (c .before .before .before .pre .0 .first) (omega arith));
-      least = omega (arith, c .before .number-or2 .ensures, number-least 1 4096 (s .second) 1 (c .before .before .before .pre .0 .second) (omega arith));
-      most = omega (arith, c .before .number-or2 .ensures, number-most 1 4096 (s .second) 1 (c .before .before .before .pre .0 .second) (omega arith));
-      pad = omega (arith, c .number-or3 .ensures, number-most 0 4096 (s .third) 0 (c .before .before .before .pre .0 .third) (omega arith));
-    }, c .before .before .before .pre .1)
+    let s = c .before .before .before .args .settings in (
+      record {
+        width = omega (arith, c .before .before .number-or .ensures, number-most 0 4096 (s .first) 0 (c .before .before .before .pre .0 .first) (omega arith));
+        least = omega (arith, c .before .number-or2 .ensures, number-least 1 4096 (s .second) 1 (c .before .before .before .pre .0 .second) (omega arith));
+        most = omega (arith, c .before .number-or2 .ensures, number-most 1 4096 (s .second) 1 (c .before .before .before .pre .0 .second) (omega arith));
+        pad = omega (arith, c .number-or3 .ensures, number-most 0 4096 (s .third) 0 (c .before .before .before .pre .0 .third) (omega arith));
+      },
+      c .before .before .before .pre .1,
+    )
 
--- src/lengths.rt:123:1
 returns : tie.Need-returns
 returns c =
     λ colon at.
-        c .worst-object .ensures
-        ∙ rw (c .before .before .before .number-or .ensures, c .before .before .number-or2 .ensures, c .before .number-or3 .ensures)
-        (object-worst (c .before .before .before .before .args .longest) (c .before .before .before .before .args .quoted) colon at (c .before .before .before .before .args .settings) (c .before .before .before .before .args .kind))
+    c .worst-object .ensures
+    ∙ rw (c .before .before .before .number-or .ensures, c .before .before .number-or2 .ensures, c .before .number-or3 .ensures)
+    (object-worst (c .before .before .before .before .args .longest) (c .before .before .before .before .args .quoted) colon at (c .before .before .before .before .args .settings) (c .before .before .before .before .args .kind))
 
 pub worst-padded-spec : {M : Type 1} → statement M
 worst-padded-spec =

@@ -1,36 +1,28 @@
-use Rattle.turns.proofs.StartBy.{start-colon, start-at}
+-- `start_of` meets its contract: by the modifier. Assumes nothing.
 use borrow.Author.Needs.{needs}
+use Rattle.turns.proofs.StartBy.{start-colon, start-at}
 use Rattle.turns.proofs.starts.start_of.Statement.{statement}
 use Rattle.turns.proofs.starts.start_of.Tie as tie
-use Rattle.turns.proofs.starts.start_of.Reads as reads
-use Rattle.turns.proofs.starts.start_of.Lts as lts
-use Rattle.turns.proofs.starts.start_one.Reads as start-one-reads
-use Rattle.turns.proofs.starts.start_plain.Reads as start-plain-reads
-use Rattle.turns.proofs.starts.start_two.Reads as start-two-reads
 
--- src/starts.rt:113:9
 start-two-requires : tie.Need-start-two-requires
 start-two-requires c κs = search needs
 
--- src/starts.rt:113:9
 returns : tie.Need-returns
 returns c =
-    let a = c .before .before .before .args in start-colon (a .kinds .now) (a .d) (a .next) (c .before .if1 .taken) (c .start-two .ensures)
+    let a = c .before .before .before .args in
+    start-colon (a .kinds .now) (a .d) (a .next) (c .before .if1 .taken) (c .start-two .ensures)
 
--- src/starts.rt:116:9
 start-one-requires : tie.Need-start-one-requires
 start-one-requires c κs = search needs
 
--- src/starts.rt:116:9
 returns-2 : tie.Need-returns-2
 returns-2 c =
-    let a = c .before .before .before .before .args in start-at (a .kinds .now) (a .d) (a .next) (c .before .before .if1 .left) (c .before .if2 .taken) (c .start-one .ensures)
+    let a = c .before .before .before .before .args in
+    start-at (a .kinds .now) (a .d) (a .next) (c .before .before .if1 .left) (c .before .if2 .taken) (c .start-one .ensures)
 
--- src/starts.rt:118:5
 start-plain-requires : tie.Need-start-plain-requires
 start-plain-requires c κs = search needs
 
--- src/starts.rt:107:1
 returns-3 : tie.Need-returns-3
 returns-3 c = search needs
 

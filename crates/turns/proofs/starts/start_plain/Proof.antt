@@ -1,42 +1,33 @@
-use Rattle.turns.proofs.StartBy.{start-by, start-refused}
+-- `start_plain` meets its contract: from the worked-out parameter. Assumes nothing.
 use borrow.Author.Needs.{needs}
+use Rattle.turns.proofs.StartBy.{start-by, start-refused}
 use Rattle.turns.proofs.starts.start_plain.Statement.{statement}
 use Rattle.turns.proofs.starts.start_plain.Tie as tie
-use Rattle.turns.proofs.starts.start_plain.Reads as reads
-use Rattle.turns.proofs.starts.start_plain.Lts as lts
-use Rattle.fitting.proofs.rows.row_in.Reads as row-in-reads
-use Rattle.turns.proofs.starts.start_settled.Reads as start-settled-reads
-use Rattle.turns.proofs.turns.settle_fixed.Reads as settle-fixed-reads
 
--- src/starts.rt:94:9
 row-in-requires : tie.Need-row-in-requires
 row-in-requires c κs = search needs
 
--- src/starts.rt:97:9
 settle-fixed-requires : tie.Need-settle-fixed-requires
 settle-fixed-requires c κs = search needs
 
--- src/starts.rt:99:26
 enum-known-settled : tie.Need-enum-known-settled
 enum-known-settled c = search needs
 
--- src/starts.rt:101:13
 start-settled-requires : tie.Need-start-settled-requires
 start-settled-requires c κs = search needs
 
--- src/starts.rt:103:27
 enum-known-settled-2 : tie.Need-enum-known-settled-2
 enum-known-settled-2 c = search needs
 
--- src/starts.rt:88:1
 returns : tie.Need-returns
 returns c =
-    let a = c .before .before .before .before .before .before .before .before .before .args in start-by (a .kinds .now) (a .d) (a .next) (c .before .before .before .before .before .before .before .before .before .pre .0) (c .before .before .before .before .before .before .before .before .before .pre .1 .0 .0) (c .before .before .before .before .before .before .before .before .before .pre .1 .0 .1) (rw (c .before .before .before .before .before .before .before .row-in .ensures) at (c .before .before .before .before .settle-fixed .ensures)) (c .before .before .settled .given .1) (c .start-settled .ensures)
+    let a = c .before .before .before .before .before .before .before .before .before .args in
+    start-by (a .kinds .now) (a .d) (a .next) (c .before .before .before .before .before .before .before .before .before .pre .0) (c .before .before .before .before .before .before .before .before .before .pre .1 .0 .0) (c .before .before .before .before .before .before .before .before .before .pre .1 .0 .1) (rw (c .before .before .before .before .before .before .before .row-in .ensures) at (c .before .before .before .before .settle-fixed .ensures)) (c .before .before .settled .given .1) (c .start-settled .ensures)
 
--- src/starts.rt:88:1
 returns-2 : tie.Need-returns-2
 returns-2 c =
-    let a = c .before .before .before .before .before .before .before .before .args in start-refused (a .kinds .now) (a .d) (a .next) (c .before .before .before .before .before .before .before .before .pre .0) (c .before .before .before .before .before .before .before .before .pre .1 .0 .0) (c .before .before .before .before .before .before .before .before .pre .1 .0 .1) (rw (c .before .before .before .before .before .before .row-in .ensures) at (c .before .before .before .settle-fixed .ensures)) (c .before .settled2 .given .1)
+    let a = c .before .before .before .before .before .before .before .before .args in
+    start-refused (a .kinds .now) (a .d) (a .next) (c .before .before .before .before .before .before .before .before .pre .0) (c .before .before .before .before .before .before .before .before .pre .1 .0 .0) (c .before .before .before .before .before .before .before .before .pre .1 .0 .1) (rw (c .before .before .before .before .before .before .row-in .ensures) at (c .before .before .before .settle-fixed .ensures)) (c .before .settled2 .given .1)
 
 pub start-plain-spec : {M : Type 1} → statement M
 start-plain-spec =

@@ -1,29 +1,22 @@
-use Rattle.turns.proofs.TurnBy.{fixed-supplied, settled-on}
+-- `settle_fixed` meets its contract: without `v` no table is asked for. Assumes nothing.
 use borrow.Author.Needs.{needs}
+use Rattle.turns.proofs.TurnBy.{fixed-supplied, settled-on}
 use Rattle.turns.proofs.turns.settle_fixed.Statement.{statement}
 use Rattle.turns.proofs.turns.settle_fixed.Tie as tie
-use Rattle.turns.proofs.turns.settle_fixed.Reads as reads
-use Rattle.turns.proofs.turns.settle_fixed.Lts as lts
-use Rattle.working.proofs.settle.Reads as settle-reads
 
--- src/turns.rt:50:12
 sub-settle : tie.Need-sub-settle
 sub-settle c = search needs
 
--- src/turns.rt:50:12
 part-settle-start : tie.Need-part-settle-start
 part-settle-start c = search needs
 
--- src/turns.rt:50:12
 part-settle-end : tie.Need-part-settle-end
 part-settle-end c = search needs
 
--- src/turns.rt:50:5
 settle-requires : tie.Need-settle-requires
 settle-requires c κs =
     (fixed-supplied (c .before .before .args .ps) (c .before .before .pre .0), c .before .before .pre .1)
 
--- src/turns.rt:41:1
 returns : tie.Need-returns
 returns c =
     settled-on (c .before .before .before .pre .0) (c .settle .ensures)

@@ -1,81 +1,65 @@
-use Rattle.turns.proofs.TurnBy.{by-next, by-back, by-no-back, by-number, by-nowhere, nowhere-accepts}
+-- `turn_settled` meets its contract: by where the argument comes from. Assumes nothing.
 use native.Mathlib.Omega.{arith}
 use borrow.Author.Needs.{needs}
+use Rattle.turns.proofs.TurnBy.{by-next, by-back, by-no-back, by-number, by-nowhere, nowhere-accepts}
 use Rattle.turns.proofs.turns.turn_settled.Statement.{statement}
 use Rattle.turns.proofs.turns.turn_settled.Tie as tie
-use Rattle.turns.proofs.turns.turn_settled.Reads as reads
-use Rattle.turns.proofs.turns.turn_settled.Lts as lts
-use Rattle.fitting.proofs.rows.form_row.Reads as form-row-reads
-use Rattle.turns.proofs.lengths.worst_of.Reads as worst-of-reads
-use Rattle.turns.proofs.turns.turn_back.Reads as turn-back-reads
-use Rattle.turns.proofs.turns.turn_numbered.Reads as turn-numbered-reads
-use Rattle.turns.proofs.turns.turn_own.Reads as turn-own-reads
 
--- src/turns.rt:154:9
 form-row-requires : tie.Need-form-row-requires
 form-row-requires c κs = search needs
 
--- src/turns.rt:159:19
 enum-told : tie.Need-enum-told
 enum-told c = search needs
 
--- src/turns.rt:159:19
 worst-of-requires : tie.Need-worst-of-requires
 worst-of-requires c κs =
     (c .before .before .before .before .pre .0, ((omega arith, c .before .before .before .before .pre .1 .0 .long), nowhere-accepts (c .before .before .before .before .args .form) (rw (c .before .before .form-row .ensures) at (c .enum-told .given .1)) 0))
 
--- src/turns.rt:161:25
 enum-told-2 : tie.Need-enum-told-2
 enum-told-2 c = search needs
 
--- src/turns.rt:161:25
 turn-own-requires : tie.Need-turn-own-requires
 turn-own-requires c κs = search needs
 
--- src/turns.rt:163:16
 enum-told-3 : tie.Need-enum-told-3
 enum-told-3 c = search needs
 
--- src/turns.rt:164:17
 turn-back-requires : tie.Need-turn-back-requires
 turn-back-requires c κs = search needs
 
--- src/turns.rt:164:17
 returns : tie.Need-returns
 returns c =
-    let a = c .before .before .before .before .before .before .args in by-back (a .kinds .now) (a .longest) (a .form) (a .d) (a .settings) (a .next) (rw (c .before .before .before .before .form-row .ensures) at (c .before .before .enum-told3 .given .1)) (c .before .if1 .taken) (c .turn-back .ensures)
+    let a = c .before .before .before .before .before .before .args in
+    by-back (a .kinds .now) (a .longest) (a .form) (a .d) (a .settings) (a .next) (rw (c .before .before .before .before .form-row .ensures) at (c .before .before .enum-told3 .given .1)) (c .before .if1 .taken) (c .turn-back .ensures)
 
--- src/turns.rt:166:13
 turn-own-requires-2 : tie.Need-turn-own-requires-2
 turn-own-requires-2 c κs = search needs
 
--- src/turns.rt:168:33
 enum-told-4 : tie.Need-enum-told-4
 enum-told-4 c = search needs
 
--- src/turns.rt:168:33
 turn-numbered-requires : tie.Need-turn-numbered-requires
 turn-numbered-requires c κs = search needs
 
--- src/turns.rt:141:1
 returns-2 : tie.Need-returns-2
 returns-2 c =
-    let a = c .before .before .before .before .before .args in by-nowhere (a .kinds .now) (a .longest) (a .form) (a .d) (a .settings) (a .next) (rw (c .before .before .before .form-row .ensures) at (c .before .enum-told .given .1)) (c .worst-of .ensures)
+    let a = c .before .before .before .before .before .args in
+    by-nowhere (a .kinds .now) (a .longest) (a .form) (a .d) (a .settings) (a .next) (rw (c .before .before .before .form-row .ensures) at (c .before .enum-told .given .1)) (c .worst-of .ensures)
 
--- src/turns.rt:141:1
 returns-3 : tie.Need-returns-3
 returns-3 c =
-    let a = c .before .before .before .before .before .args in by-next (a .kinds .now) (a .longest) (a .form) (a .d) (a .settings) (a .next) (rw (c .before .before .before .form-row .ensures) at (c .before .enum-told2 .given .1)) (c .turn-own .ensures)
+    let a = c .before .before .before .before .before .args in
+    by-next (a .kinds .now) (a .longest) (a .form) (a .d) (a .settings) (a .next) (rw (c .before .before .before .form-row .ensures) at (c .before .enum-told2 .given .1)) (c .turn-own .ensures)
 
--- src/turns.rt:141:1
 returns-4 : tie.Need-returns-4
 returns-4 c =
-    let a = c .before .before .before .before .before .before .args in by-no-back (a .kinds .now) (a .longest) (a .form) (a .d) (a .settings) (a .next) (rw (c .before .before .before .before .form-row .ensures) at (c .before .before .enum-told3 .given .1)) (c .before .if1 .left) (c .turn-own2 .ensures)
+    let a = c .before .before .before .before .before .before .args in
+    by-no-back (a .kinds .now) (a .longest) (a .form) (a .d) (a .settings) (a .next) (rw (c .before .before .before .before .form-row .ensures) at (c .before .before .enum-told3 .given .1)) (c .before .if1 .left) (c .turn-own2 .ensures)
 
--- src/turns.rt:141:1
 returns-5 : tie.Need-returns-5
 returns-5 c =
-    let a = c .before .before .before .before .before .args in by-number (a .kinds .now) (a .longest) (a .form) (a .d) (a .settings) (a .next) (rw (c .before .before .before .form-row .ensures) at (c .before .enum-told4 .given .1)) (c .turn-numbered .ensures)
+    let a = c .before .before .before .before .before .args in
+    by-number (a .kinds .now) (a .longest) (a .form) (a .d) (a .settings) (a .next) (rw (c .before .before .before .form-row .ensures) at (c .before .enum-told4 .given .1)) (c .turn-numbered .ensures)
 
 pub turn-settled-spec : {M : Type 1} → statement M
 turn-settled-spec =

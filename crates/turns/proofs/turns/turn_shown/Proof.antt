@@ -1,36 +1,29 @@
-use Rattle.turns.proofs.TurnBy.{shown-yes, shown-no}
+-- `turn_shown` meets its contract: by whether the kind is taken. Assumes nothing.
 use mathlib.Core.Path.{sym, _∙_}
 use borrow.Author.Needs.{needs}
+use Rattle.turns.proofs.TurnBy.{shown-yes, shown-no}
 use Rattle.turns.proofs.turns.turn_shown.Statement.{statement}
 use Rattle.turns.proofs.turns.turn_shown.Tie as tie
-use Rattle.turns.proofs.turns.turn_shown.Reads as reads
-use Rattle.turns.proofs.turns.turn_shown.Lts as lts
-use Rattle.fitting.proofs.rows.takes_kind.Reads as takes-kind-reads
-use Rattle.rules.proofs.scalars.wide.Reads as wide-reads
-use Rattle.turns.proofs.lengths.worst_of.Reads as worst-of-reads
 
--- src/turns.rt:66:25
 wide-requires : tie.Need-wide-requires
 wide-requires c κs = search needs
 
--- src/turns.rt:66:8
 takes-kind-requires : tie.Need-takes-kind-requires
 takes-kind-requires c κs = search needs
 
--- src/turns.rt:69:19
 worst-of-requires : tie.Need-worst-of-requires
 worst-of-requires c κs =
     (c .before .before .before .pre .0, (c .before .before .before .pre .1, rw (c .before .before .wide .ensures .0) at (sym (c .before .takes-kind .ensures) ∙ c .if1 .taken)))
 
--- src/turns.rt:67:9
 returns : tie.Need-returns
 returns c =
-    let a = c .before .before .before .before .args in shown-yes (a .longest) (a .form) (a .d) (a .settings) (a .kind) (a .after) (rw (c .before .before .before .wide .ensures .0) at (sym (c .before .before .takes-kind .ensures) ∙ c .before .if1 .taken)) (c .worst-of .ensures)
+    let a = c .before .before .before .before .args in
+    shown-yes (a .longest) (a .form) (a .d) (a .settings) (a .kind) (a .after) (rw (c .before .before .before .wide .ensures .0) at (sym (c .before .before .takes-kind .ensures) ∙ c .before .if1 .taken)) (c .worst-of .ensures)
 
--- src/turns.rt:54:1
 returns-2 : tie.Need-returns-2
 returns-2 c =
-    let a = c .before .before .before .args in shown-no (a .longest) (a .form) (a .d) (a .settings) (a .kind) (a .after) (rw (c .before .before .wide .ensures .0) at (sym (c .before .takes-kind .ensures) ∙ c .if1 .left))
+    let a = c .before .before .before .args in
+    shown-no (a .longest) (a .form) (a .d) (a .settings) (a .kind) (a .after) (rw (c .before .before .wide .ensures .0) at (sym (c .before .takes-kind .ensures) ∙ c .if1 .left))
 
 pub turn-shown-spec : {M : Type 1} → statement M
 turn-shown-spec =

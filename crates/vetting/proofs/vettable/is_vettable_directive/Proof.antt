@@ -1,58 +1,42 @@
-use Rattle.vetting.proofs.Places.{directive-vettable}
+-- `is_vettable_directive` meets its contract: the code and the five parameters. Assumes nothing.
 use borrow.Author.Needs.{needs}
+use Rattle.vetting.proofs.Places.{directive-vettable}
 use Rattle.vetting.proofs.vettable.is_vettable_directive.Statement.{statement}
 use Rattle.vetting.proofs.vettable.is_vettable_directive.Tie as tie
-use Rattle.vetting.proofs.vettable.is_vettable_directive.Reads as reads
-use Rattle.vetting.proofs.vettable.is_vettable_directive.Lts as lts
-use Rattle.rules.proofs.scalars.both.Reads as both-reads
-use Rattle.vetting.proofs.vettable.is_fixed.Reads as is-fixed-reads
-use Rattle.vetting.proofs.vettable.is_vettable_code.Reads as is-vettable-code-reads
 
--- src/vettable.rt:61:21
 is-fixed-requires : tie.Need-is-fixed-requires
 is-fixed-requires c κs = search needs
 
--- src/vettable.rt:61:35
 is-fixed-requires-2 : tie.Need-is-fixed-requires-2
 is-fixed-requires-2 c κs = search needs
 
--- src/vettable.rt:61:9
 both-requires : tie.Need-both-requires
 both-requires c κs = search needs
 
--- src/vettable.rt:62:28
 is-fixed-requires-3 : tie.Need-is-fixed-requires-3
 is-fixed-requires-3 c κs = search needs
 
--- src/vettable.rt:62:47
 is-fixed-requires-4 : tie.Need-is-fixed-requires-4
 is-fixed-requires-4 c κs = search needs
 
--- src/vettable.rt:62:42
 both-requires-2 : tie.Need-both-requires-2
 both-requires-2 c κs = search needs
 
--- src/vettable.rt:62:9
 both-requires-3 : tie.Need-both-requires-3
 both-requires-3 c κs = search needs
 
--- src/vettable.rt:63:20
 is-fixed-requires-5 : tie.Need-is-fixed-requires-5
 is-fixed-requires-5 c κs = search needs
 
--- src/vettable.rt:63:9
 both-requires-4 : tie.Need-both-requires-4
 both-requires-4 c κs = search needs
 
--- src/vettable.rt:64:10
 is-vettable-code-requires : tie.Need-is-vettable-code-requires
 is-vettable-code-requires c κs = search needs
 
--- src/vettable.rt:64:5
 both-requires-5 : tie.Need-both-requires-5
 both-requires-5 c κs = search needs
 
--- src/vettable.rt:51:1
 returns : tie.Need-returns
 returns c =
     directive-vettable (c .before .before .before .before .before .before .before .before .before .before .before .before .args .d) (c .before .is-vettable-code .ensures)

@@ -1,39 +1,28 @@
-use Rattle.working.proofs.WorkLaws.{no-remaining}
+-- `work_remaining` meets its contract: only a number place takes `#`. Assumes nothing.
 use borrow.Author.Needs.{needs}
+use Rattle.working.proofs.WorkLaws.{no-remaining}
 use Rattle.working.proofs.places.work_remaining.Statement.{statement}
 use Rattle.working.proofs.places.work_remaining.Tie as tie
-use Rattle.working.proofs.places.work_remaining.Reads as reads
-use Rattle.working.proofs.places.work_remaining.Lts as lts
-use Rattle.rules.proofs.scalars.widened.Reads as widened-reads
-use Rattle.working.proofs.arguments.remaining.Reads as remaining-reads
-use Rattle.working.proofs.places.in_range.Reads as in-range-reads
 
--- src/places.rt:136:9
 remaining-requires : tie.Need-remaining-requires
 remaining-requires c κs = search needs
 
--- src/places.rt:138:25
 enum-known-place : tie.Need-enum-known-place
 enum-known-place c = search needs
 
--- src/places.rt:138:54
 widened-requires : tie.Need-widened-requires
 widened-requires c κs = search needs
 
--- src/places.rt:138:70
 widened-requires-2 : tie.Need-widened-requires-2
 widened-requires-2 c κs = search needs
 
--- src/places.rt:138:42
 in-range-requires : tie.Need-in-range-requires
 in-range-requires c κs = search needs
 
--- src/places.rt:132:1
 returns : tie.Need-returns
 returns c =
     rw (c .before .before .before .before .place .given .1) (rw (c .before .before .widened .ensures .0, c .before .widened2 .ensures .0, c .before .before .before .before .before .before .remaining .ensures) at (c .in-range .ensures))
 
--- src/places.rt:132:1
 returns-2 : tie.Need-returns-2
 returns-2 c =
     let a = c .before .before .args in

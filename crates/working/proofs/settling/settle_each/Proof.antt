@@ -1,62 +1,46 @@
-use Rattle.working.proofs.SettleLaws.{still-reaches, first-wrong, second-wrong, five-settled}
+-- `settle_each` meets its contract: each way out is a law of SettleLaws. Assumes nothing.
 use borrow.Author.Needs.{needs}
+use Rattle.working.proofs.SettleLaws.{still-reaches, first-wrong, second-wrong, five-settled}
 use Rattle.working.proofs.settling.settle_each.Statement.{statement}
 use Rattle.working.proofs.settling.settle_each.Tie as tie
-use Rattle.working.proofs.settling.settle_each.Reads as reads
-use Rattle.working.proofs.settling.settle_each.Lts as lts
-use Rattle.working.proofs.places.work_out.Reads as work-out-reads
-use Rattle.working.proofs.settling.refusal.Reads as refusal-reads
-use Rattle.working.proofs.settling.settle_last.Reads as settle-last-reads
 
--- src/settling.rt:156:9
 work-out-requires : tie.Need-work-out-requires
 work-out-requires c κs = search needs
 
--- src/settling.rt:158:18
 enum-known-a : tie.Need-enum-known-a
 enum-known-a c = search needs
 
--- src/settling.rt:162:9
 enum-told : tie.Need-enum-told
 enum-told c = search needs
 
--- src/settling.rt:162:9
 refusal-requires : tie.Need-refusal-requires
 refusal-requires c κs = search needs
 
--- src/settling.rt:162:9
 returns : tie.Need-returns
 returns c =
     rw (c .refusal .ensures) (first-wrong _ (c .before .before .before .work-out .ensures) (c .before .before .match .keys2))
 
--- src/settling.rt:164:9
 work-out-requires-2 : tie.Need-work-out-requires-2
 work-out-requires-2 c κs =
     (c .before .before .before .before .before .pre .0 .second, still-reaches (c .before .before .before .work-out .ensures) (c .before .a .given .1))
 
--- src/settling.rt:166:18
 enum-known-b : tie.Need-enum-known-b
 enum-known-b c = search needs
 
--- src/settling.rt:170:9
 enum-told-2 : tie.Need-enum-told-2
 enum-told-2 c = search needs
 
--- src/settling.rt:170:9
 refusal-requires-2 : tie.Need-refusal-requires-2
 refusal-requires-2 c κs = search needs
 
--- src/settling.rt:170:9
 returns-2 : tie.Need-returns-2
 returns-2 c =
     rw (c .refusal2 .ensures) (second-wrong (c .before .before .before .before .before .before .before .work-out .ensures) (c .before .before .before .before .before .a .given .1) _ (c .before .before .before .work-out2 .ensures) (c .before .before .match2 .keys2))
 
--- src/settling.rt:172:5
 settle-last-requires : tie.Need-settle-last-requires
 settle-last-requires c κs =
     (c .before .before .before .before .before .before .before .before .before .pre .0, still-reaches (c .before .before .before .work-out2 .ensures) (c .before .b .given .1))
 
--- src/settling.rt:141:1
 returns-3 : tie.Need-returns-3
 returns-3 c =
     five-settled (c .before .before .before .before .before .before .before .before .work-out .ensures) (c .before .before .before .before .before .before .a .given .1) (c .before .before .before .before .work-out2 .ensures) (c .before .before .b .given .1) (c .settle-last .ensures)
