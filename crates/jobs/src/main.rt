@@ -98,16 +98,36 @@ fn answer_chunk(
     }
 }
 
-// A last line may lack its newline.
-fn finish(line: &[u8], frame: &mut [u8], text: &mut [u8], out: &mut [u8])
+// What a read that brought nothing means for the line that is held. Interrupted, it is made again; where it failed, the
+// line is cut off and is not answered; at the end of the input it is the last line, which may lack its newline.
+fn read_nothing(got: isize, line: &[u8], frame: &mut [u8], text: &mut [u8], out: &mut [u8]) -> Stand
+    requires { ⌜ length (now line) ≤ 65536 ⌝ }
     requires { ⌜ (length (now frame) ≡ 32768) × (length (now text) ≡ 16384) ⌝ }
     requires { ⌜ length (now out) ≡ 131072 ⌝ }
+    ensures { λ r. ⌜ r .held ≤ 65536 ⌝ }
 {
+    if is_interrupted(got) {
+        return Stand {
+            held: line.len(),
+            ended: false,
+        };
+    }
+    if got < 0 {
+        tell_unread(line.len());
+        return Stand {
+            held: 0,
+            ended: true,
+        };
+    }
     let filled = answer_last(line, frame, text, out);
     write_answers(&out[0..filled]);
+    Stand {
+        held: 0,
+        ended: true,
+    }
 }
 
-// One read of the input. A line that a failing read cuts off is not answered: nothing is held of it.
+// One read of the input.
 fn turn(line: &mut [u8], held: usize, frame: &mut [u8], text: &mut [u8], out: &mut [u8]) -> Stand
     requires { ⌜ (length (now line) ≡ 65536) × (held ≤ 65536) ⌝ }
     requires { ⌜ (length (now frame) ≡ 32768) × (length (now text) ≡ 16384) ⌝ }
@@ -116,26 +136,9 @@ fn turn(line: &mut [u8], held: usize, frame: &mut [u8], text: &mut [u8], out: &m
 {
     let mut chunk = [0u8; 65536];
     let got = libc::read(libc::STDIN_FILENO, &mut chunk);
-    if is_interrupted(got) {
-        return Stand {
-            held: held,
-            ended: false,
-        };
-    }
-    if got < 0 {
-        tell_unread(held);
-        return Stand {
-            held: 0,
-            ended: true,
-        };
-    }
     let n = io::count(got, &chunk);
     if n == 0 {
-        finish(&line[0..held], frame, text, out);
-        return Stand {
-            held: 0,
-            ended: true,
-        };
+        return read_nothing(got, &line[0..held], frame, text, out);
     }
     answer_chunk(&chunk[0..n], line, held, frame, text, out)
 }
