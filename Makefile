@@ -36,7 +36,7 @@ override VERSION := $(shell sed -n 's/^.define TILDE_VERSION "\(.*\)"$$/\1/p' in
 SONAME := libtilde.so.$(firstword $(subst ., ,$(VERSION)))
 SHARED := libtilde.so.$(VERSION)
 # When the manual was last changed.
-DATE := 2026-11-16
+DATE := 2026-11-17
 
 # What is installed. A manual page of section 3 has a link for each other name in its NAME.
 PROGRAMS := build/tilde build/tilde-jobs
