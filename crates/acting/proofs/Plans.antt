@@ -6,7 +6,7 @@ use mathlib.Core.List.{List}
 use Rattle.rules.specs.Rows.{wellWritten, accepts}
 use Rattle.rules.specs.Table.{meant, viewOf}
 use Rattle.rules.specs.Piece.{textOf, kindOf}
-use Rattle.rules.specs.Working.{Source, sourceOf}
+use Rattle.rules.specs.Working.{WellSet, Source, sourceOf}
 use Rattle.rules.specs.Run.{Flow, refused, put, writeFrom}
 use Rattle.rules.specs.declared.Argument.{Argument}
 use Rattle.rules.specs.declared.ArgumentPosition.{ArgumentPosition}
@@ -14,7 +14,7 @@ use Rattle.rules.specs.declared.Code.the-variants.{Writes}
 use Rattle.rules.specs.declared.Directive.{Directive}
 use Rattle.rules.specs.declared.Form.{Form}
 use Rattle.rules.specs.declared.Settings.{Settings}
-use Rattle.pieces.specs.Given.{Worked, Reachable}
+use Rattle.pieces.specs.Given.{Reachable}
 use Rattle.working.specs.Settling.{SettlesDirective, handAt}
 use Rattle.working.specs.declared.arguments.Hand.{Hand}
 use Rattle.working.specs.declared.settling.SettledOut.{SettledOut}
@@ -40,7 +40,7 @@ module _ (form : Form) (colon : Bool) (s : Settings) {t : List ℕ} {hand : Hand
   plans-none q = record { as-defined = λ d p m on. same-source d p m on ∙ taken-none k p m form d s on q; reaches = tt }
 
   module _ {x : Argument} {next : ArgumentPosition} (q : taken ≡ TakenIs x next) where
-    pub plans-shown : Worked form s → accepts form (kindOf (meant t x)) ≡ true → PlansSettled t form colon s hand i (Shows s x next)
+    pub plans-shown : WellSet form s → accepts form (kindOf (meant t x)) ≡ true → PlansSettled t form colon s hand i (Shows s x next)
     plans-shown w h =
         record {
           as-defined =
@@ -92,7 +92,7 @@ module _ {t : List ℕ} {form : Form} {d : Directive} {hand : Hand} {next : ℕ}
 
 -- what a directive learns from its plan
 module _ {t : List ℕ} {form : Form} {colon : Bool} {s : Settings} {hand : Hand} {i : ℕ} {r : Planned} (k : PlansSettled t form colon s hand i r) where
-  pub shown-reaches : {s′ : Settings} {x : Argument} {next : ArgumentPosition} → r ≡ Shows s′ x next → Worked form s′ × (Reachable t x × (next .0 ≤ hand .count))
+  pub shown-reaches : {s′ : Settings} {x : Argument} {next : ArgumentPosition} → r ≡ Shows s′ x next → WellSet form s′ × (Reachable t x × (next .0 ≤ hand .count))
   shown-reaches q = subst (PlanReaches t form (hand .count)) q (k .reaches)
 
   module _ (d : Directive) (p m : ℕ) (on : ℕ → Flow) where

@@ -1,26 +1,28 @@
 -- What the parts of a directive that writes know of its argument and its parameters. Assumes nothing.
 use Prim.Native.Nat.{ℕ, _+_, _-_, _≤_, _<_}
 use mathlib.Core.Path.{_≡_, refl, sym, ap, subst, _∙_}
-use mathlib.Core.List.{List, [], _∷_}
+use mathlib.Core.List.{List}
 use native.Mathlib.Omega.{arith}
 use Rattle.rules.specs.Directive.{FormRight}
 use Rattle.rules.specs.Rows.{anyNumber, formRow, formPlaces}
 use Rattle.rules.specs.declared.Place.the-variants.{Number as NumberPlace}
 use Rattle.rules.specs.Table.{Value, Holds, meant, viewOf}
 use Rattle.rules.specs.Piece.{orElse}
-use Rattle.rules.specs.Working.{argumentIn, InPlace, InPlaces}
+use Rattle.rules.specs.Working.{argumentIn, InPlace, InPlaces, WellSet}
 use Rattle.rules.specs.Run.{Flow, refused, write, writeFrom}
 use Rattle.rules.specs.declared.Argument.{Argument}
 use Rattle.rules.specs.declared.Argument.the-variants.{Boolean, Integer, Character, Text, Entries}
 use Rattle.rules.specs.declared.ArgumentPosition.{ArgumentPosition}
 use Rattle.rules.specs.declared.Directive.{Directive}
 use Rattle.rules.specs.declared.Form.{Form}
-use Rattle.rules.specs.declared.Form.the-variants.{Object, Numeral, Glyph, Plural, Repeat, Fold}
+use Rattle.rules.specs.declared.Origin.{Origin}
+use Rattle.rules.specs.declared.Origin.the-variants.{Nowhere, Next as NextArgument, NextOrBack, NextOrNumber}
 use Rattle.rules.specs.declared.Setting.{Setting}
 use Rattle.rules.specs.declared.Setting.the-variants.{Absent, Is}
 use Rattle.rules.specs.declared.Settings.{Settings}
 use Rattle.rules.proofs.AnswerLaws.{text-fits, text-short}
-use Rattle.pieces.specs.Given.{Worked, Reachable}
+use Rattle.rules.proofs.FormLaws.{takes-number}
+use Rattle.pieces.specs.Given.{Reachable}
 use Rattle.working.specs.Settling.{handAt}
 use Rattle.working.specs.declared.arguments.Hand.{Hand}
 use Rattle.acting.specs.declared.planning.Source.{Source}
@@ -91,19 +93,20 @@ coded : (x : Setting) → InPlace (NumberPlace 0 127) x → Coded x
 coded Absent a = tt
 coded (Is n) a = a .1
 
--- only of a character is the first parameter its number
-pub origin-right : (f : Form) {s : Settings} → Worked f s → OriginRight (formRow f .origin) s
-origin-right (Object q) w = tt
-origin-right (Numeral b) w = tt
-origin-right Glyph {s} w = coded (s .first) (w .places .first)
-origin-right Plural w = tt
-origin-right (Repeat b) w = tt
-origin-right Fold w = tt
+-- where the first parameter may be a character's number, it is one
+pub origin-right : (f : Form) {s : Settings} → WellSet f s → OriginRight (formRow f .origin) s
+origin-right f {s} w = by (formRow f .origin) refl
+  where
+    by : (o : Origin) → formRow f .origin ≡ o → OriginRight o s
+    by Nowhere e = tt
+    by NextArgument e = tt
+    by NextOrBack e = tt
+    by NextOrNumber e = coded (s .first) (rw (takes-number f e .place) at (w .places .first))
 
 pub coded-fits : {x : Setting} {n : ℕ} → x ≡ Is n → Coded x → n ≤ 127
 coded-fits e c = subst Coded e c
 
-pub worked-in : (f : Form) (s : Settings) → FormRight f → InPlaces (formPlaces f) s → Worked f s
+pub worked-in : (f : Form) (s : Settings) → FormRight f → InPlaces (formPlaces f) s → WellSet f s
 worked-in f s b h = record { base = b; places = h }
 
 pub numbered : (x : Setting) → InPlace anyNumber x → Numbered x

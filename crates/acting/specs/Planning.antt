@@ -6,7 +6,7 @@ use mathlib.Core.List.{List}
 use Prim.Native.Nat.{ℕ, _≤_}
 use Rattle.rules.specs.Table.{Value, meant, viewOf}
 use Rattle.rules.specs.Piece.{textOf}
-use Rattle.rules.specs.Working.{Source, own, back, given, sourceOf}
+use Rattle.rules.specs.Working.{WellSet, Source, own, back, given, sourceOf}
 use Rattle.rules.specs.Run.{Flow, refused, put, write, writeFrom, itemActs}
 use Rattle.rules.specs.declared.Directive.{Directive}
 use Rattle.rules.specs.declared.Form.{Form}
@@ -16,7 +16,7 @@ use Rattle.rules.specs.declared.Origin.the-variants.{Nowhere, Next as NextArgum
 use Rattle.rules.specs.declared.Setting.{Setting}
 use Rattle.rules.specs.declared.Setting.the-variants.{Absent, Is}
 use Rattle.rules.specs.declared.Settings.{Settings}
-use Rattle.pieces.specs.Given.{Worked, Reachable}
+use Rattle.pieces.specs.Given.{Reachable}
 use Rattle.working.specs.Settling.{handAt}
 use Rattle.working.specs.declared.arguments.Hand.{Hand}
 use Rattle.acting.specs.declared.planning.Planned.{Planned}
@@ -76,7 +76,7 @@ onPlanned t form d p m on (Wrong code) = refused code p m
 
 -- what a piece is made from, and the next argument is one of those in hand or the end of them
 abbrev pub PlanReaches : List ℕ → Form → ℕ → Planned → Type 0
-PlanReaches t form count (Shows s x next) = Worked form s × (Reachable t x × (next .0 ≤ count))
+PlanReaches t form count (Shows s x next) = WellSet form s × (Reachable t x × (next .0 ≤ count))
 PlanReaches t form count (Wrong code) = Unit {0}
 
 -- what planning by parameters s that are worked out promises of its answer r. Of the directive d only the colon has a

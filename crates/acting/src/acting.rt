@@ -25,12 +25,11 @@ ghost use Prim.Native.Nat.{ℕ, _≤_, _<_};
 ghost use lib.ListN.{length};
 ghost use Rattle.rules.specs.Directive.{FormRight};
 ghost use Rattle.rules.specs.Table.{View, viewOf};
-ghost use Rattle.rules.specs.Working.{sourceOf as sourceIn};
+ghost use Rattle.rules.specs.Working.{WellSet, sourceOf as sourceIn};
 ghost use Rattle.rules.specs.Run.{put, writeFrom, jumpTo, itemActs};
 ghost use Rattle.rules.specs.Run.{jump as jumping};
 ghost use Rattle.rules.specs.declared.Item.the-variants.{Written};
 ghost use Rattle.pieces.specs.Bytes.{Good, bytesOf};
-ghost use Rattle.pieces.specs.Given.{Worked};
 ghost use Rattle.working.specs.Settling.{InHand, handAt};
 ghost use Rattle.acting.specs.Ran.{hand};
 ghost use Rattle.acting.specs.Acting.{JumpSet, Performed, Untouched};
@@ -73,7 +72,7 @@ pub fn write_form(
     i: ArgumentPosition,
     out: &mut [u8],
 ) -> Ran
-    requires { ⌜ Worked form settings ⌝ }
+    requires { ⌜ WellSet form settings ⌝ }
     requires { ⌜ InHand (now table) hand ⌝ }
     requires { ⌜ spot .at ≤ length (now out) ⌝ }
     requires { ⌜ i .0 ≤ hand .count ⌝ }

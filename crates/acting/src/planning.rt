@@ -21,8 +21,7 @@ ghost use Prim.Native.Nat.{ℕ, _≤_};
 ghost use Rattle.rules.specs.Directive.{FormRight};
 ghost use Rattle.rules.specs.Table.{meant};
 ghost use Rattle.rules.specs.Piece.{kindOf};
-ghost use Rattle.rules.specs.Working.{glyphSource, sourceBy, sourceOf as sourceIn};
-ghost use Rattle.pieces.specs.Given.{Worked};
+ghost use Rattle.rules.specs.Working.{WellSet, glyphSource, sourceBy, sourceOf as sourceIn};
 ghost use Rattle.working.specs.Settling.{InHand};
 ghost use Rattle.acting.specs.Planning.{sourceAs, SourceReachable, Takes, Coded, OriginRight, PlansSettled, Plans};
 
@@ -66,7 +65,7 @@ fn source_by(origin: Origin, colon: bool, settings: Settings) -> Source
 }
 
 fn source_of(form: Form, colon: bool, settings: Settings) -> Source
-    requires { ⌜ Worked form settings ⌝ }
+    requires { ⌜ WellSet form settings ⌝ }
     ensures { λ r. ⌜ ((t : List ℕ) → sourceAs t r ≡ sourceIn form colon settings) ⌝ }
     ensures { λ r. ⌜ ((t : List ℕ) → SourceReachable t r) ⌝ }
 {
@@ -145,7 +144,7 @@ pub fn plan_settled(
     hand: Hand,
     i: ArgumentPosition,
 ) -> Planned
-    requires { ⌜ Worked form settings ⌝ }
+    requires { ⌜ WellSet form settings ⌝ }
     requires { ⌜ InHand (now table) hand ⌝ }
     requires { ⌜ i .0 ≤ hand .count ⌝ }
     ensures { λ r. ⌜ PlansSettled (now (table .entry)) form colon settings hand (i .0) r ⌝ }

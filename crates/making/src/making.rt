@@ -25,8 +25,9 @@ ghost use Prim.Native.Nat.{ℕ, _-_};
 ghost use Rattle.rules.specs.Number.{digitsOf, magnitudeOf, signOf};
 ghost use Rattle.rules.specs.Piece.{bareOf, objectOf, digitsIn, numeralOf, integerIn, codeIn, isOne, textOf};
 ghost use Rattle.rules.specs.Table.{string, meant};
+ghost use Rattle.rules.specs.Working.{WellSet};
 ghost use Rattle.pieces.specs.Bytes.{part, Makes, Gives};
-ghost use Rattle.pieces.specs.Given.{Worked, StringIn, Reachable};
+ghost use Rattle.pieces.specs.Given.{StringIn, Reachable};
 
 // A string of the table, as it is or in quotes.
 fn string_body(quoted: bool, start: usize, end: usize, table: &[u8]) -> Body
@@ -77,7 +78,7 @@ fn make_object(
     argument: Argument,
     table: &[u8],
 ) -> Piece
-    requires { ⌜ Worked (Form.Object quoted) settings ⌝ }
+    requires { ⌜ WellSet (Form.Object quoted) settings ⌝ }
     requires { ⌜ Reachable (now table) argument ⌝ }
     ensures { λ r. ⌜ Gives (now (table .entry)) r (objectOf quoted at settings (meant (now (table .entry)) argument)) ⌝ }
 {
@@ -99,7 +100,7 @@ fn make_object(
 
 // The text of ~d, ~x, ~o and ~b before padding.
 fn numeral_body(base: u64, colon: bool, at: bool, settings: Settings, x: i64) -> Body
-    requires { ⌜ Worked (Form.Numeral base) settings ⌝ }
+    requires { ⌜ WellSet (Form.Numeral base) settings ⌝ }
     ensures { λ r. ⌜ ((t : List ℕ) → Makes t r (signOf at x ++ digitsIn colon settings (digitsOf base (magnitudeOf x)))) ⌝ }
 {
     let third = settings.third;
@@ -114,7 +115,7 @@ fn numeral_body(base: u64, colon: bool, at: bool, settings: Settings, x: i64) ->
 
 // ~d, ~x, ~o and ~b: padding stands left of the sign.
 fn make_numeral(base: u64, colon: bool, at: bool, settings: Settings, x: i64) -> Piece
-    requires { ⌜ Worked (Form.Numeral base) settings ⌝ }
+    requires { ⌜ WellSet (Form.Numeral base) settings ⌝ }
     ensures { λ r. ⌜ ((t : List ℕ) → Gives t r (numeralOf base colon at settings x)) ⌝ }
 {
     let first = settings.first;
@@ -171,7 +172,7 @@ pub fn make_piece(
     argument: Argument,
     table: &[u8],
 ) -> Piece
-    requires { ⌜ Worked form settings ⌝ }
+    requires { ⌜ WellSet form settings ⌝ }
     requires { ⌜ Reachable (now table) argument ⌝ }
     ensures { λ r. ⌜ Gives (now (table .entry)) r (textOf form colon at settings (meant (now (table .entry)) argument)) ⌝ }
 {

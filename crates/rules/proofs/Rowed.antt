@@ -1,20 +1,21 @@
 -- Parameters that suit the places of their directive, and what they are worked out to. Assumes nothing.
-use Prim.Native.Nat.{ℕ}
+use Prim.Native.Nat.{ℕ, _≤_}
 use mathlib.Core.Path.{_≡_, refl}
 use mathlib.Core.Bool.{true}
 use mathlib.Core.List.{[], _∷_}
 use lib.Dec.{leb}
 use Rattle.rules.specs.Rows.{noPlaces, rowIn, placesIn, takes, suits, inRow, inOrder, eachSuits, fitInto, wellWritten}
+use Rattle.rules.specs.Piece.{orElse}
 use Rattle.rules.specs.Table.{View}
-use Rattle.rules.specs.Working.{Context, workOut, settled, settle, settleAll}
+use Rattle.rules.specs.Working.{Context, workOut, settled, settle, settleAll, InPlaceBy}
 use Rattle.rules.specs.declared.Directive.{Directive}
 use Rattle.rules.specs.declared.Parameter.{Parameter}
 use Rattle.rules.specs.declared.Parameter.the-variants.{Default, Number, Character, Next, Remaining}
 use Rattle.rules.specs.declared.Parameters.{Parameters}
-use Rattle.rules.specs.declared.Place.{Place}
-use Rattle.rules.specs.declared.Place.the-variants.{Empty}
+use Rattle.rules.specs.declared.Place.the-variants.{Empty, Number as NumberPlace}
 use Rattle.rules.specs.declared.Places.{Places}
-use Rattle.rules.specs.declared.Setting.the-variants.{Absent}
+use Rattle.rules.specs.declared.Setting.{Setting}
+use Rattle.rules.specs.declared.Setting.the-variants.{Absent, Is}
 use Rattle.rules.proofs.Tests.{both-true, not-both-ways}
 
 -- a well-written directive's parameters suit its places
@@ -61,3 +62,13 @@ none-settled v c ps next e =
       empty-default (ps .fourth) (s .fourth),
       empty-default (ps .fifth) (s .fifth),
     )
+
+-- a setting in a number place, or a default in its range
+module _ (P : ℕ → Type 0) (least most : ℕ) where
+  pub number-least : (x : Setting) (n : ℕ) → InPlaceBy P (NumberPlace least most) x → least ≤ n → least ≤ orElse x n
+  number-least Absent n a h = h
+  number-least (Is k) n a h = a .0
+
+  pub number-most : (x : Setting) (n : ℕ) → InPlaceBy P (NumberPlace least most) x → n ≤ most → orElse x n ≤ most
+  number-most Absent n a h = h
+  number-most (Is k) n a h = a .1

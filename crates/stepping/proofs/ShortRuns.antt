@@ -14,7 +14,7 @@ use Rattle.rules.specs.declared.Place.the-variants.{Character as CharacterPlace
 use Rattle.rules.specs.declared.Places.{Places}
 use Rattle.rules.specs.Table.{View}
 use Rattle.rules.specs.Text.{Level}
-use Rattle.rules.specs.Working.{Context, workOut, settle, settleAll, InPlace, InPlaces, Source, own, sourceOf}
+use Rattle.rules.specs.Working.{Context, workOut, settle, settleAll, InPlace, InPlaces, WellSet, Source, own, sourceOf}
 use Rattle.rules.specs.Run.{Flow, refused, onSettled, writeFrom}
 use Rattle.rules.specs.declared.Directive.{Directive}
 use Rattle.rules.specs.declared.Form.{Form}
@@ -27,7 +27,6 @@ use Rattle.rules.proofs.RunLaws.{choose-no}
 use Rattle.rules.proofs.Tests.{both-true}
 use Rattle.reader.specs.Shorts.{settingOf, shortForm, shortParameters, shortDirective, NumberIn, CharacterIn, NoneIn, ShortIn}
 use Rattle.reader.proofs.ShortLaws.{short-well}
-use Rattle.pieces.specs.Given.{Worked}
 use Rattle.acting.specs.declared.state.Ran.{Ran}
 use Rattle.acting.specs.declared.state.Spot.{Spot}
 use Rattle.rules.specs.Directive.{FormRight}
@@ -59,7 +58,7 @@ in-range (Repeat b) x Absent s = record { first = in-number x (s .0); second = t
 in-range (Repeat b) x (Is c) s = absurd (s .1)
 in-range Fold x y s = absurd s
 
-pub short-worked : (f : Form) (x y a c : Setting) (g : Form) → a ≡ x → c ≡ y → g ≡ f → FormRight f → ShortIn f x y → Worked g (shortSettings a c)
+pub short-worked : (f : Form) (x y a c : Setting) (g : Form) → a ≡ x → c ≡ y → g ≡ f → FormRight f → ShortIn f x y → WellSet g (shortSettings a c)
 short-worked f x y a c g q w k b s = rw (q, w, k) (worked-in f (shortSettings x y) b (in-range f x y s))
 
 -- both are written out, so they are worked out to themselves whatever their places

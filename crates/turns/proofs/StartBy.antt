@@ -78,8 +78,8 @@ module _ (kinds : List ℕ) (d : Directive) (next : ℕ) where
     start-by {s} {n} e f longest =
         let k : settled (listed s) (n .0) ≡ own = rw e at is in
         let same : n .0 ≡ next =
-        subst (Settles (inRow unmodifiedPlaces) next) (sym k)
-        (settle-placed (inHand (length kinds) next) (inRow unmodifiedPlaces) (inOrder (d .parameters)) next (w .fixed) suits) .0 in
+        subst (Settles unmodifiedPlaces next) (sym k)
+        (settle-placed (inHand (length kinds) next) unmodifiedPlaces (d .parameters) next (w .fixed) suits) .0 in
         f longest
         ∙ ap (λ (i : ℕ). numberedStart kinds longest i (s .first)) (sym same)
         ∙ ap (settledStart kinds longest) k

@@ -4,7 +4,7 @@ use mathlib.Core.Path.{_≡_}
 use mathlib.Core.Bool.{Bool, true, cond}
 use Rattle.rules.specs.Directive.{FormRight}
 use Rattle.rules.specs.Rows.{formPlaces, inRow, inOrder, eachSuits}
-use Rattle.rules.specs.Working.{InPlaces, settleAll}
+use Rattle.rules.specs.Working.{settleAll}
 use Rattle.rules.specs.declared.Code.the-variants.{Writes}
 use Rattle.rules.specs.declared.Directive.{Directive}
 use Rattle.rules.specs.declared.Form.{Form}
@@ -24,11 +24,6 @@ pub record Writing (f : Form) (d : Directive) : Type 0 where
   pub suits : eachSuits (inRow (formPlaces f)) (inOrder (d .parameters)) ≡ true
   pub fixed : noneNext (inOrder (d .parameters)) ≡ true
   pub based : FormRight f
-
--- the worked-out parameters of a form
-pub record Settled (f : Form) (s : Settings) : Type 0 where
-  pub based : FormRight f
-  pub places : InPlaces (formPlaces f) s
 
 -- what working out parameters without `v` promises of its answer r, where there are so many arguments
 pub record SettledOn (count : ℕ) (ys : Places) (ps : Parameters) (next : ℕ) (r : SettledOut) : Type 0 where

@@ -10,10 +10,10 @@ ghost use Prim.Native.Nat.{ℕ, _≤_, _<_};
 ghost use lib.ListN.{length};
 ghost use Rattle.rules.specs.Piece.{nameOf, glyphOf};
 ghost use Rattle.rules.specs.Rows.{formPlaces, accepts};
-ghost use Rattle.rules.specs.Working.{InPlaces};
+ghost use Rattle.rules.specs.Working.{InPlaces, WellSet};
 ghost use Rattle.rules.specs.declared.Form.the-variants.{Object, Numeral};
 ghost use Rattle.vet.specs.Worst.{larger as largerOf, roundUp, topOf, greatest as greatestOf, worst};
-ghost use Rattle.turns.specs.Parts.{Sizing, Settled, padding, numeralMost};
+ghost use Rattle.turns.specs.Parts.{Sizing, padding, numeralMost};
 
 // The magnitude of the least integer.
 const LEAST_MAGNITUDE: u64 = 9223372036854775808;
@@ -161,7 +161,7 @@ pub fn worst_of(
     kind: u8,
     longest: usize,
 ) -> usize
-    requires { ⌜ Settled form settings ⌝ }
+    requires { ⌜ WellSet form settings ⌝ }
     requires { ⌜ (kind ≤ 4) × (longest ≤ 4096) ⌝ }
     requires { ⌜ accepts form kind ≡ true ⌝ }
     ensures { λ r. ⌜ r ≡ worst longest form colon at settings kind ⌝ }

@@ -22,14 +22,14 @@ ghost use mathlib.Core.Bool.{true};
 ghost use Prim.Native.Nat.{_≤_};
 ghost use lib.ListN.{length};
 ghost use Rattle.rules.specs.Rows.{formRow, inOrder};
-ghost use Rattle.rules.specs.Working.{own, back, glyphSource, sourceOf};
+ghost use Rattle.rules.specs.Working.{WellSet, own, back, glyphSource, sourceOf};
 ghost use Rattle.rules.specs.declared.Item.the-variants.{Written};
 ghost use Rattle.rules.specs.declared.Origin.the-variants.{NextOrNumber};
 ghost use Rattle.vet.specs.Plain.{noneNext};
 ghost use Rattle.vet.specs.Vet.{Asked};
 ghost use Rattle.vet.specs.Turns.{shownTurn, turnBy, turnOf};
 ghost use Rattle.vet.specs.Use.{useFrom};
-ghost use Rattle.turns.specs.Parts.{Writing, Settled, SettledOn};
+ghost use Rattle.turns.specs.Parts.{Writing, SettledOn};
 
 // An argument is wanted, and none is left.
 pub const NONE_LEFT: u32 = 6;
@@ -59,7 +59,7 @@ fn turn_shown(
     after: usize,
     longest: usize,
 ) -> Turn
-    requires { ⌜ Settled form settings ⌝ }
+    requires { ⌜ WellSet form settings ⌝ }
     requires { ⌜ (kind ≤ 4) × (longest ≤ 4096) ⌝ }
     ensures { λ r. ⌜ r ≡ shownTurn longest form d settings kind after ⌝ }
 {
@@ -81,7 +81,7 @@ fn turn_own(
     next: usize,
     longest: usize,
 ) -> Turn
-    requires { ⌜ Settled form settings ⌝ }
+    requires { ⌜ WellSet form settings ⌝ }
     requires { ⌜ Asked (now kinds) longest ⌝ }
     requires { ⌜ next ≤ length (now kinds) ⌝ }
     ensures { λ r. ⌜ r ≡ turnBy (now (kinds .entry)) longest (useFrom (length (now (kinds .entry))) form d settings next own) ⌝ }
@@ -101,7 +101,7 @@ fn turn_back(
     next: usize,
     longest: usize,
 ) -> Turn
-    requires { ⌜ Settled form settings ⌝ }
+    requires { ⌜ WellSet form settings ⌝ }
     requires { ⌜ Asked (now kinds) longest ⌝ }
     requires { ⌜ next ≤ length (now kinds) ⌝ }
     ensures { λ r. ⌜ r ≡ turnBy (now (kinds .entry)) longest (useFrom (length (now (kinds .entry))) form d settings next back) ⌝ }
@@ -122,7 +122,7 @@ fn turn_numbered(
     longest: usize,
 ) -> Turn
     requires { ⌜ formRow form .origin ≡ NextOrNumber ⌝ }
-    requires { ⌜ Settled form settings ⌝ }
+    requires { ⌜ WellSet form settings ⌝ }
     requires { ⌜ Asked (now kinds) longest ⌝ }
     requires { ⌜ next ≤ length (now kinds) ⌝ }
     ensures { λ r. ⌜ r ≡ turnBy (now (kinds .entry)) longest (useFrom (length (now (kinds .entry))) form d settings next (glyphSource (settings .first))) ⌝ }
@@ -146,7 +146,7 @@ fn turn_settled(
     next: usize,
     longest: usize,
 ) -> Turn
-    requires { ⌜ Settled form settings ⌝ }
+    requires { ⌜ WellSet form settings ⌝ }
     requires { ⌜ Asked (now kinds) longest ⌝ }
     requires { ⌜ next ≤ length (now kinds) ⌝ }
     ensures { λ r. ⌜ r ≡ turnBy (now (kinds .entry)) longest (useFrom (length (now (kinds .entry))) form d settings next (sourceOf form (d .colon) settings)) ⌝ }

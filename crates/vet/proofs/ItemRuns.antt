@@ -18,7 +18,7 @@ use Rattle.vet.specs.Use.{Use, writes, shows, stops, inHand, useOf}
 use Rattle.vet.specs.Ways.{Way, onTurn, wayOf}
 use Rattle.vet.specs.Worst.{worst}
 use Rattle.vet.specs.declared.Turn.the-variants.{Goes, Stops}
-use Rattle.vet.proofs.Lengths.{piece-bound}
+use Rattle.vet.proofs.Forms.{piece-bound}
 use Rattle.vet.proofs.Meetings.{Led, led-on}
 use Rattle.vet.proofs.Ordinary.{Ordinary}
 use Rattle.vet.proofs.PlainRun.{valueIn, flowBy, item-same}
@@ -63,7 +63,7 @@ module _ (kinds : List ℕ) (longest : ℕ) (v : View)
     use-walks (shows f d s i after) w is sum =
         rw (sym (agree i (w .inside)))
         (by (accepts f (kindOf value)) is
-        (λ t. piece-bound longest f (d .colon) (d .at) s value (w .proper) t (allowed i (w .inside))))
+        (λ t. piece-bound longest f (d .colon) (d .at) s value (w .ranged) t (allowed i (w .inside))))
       where
         value : Value
         value = valueIn v count i

@@ -8,6 +8,7 @@ pub mod Codes
 pub mod Encoded
 pub mod Enough
 pub mod Filled
+pub mod Forms
 pub mod ItemRuns
 pub mod Items
 pub mod Lengths

@@ -1,30 +1,19 @@
--- How long a piece is: at most 16,385 bytes. Assumes nothing.
+-- The greatest lengths of the texts that directives write: at most 16,385 bytes. Assumes nothing.
 use Prim.Native.Nat.{ℕ, zero, suc, _+_, _-_, _≤_}
 use mathlib.Core.Logic.{inl, inr}
 use mathlib.Core.Bool.{Bool, true, false, cond}
-use mathlib.Core.List.{List, _++_}
+use mathlib.Core.List.{_++_}
 use native.Mathlib.Omega.{arith}
 use lib.Dec.{ltb}
 use lib.ListN.{length}
 use Rattle.rules.specs.Number.{digitsOf, magnitudeOf, signOf}
 use Rattle.rules.specs.Piece.{orElse, digitsIn, numeralOf}
-use Rattle.rules.specs.Rows.{accepts}
-use Rattle.rules.specs.declared.Form.{Form}
-use Rattle.rules.specs.declared.Form.the-variants.{Object, Numeral, Glyph, Plural, Repeat, Fold}
-use Rattle.rules.specs.declared.Item.{Item}
 use Rattle.rules.specs.declared.Settings.{Settings}
 use Rattle.rules.proofs.Digits.{count-word}
 use Rattle.rules.proofs.Groups.{grouped-most}
-use Rattle.vet.specs.declared.Turn.{Turn}
-use Rattle.vet.specs.declared.Turn.the-variants.{Goes, Stops}
-use Rattle.vet.specs.Use.{Use, writes, shows, stops, useOf}
-use Rattle.vet.specs.Worst.{mostPiece, larger, roundUp, paddedSize, topOf, greatest, spansOf, greatestOver, leastInteger, worst}
-use Rattle.vet.specs.Turns.{kindIn, turnBy, turnOf}
-use Rattle.vet.proofs.Lengths.{Proper, left-length}
-use Rattle.vet.proofs.Ordinary.{Ordinary}
+use Rattle.vet.specs.Worst.{mostPiece, larger, roundUp, paddedSize, topOf, greatest, spansOf, greatestOver, leastInteger}
+use Rattle.vet.proofs.Lengths.{left-length}
 use Rattle.vet.proofs.Padding.{larger-one, up-near}
-use Rattle.vet.proofs.Settling.{Small}
-use Rattle.vet.proofs.Uses.{Shown, Within, use-within}
 
 pub larger-most : (a b c : ℕ) → a ≤ c → b ≤ c → larger a b ≤ c
 larger-most a b c h k = elim (larger-one a b) [ inl e ↦ omega arith | inr e ↦ omega arith ]
@@ -47,7 +36,7 @@ module _ (w p m : ℕ) (hw : w ≤ 4096) (hp : 1 ≤ p) (kp : p ≤ 4096) (hm : 
   greatest-most lo hi h =
       larger-most (paddedSize w p m hi) (topOf w p m lo hi) mostPiece (padded-most hi h) (top-most lo hi)
 
-  over-most : (longest : ℕ) (q : Bool) (k : ℕ) → longest ≤ 4096 → greatestOver w p m (spansOf longest q k) ≤ mostPiece
+  pub over-most : (longest : ℕ) (q : Bool) (k : ℕ) → longest ≤ 4096 → greatestOver w p m (spansOf longest q k) ≤ mostPiece
   unfolding spansOf
   over-most longest q zero h = larger-most _ 0 mostPiece (greatest-most _ _ (omega arith)) (omega arith)
   over-most longest q (suc zero) h = larger-most _ 0 mostPiece (greatest-most _ _ (omega arith)) (omega arith)
@@ -73,7 +62,7 @@ module _ (base : ℕ) (s : Settings) (hb : 2 ≤ base) (hw : 1 ≤ orElse (s .fo
       )
   digits-most false = omega (arith, count-word base (magnitudeOf leastInteger) hb (omega arith))
 
-  numeral-most : (colon at : Bool) → orElse (s .first) 0 ≤ 4096 → length (numeralOf base colon at s leastInteger) ≤ 4096
+  pub numeral-most : (colon at : Bool) → orElse (s .first) 0 ≤ 4096 → length (numeralOf base colon at s leastInteger) ≤ 4096
   numeral-most colon at h =
       let ds = digitsIn colon s (digitsOf base (magnitudeOf leastInteger)) in
       omega (
@@ -82,53 +71,15 @@ module _ (base : ℕ) (s : Settings) (hb : 2 ≤ base) (hw : 1 ≤ orElse (s .fo
         digits-most colon,
       )
 
-glyph-most : (colon at : Bool) → cond at 11 (cond colon 2 1) ≤ mostPiece
+pub glyph-most : (colon at : Bool) → cond at 11 (cond colon 2 1) ≤ mostPiece
 glyph-most colon true = omega arith
 glyph-most true false = omega arith
 glyph-most false false = omega arith
 
-plural-most : (at : Bool) → cond at 3 1 ≤ mostPiece
+pub plural-most : (at : Bool) → cond at 3 1 ≤ mostPiece
 plural-most true = omega arith
 plural-most false = omega arith
 
-fold-most : (at : Bool) → cond at 1 0 ≤ mostPiece
+pub fold-most : (at : Bool) → cond at 1 0 ≤ mostPiece
 fold-most true = omega arith
 fold-most false = omega arith
-
-pub piece-most : (longest : ℕ) (f : Form) (colon at : Bool) (s : Settings) (kind : ℕ) → longest ≤ 4096 → Proper f s
-    → Small f s
-    → worst longest f colon at s kind ≤ mostPiece
-unfolding worst
-piece-most longest (Object q) colon at s kind h p z =
-    over-most (orElse (s .first) 0) (orElse (s .second) 1) (orElse (s .third) 0) (z .0) p (z .1) (z .2) longest q kind h
-piece-most longest (Numeral base) colon at s kind h p z = omega (arith, numeral-most base s (p .0) (p .1) colon at z)
-piece-most longest Glyph colon at s kind h p z = glyph-most colon at
-piece-most longest Plural colon at s kind h p z = plural-most at
-piece-most longest (Repeat b) colon at s kind h p z = omega arith
-piece-most longest Fold colon at s kind h p z = fold-most at
-
--- one turn goes on within the arguments, with a piece of that size, or stops with 6 to 8
-abbrev pub Turned : ℕ → Turn → Type 0
-Turned count (Goes next size) = (next ≤ count) × (size ≤ mostPiece)
-Turned count (Stops code) = (6 ≤ code) × (code ≤ 8)
-
-module _ (kinds : List ℕ) (longest : ℕ) (hl : longest ≤ 4096) where
-  shown-next : {next i after : ℕ} {f : Form} {s : Settings} → Shown (length kinds) next f s i after → next ≤ length kinds
-      → after ≤ length kinds
-  shown-next w h = elim (w .how) [ inl e ↦ omega (arith, w .inside) | inr e ↦ omega arith ]
-
-  use-turned : (u : Use) (next : ℕ) → next ≤ length kinds → Within (length kinds) next u
-      → Turned (length kinds) (turnBy kinds longest u)
-  use-turned (writes text after) next h w = (omega arith, omega arith)
-  use-turned (stops code) next h w = w
-  use-turned (shows f d s i after) next h w = pick (accepts f (kindIn kinds i))
-    where
-      pick : (b : Bool)
-          → Turned (length kinds) (cond b (Goes after (worst longest f (d .colon) (d .at) s (kindIn kinds i))) (Stops 7))
-      pick true = (shown-next w h, piece-most longest f (d .colon) (d .at) s (kindIn kinds i) hl (w .proper) (w .small))
-      pick false = (omega arith, omega arith)
-
-  pub item-turned : (x : Item) → Ordinary x → (next : ℕ) → next ≤ length kinds
-      → Turned (length kinds) (turnOf kinds longest x next)
-  unfolding turnOf
-  item-turned x o next h = use-turned (useOf (length kinds) x next) next h (use-within (length kinds) x next o)

@@ -7,23 +7,25 @@ use mathlib.Core.List.{List, [], _∷_}
 use native.Mathlib.Omega.{arith}
 use lib.Dec.{ltb, eqb}
 use lib.ListN.{length}
-use Rattle.rules.specs.Table.{Value, View, entryIn}
+use Rattle.rules.specs.Table.{Value, boolean, character, View, entryIn}
 use Rattle.rules.specs.Choice.{either}
-use Rattle.rules.specs.Rows.{rowOf, formPlaces, placesIn, inRow, inOrder, accepts}
+use Rattle.rules.specs.Rows.{rowOf, formRow, formPlaces, placesIn, inRow, inOrder, accepts}
 use Rattle.rules.specs.Text.{Token, acts, Level, innermost, itemBefore, levelsOf}
 use Rattle.rules.specs.Piece.{textOf, kindOf}
-use Rattle.rules.specs.Working.{Settled, settled, unsettled, settingsOf, settleAll, Source, own, back, glyphSource, sourceOf}
+use Rattle.rules.specs.Working.{Settled, settled, unsettled, settingsOf, settleAll, Source, own, back, given, glyphSource, sourceBy, sourceOf}
 use Rattle.rules.specs.Flow.{Flow, done, refused, put}
 use Rattle.rules.specs.Run.{choose, write, writeFrom, onSettled, directiveActs, itemActs, turn, walk, run}
 use Rattle.rules.specs.declared.Code.{Code}
 use Rattle.rules.specs.declared.Directive.{Directive}
 use Rattle.rules.specs.declared.Form.{Form}
-use Rattle.rules.specs.declared.Form.the-variants.{Object, Numeral, Glyph, Plural, Repeat, Fold}
 use Rattle.rules.specs.declared.Item.{Item}
 use Rattle.rules.specs.declared.Item.the-variants.{End, Literal, Written, BadNumber, Unfinished}
+use Rattle.rules.specs.declared.Origin.{Origin}
+use Rattle.rules.specs.declared.Origin.the-variants.{Nowhere, Next as NextArgument, NextOrBack, NextOrNumber}
 use Rattle.rules.specs.declared.Setting.{Setting}
 use Rattle.rules.specs.declared.Setting.the-variants.{Absent, Is}
 use Rattle.rules.specs.declared.Settings.{Settings}
+use Rattle.rules.proofs.FormLaws.{takes-none, takes-number}
 use Rattle.vet.specs.Use.{Use, writes, shows, stops, inHand, workedOut, useFrom, useSettled, useCode, useOf}
 use Rattle.vet.proofs.Ordinary.{Ordinary, AllOrdinary}
 use Rattle.vet.proofs.Settling.{settle-plain}
@@ -88,25 +90,27 @@ module _ (v : View) (count : ℕ) where
         pick false true = refl
         pick false false = refl
 
-    glyph-same : (x : Setting) → Same Glyph (glyphSource x)
-    glyph-same Absent = own-same Glyph
-    glyph-same (Is n) = refl
+    -- a value that is given is of a kind that is taken
+    given-same : (f : Form) (x : Value) → accepts f (kindOf x) ≡ true → Same f (given x)
+    given-same f x k = rw k
 
-    plural-same : (colon : Bool) → Same Plural (cond colon back own)
-    plural-same true = back-same Plural
-    plural-same false = own-same Plural
+    number-same : (f : Form) → formRow f .origin ≡ NextOrNumber → (x : Setting) → Same f (glyphSource x)
+    number-same f e Absent = own-same f
+    number-same f e (Is n) = given-same f (character n) (takes-number f e .takes)
 
-    form-same : (f : Form) → Same f (sourceOf f (d .colon) s)
-    form-same (Object q) = own-same (Object q)
-    form-same (Numeral base) = own-same (Numeral base)
-    form-same Glyph = glyph-same (s .first)
-    form-same Plural = plural-same (d .colon)
-    form-same (Repeat b) = refl
-    form-same Fold = refl
+    back-or-own : (f : Form) (colon : Bool) → Same f (cond colon back own)
+    back-or-own f true = back-same f
+    back-or-own f false = own-same f
+
+    origin-same : (f : Form) (o : Origin) → formRow f .origin ≡ o → Same f (sourceBy o (d .colon) s)
+    origin-same f Nowhere e = given-same f (boolean false) (takes-none f e .takes 0)
+    origin-same f NextArgument e = own-same f
+    origin-same f NextOrBack e = back-or-own f (d .colon)
+    origin-same f NextOrNumber e = number-same f e (s .first)
 
   settled-same : (p m : ℕ) (d : Directive) (f : Form) (from : ℕ) (on : ℕ → Flow) (z : Settled)
       → onSettled p m z (λ s next. writeFrom v p m f d (inHand count from) s next on (sourceOf f (d .colon) s)) ≡ flowBy p m (useSettled count f d z) on
-  settled-same p m d f from on (settled ss next) = form-same p m d (settingsOf ss) from next on f
+  settled-same p m d f from on (settled ss next) = origin-same p m d (settingsOf ss) from next on f (formRow f .origin) refl
   settled-same p m d f from on (unsettled code) = refl
 
   -- one item

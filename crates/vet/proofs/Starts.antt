@@ -9,7 +9,6 @@ use lib.Dec.{ltb, eqb}
 use lib.ListN.{length}
 use borrow.Author.Tests.{ltb-true, eqb-true}
 use Rattle.rules.specs.Choice.{either}
-use Rattle.rules.specs.Rows.{inRow, inOrder}
 use Rattle.rules.specs.Working.{Settled, settled, unsettled, settingsOf, settleAll}
 use Rattle.rules.specs.declared.Directive.{Directive}
 use Rattle.rules.specs.declared.Setting.{Setting}
@@ -56,7 +55,7 @@ module _ (kinds : List ℕ) (longest : ℕ) where
       (λ b. by-test (Started count) (eqb (kindIn kinds next) 1) _ _ (λ _. (b, refl)) (λ _. inl (omega arith, omega arith)))
   numbered-started next (Is n) h = (h, refl)
 
-  settled-started : (next : ℕ) (z : Settled) → next ≤ count → Settles (inRow unmodifiedPlaces) next z
+  settled-started : (next : ℕ) (z : Settled) → next ≤ count → Settles unmodifiedPlaces next z
       → Started count (settledStart kinds longest z)
   settled-started next (settled ss after) h s = numbered-started after (settingsOf ss .first) (omega (arith, s .0))
   settled-started next (unsettled code) h s = inl s
@@ -67,9 +66,9 @@ module _ (kinds : List ℕ) (longest : ℕ) where
       settleAll noEntries (inHand count next) unmodifiedPlaces (d .parameters) next
 
   number-settles : (d : Directive) (next : ℕ) → Opener d → either (d .colon) (d .at) ≡ false
-      → Settles (inRow unmodifiedPlaces) next (workedNumber d next)
+      → Settles unmodifiedPlaces next (workedNumber d next)
   number-settles d next o e =
-      settle-placed (inHand count next) (inRow unmodifiedPlaces) (inOrder (d .parameters)) next (o .fixed)
+      settle-placed (inHand count next) unmodifiedPlaces (d .parameters) next (o .fixed)
       (rw (o .code, e) at (written-suits d (o .written)))
 
   pub start-turned : (d : Directive) (next : ℕ) → next ≤ count → Opener d → Started count (startOf kinds longest d next)

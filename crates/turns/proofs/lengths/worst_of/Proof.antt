@@ -1,7 +1,7 @@
 -- `worst_of` meets its contract, form by form. Assumes nothing.
 use borrow.Author.Needs.{needs}
 use Rattle.vet.specs.Worst.{worst}
-use Rattle.turns.proofs.TurnBy.{no-list}
+use Rattle.vet.proofs.Lengths.{shown-kind}
 use Rattle.turns.proofs.lengths.worst_of.Statement.{statement}
 use Rattle.turns.proofs.lengths.worst_of.Tie as tie
 
@@ -10,7 +10,7 @@ enum-known-form c = search needs
 
 worst-padded-requires : tie.Need-worst-padded-requires
 worst-padded-requires c κs =
-    ((rw (c .before .form .given .1) at (c .before .before .before .pre .0)) .places, (no-list _ (c .before .before .before .pre .1 .0 .0) (rw (c .before .form .given .1) at (c .before .before .before .pre .1 .1)), c .before .before .before .pre .1 .0 .1))
+    ((rw (c .before .form .given .1) at (c .before .before .before .pre .0)) .places, (shown-kind _ (c .before .before .before .pre .1 .0 .0) (rw (c .before .form .given .1) at (c .before .before .before .pre .1 .1)), c .before .before .before .pre .1 .0 .1))
 
 enum-known-form-2 : tie.Need-enum-known-form-2
 enum-known-form-2 c = search needs
@@ -18,7 +18,7 @@ enum-known-form-2 c = search needs
 worst-grouped-requires : tie.Need-worst-grouped-requires
 worst-grouped-requires c κs =
     let w = rw (c .before .form2 .given .1) at (c .before .before .before .pre .0) in
-    (w .based, w .places)
+    (w .base, w .places)
 
 enum-told : tie.Need-enum-told
 enum-told c = search needs

@@ -1,9 +1,10 @@
 -- `worst_padded` meets its contract: the settings lie in their places. Assumes nothing.
-use mathlib.Core.Path.{sym, _∙_}
+use mathlib.Core.Path.{_∙_}
 use native.Mathlib.Omega.{arith}
 use borrow.Author.Needs.{needs}
 use Rattle.turns.proofs.WorstBy.{object-worst}
-use Rattle.turns.proofs.TurnBy.{number-least, number-most}
+use Rattle.rules.specs.Working.{IsByte}
+use Rattle.rules.proofs.Rowed.{number-least, number-most}
 use Rattle.turns.proofs.lengths.worst_padded.Statement.{statement}
 use Rattle.turns.proofs.lengths.worst_padded.Tie as tie
 
@@ -20,10 +21,10 @@ worst-object-requires : tie.Need-worst-object-requires
 worst-object-requires c κs =
     let s = c .before .before .before .args .settings in (
       record {
-        width = omega (arith, c .before .before .number-or .ensures, number-most 0 4096 (s .first) 0 (c .before .before .before .pre .0 .first) (omega arith));
-        least = omega (arith, c .before .number-or2 .ensures, number-least 1 4096 (s .second) 1 (c .before .before .before .pre .0 .second) (omega arith));
-        most = omega (arith, c .before .number-or2 .ensures, number-most 1 4096 (s .second) 1 (c .before .before .before .pre .0 .second) (omega arith));
-        pad = omega (arith, c .number-or3 .ensures, number-most 0 4096 (s .third) 0 (c .before .before .before .pre .0 .third) (omega arith));
+        width = omega (arith, c .before .before .number-or .ensures, number-most IsByte 0 4096 (s .first) 0 (c .before .before .before .pre .0 .first) (omega arith));
+        least = omega (arith, c .before .number-or2 .ensures, number-least IsByte 1 4096 (s .second) 1 (c .before .before .before .pre .0 .second) (omega arith));
+        most = omega (arith, c .before .number-or2 .ensures, number-most IsByte 1 4096 (s .second) 1 (c .before .before .before .pre .0 .second) (omega arith));
+        pad = omega (arith, c .number-or3 .ensures, number-most IsByte 0 4096 (s .third) 0 (c .before .before .before .pre .0 .third) (omega arith));
       },
       c .before .before .before .pre .1,
     )

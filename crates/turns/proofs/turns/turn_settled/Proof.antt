@@ -1,7 +1,8 @@
 -- `turn_settled` meets its contract: by where the argument comes from. Assumes nothing.
 use native.Mathlib.Omega.{arith}
 use borrow.Author.Needs.{needs}
-use Rattle.turns.proofs.TurnBy.{by-next, by-back, by-no-back, by-number, by-nowhere, nowhere-accepts}
+use Rattle.rules.proofs.FormLaws.{takes-none}
+use Rattle.turns.proofs.TurnBy.{by-next, by-back, by-no-back, by-number, by-nowhere}
 use Rattle.turns.proofs.turns.turn_settled.Statement.{statement}
 use Rattle.turns.proofs.turns.turn_settled.Tie as tie
 
@@ -13,7 +14,7 @@ enum-told c = search needs
 
 worst-of-requires : tie.Need-worst-of-requires
 worst-of-requires c κs =
-    (c .before .before .before .before .pre .0, ((omega arith, c .before .before .before .before .pre .1 .0 .long), nowhere-accepts (c .before .before .before .before .args .form) (rw (c .before .before .form-row .ensures) at (c .enum-told .given .1)) 0))
+    (c .before .before .before .before .pre .0, ((omega arith, c .before .before .before .before .pre .1 .0 .long), takes-none (c .before .before .before .before .args .form) (rw (c .before .before .form-row .ensures) at (c .enum-told .given .1)) .takes 0))
 
 enum-told-2 : tie.Need-enum-told-2
 enum-told-2 c = search needs
@@ -44,7 +45,7 @@ turn-numbered-requires c κs = search needs
 returns-2 : tie.Need-returns-2
 returns-2 c =
     let a = c .before .before .before .before .before .args in
-    by-nowhere (a .kinds .now) (a .longest) (a .form) (a .d) (a .settings) (a .next) (rw (c .before .before .before .form-row .ensures) at (c .before .enum-told .given .1)) (c .worst-of .ensures)
+    by-nowhere (a .kinds .now) (a .longest) (a .form) (a .d) (a .settings) (a .next) (rw (c .before .before .before .form-row .ensures) at (c .before .enum-told .given .1)) (c .before .before .before .before .before .pre .0) (c .before .before .before .before .before .pre .1 .0 .long) (c .worst-of .ensures)
 
 returns-3 : tie.Need-returns-3
 returns-3 c =
