@@ -1,7 +1,8 @@
--- Small inputs, cut into their lines by the definition. 97 and 98 are `a` and `b`. Assumes nothing.
+-- Small inputs, cut into their lines by the definition. Assumes nothing.
 use Prim.Native.Nat.{ℕ}
 use mathlib.Core.Path.{_≡_, refl}
 use mathlib.Core.List.{List, [], _∷_}
+use Rattle.rules.specs.Letters.{bytes}
 use Rattle.chunks.specs.Cutting.{endedLines, begunLine, lastLine, linesOf}
 
 no-input : linesOf [] ≡ []
@@ -9,15 +10,15 @@ unfolding linesOf endedLines begunLine lastLine
 no-input = refl
 
 -- an empty line ends at once
-empty-line : linesOf (10 ∷ []) ≡ [] ∷ []
+empty-line : linesOf (bytes "\n") ≡ [] ∷ []
 unfolding linesOf endedLines begunLine lastLine
 empty-line = refl
 
 -- "a last line may lack its newline"
-last-lacks : linesOf (97 ∷ 10 ∷ 98 ∷ []) ≡ (97 ∷ []) ∷ (98 ∷ []) ∷ []
+last-lacks : linesOf (bytes "a\nb") ≡ bytes "a" ∷ bytes "b" ∷ []
 unfolding linesOf endedLines begunLine lastLine
 last-lacks = refl
 
-last-ends : linesOf (97 ∷ 10 ∷ 98 ∷ 10 ∷ []) ≡ (97 ∷ []) ∷ (98 ∷ []) ∷ []
+last-ends : linesOf (bytes "a\nb\n") ≡ bytes "a" ∷ bytes "b" ∷ []
 unfolding linesOf endedLines begunLine lastLine
 last-ends = refl

@@ -4,22 +4,24 @@ use mathlib.Core.Bool.{cond}
 use mathlib.Core.List.{List, [], _∷_, _++_}
 use lib.Dec.{eqb}
 use lib.ListN.{take}
+use Rattle.rules.specs.Letters.{letter}
 use Rattle.rules.specs.Job.{answerLine}
 
 -- the bytes before the first newline
 unfoldable pub lineIn : List ℕ → List ℕ
 lineIn [] = []
-lineIn (b ∷ more) = cond (eqb b 10) [] (b ∷ lineIn more)
+lineIn (b ∷ more) = cond (eqb b (letter "\n")) [] (b ∷ lineIn more)
 
 -- the lines that end in some bytes, where the first of them has begun with `begun`
 unfoldable pub endedLines : List ℕ → List ℕ → List (List ℕ)
 endedLines begun [] = []
-endedLines begun (b ∷ more) = cond (eqb b 10) (begun ∷ endedLines [] more) (endedLines (begun ++ (b ∷ [])) more)
+endedLines begun (b ∷ more) =
+    cond (eqb b (letter "\n")) (begun ∷ endedLines [] more) (endedLines (begun ++ (b ∷ [])) more)
 
 -- and what has come of the line after those
 unfoldable pub begunLine : List ℕ → List ℕ → List ℕ
 begunLine begun [] = begun
-begunLine begun (b ∷ more) = cond (eqb b 10) (begunLine [] more) (begunLine (begun ++ (b ∷ [])) more)
+begunLine begun (b ∷ more) = cond (eqb b (letter "\n")) (begunLine [] more) (begunLine (begun ++ (b ∷ [])) more)
 
 -- "a last line may lack its newline"
 unfoldable pub lastLine : List ℕ → List (List ℕ)
@@ -33,7 +35,7 @@ linesOf input = endedLines [] input ++ lastLine (begunLine [] input)
 -- the answers to lines, each with its newline
 unfoldable pub answersTo : List (List ℕ) → List ℕ
 answersTo [] = []
-answersTo (line ∷ more) = answerLine line ++ (10 ∷ answersTo more)
+answersTo (line ∷ more) = answerLine line ++ (letter "\n" ∷ answersTo more)
 
 -- what is written for an input that comes in chunks, where at most `size` bytes are held of a line that one cuts off
 unfoldable pub answersIn : ℕ → List ℕ → List (List ℕ) → List ℕ

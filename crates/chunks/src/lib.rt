@@ -22,7 +22,7 @@ pub fn line_end(chunk: &[u8], from: usize) -> usize
 {
     let mut i = from;
     while i < chunk.len() {
-        if chunk[i] == 10 {
+        if chunk[i] == b'\n' {
             return i;
         }
         i += 1;
@@ -64,7 +64,7 @@ pub fn add_answer(
 {
     let count = answer_with(line, frame, text, &mut out[filled..]);
     let end = filled + count;
-    out[end] = 10;
+    out[end] = b'\n';
     end + 1
 }
 

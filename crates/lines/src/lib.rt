@@ -15,22 +15,22 @@ ghost use Rattle.lines.specs.Lent.{Decoded, FrameAnswered, LineAnswered}
 fn digit_value(b: u8) -> u8
     ensures { λ r. ⌜ r ≡ digitValue b ⌝ }
 {
-    if b < 48 {
+    if b < b'0' {
         return 16;
     }
-    if b <= 57 {
-        return b - 48;
+    if b <= b'9' {
+        return b - b'0';
     }
-    if b < 65 {
+    if b < b'A' {
         return 16;
     }
-    if b <= 70 {
+    if b <= b'F' {
         return b - 55;
     }
-    if b < 97 {
+    if b < b'a' {
         return 16;
     }
-    if b <= 102 {
+    if b <= b'f' {
         return b - 87;
     }
     16
@@ -120,8 +120,8 @@ fn refuse(out: &mut [u8]) -> usize
     requires { ⌜ 2 ≤ length (now out) ⌝ }
     ensures { λ r. ⌜ AtFront (now (out .entry)) (now (out .exit)) noFrame r ⌝ }
 {
-    out[0] = 102;
-    out[1] = 102;
+    out[0] = b'f';
+    out[1] = b'f';
     2
 }
 

@@ -4,6 +4,7 @@ use mathlib.Core.Bool.{Bool, cond}
 use mathlib.Core.List.{List, [], _∷_, _++_}
 use lib.Dec.{ltb, eqb}
 use lib.IntN.{ℤ}
+use Rattle.rules.specs.Letters.{letter}
 use Rattle.rules.specs.Number.{digitsOf, grouped, magnitudeOf, signOf}
 
 -- the text of a number before padding; a width of 0 is no groups
@@ -14,4 +15,4 @@ numberOf base plus width comma z =
 
 -- the written form of a character that has no name
 abbrev pub unnamedOf : ℕ → List ℕ
-unnamedOf c = 35 ∷ 92 ∷ cond (ltb c 32) (120 ∷ digitsOf 16 c) (c ∷ [])
+unnamedOf c = letter "#" ∷ letter "\\" ∷ cond (ltb c 32) (letter "x" ∷ digitsOf 16 c) (c ∷ [])

@@ -7,6 +7,7 @@ ghost use mathlib.Core.List.{List, [], _∷_};
 ghost use mathlib.Core.Path.{_≡_};
 ghost use Prim.Native.Nat.{ℕ, _≤_, _<_};
 ghost use lib.ListN.{take, replicate};
+ghost use Rattle.rules.specs.Letters.{letter};
 ghost use Rattle.rules.specs.Number.{digitsOf};
 ghost use Rattle.rules.specs.Piece.{writtenOf, glyphOf, pluralOf};
 ghost use Rattle.pieces.specs.Bytes.{Makes};
@@ -71,7 +72,7 @@ pub fn run_body(byte: u8, count: usize) -> Body
 // The written form of a code below 32 that has no name, with no leading zero.
 fn hex_body(code: u8) -> Body
     requires { ⌜ code < 32 ⌝ }
-    ensures { λ r. ⌜ ((t : List ℕ) → Makes t r (35 ∷ 92 ∷ 120 ∷ digitsOf 16 code)) ⌝ }
+    ensures { λ r. ⌜ ((t : List ℕ) → Makes t r (letter "#" ∷ letter "\\" ∷ letter "x" ∷ digitsOf 16 code)) ⌝ }
 {
     let high = code / 16;
     let low = hex_digit(code % 16);
@@ -80,7 +81,7 @@ fn hex_body(code: u8) -> Body
         word[3] = low;
         return word_body(word, 4);
     }
-    word[3] = 48 + high;
+    word[3] = b'0' + high;
     word[4] = low;
     word_body(word, 5)
 }
@@ -151,7 +152,7 @@ pub fn plural_body(at: bool, one: bool) -> Body
 
 // A truth value.
 pub fn flag_body(flag: bool) -> Body
-    ensures { λ r. ⌜ ((t : List ℕ) → Makes t r (35 ∷ cond flag 116 102 ∷ [])) ⌝ }
+    ensures { λ r. ⌜ ((t : List ℕ) → Makes t r (letter "#" ∷ cond flag (letter "t") (letter "f") ∷ [])) ⌝ }
 {
     if flag {
         return word_body(TRUE, 2);
@@ -164,7 +165,7 @@ pub fn fold_body(at: bool) -> Body
     ensures { λ r. ⌜ ((t : List ℕ) → Makes t r (cond at (10 ∷ []) [])) ⌝ }
 {
     if at {
-        return run_body(10, 1);
+        return run_body(b'\n', 1);
     }
-    run_body(10, 0)
+    run_body(b'\n', 0)
 }

@@ -24,7 +24,7 @@ fn digit_byte(digit: u64) -> u8
     ensures { λ r. ⌜ r ≡ digitByte digit ⌝ }
 {
     if digit < 10 {
-        48 + digit as u8
+        b'0' + digit as u8
     } else {
         87 + digit as u8
     }

@@ -5,6 +5,7 @@ use mathlib.Core.Bool.{Bool, true, false, cond}
 use mathlib.Core.List.{List, [], _∷_, _++_}
 use lib.Dec.{eqb}
 use lib.ListN.{length, take, drop, replicate}
+use Rattle.rules.specs.Letters.{letter, bytes}
 use Rattle.rules.specs.Number.{digitsOf, grouped}
 use Rattle.rules.specs.Piece.{escaped}
 use Rattle.pieces.specs.declared.Figure.{Figure}
@@ -19,7 +20,7 @@ part from n xs = take n (drop from xs)
 
 -- a byte before which a backslash stands: a quote or a backslash
 unfoldable pub isMarked : ℕ → Bool
-isMarked b = cond (eqb b 34) true (eqb b 92)
+isMarked b = cond (eqb b (letter "\"")) true (eqb b (letter "\\"))
 
 -- what is to come of an escaped text, where the backslash of the first byte may be gone already
 unfoldable pub owed : Bool → List ℕ → List ℕ
@@ -29,7 +30,7 @@ owed true (b ∷ s) = b ∷ escaped s
 
 -- a string in quotes
 unfoldable pub quotedOf : List ℕ → List ℕ
-quotedOf s = 34 ∷ escaped s ++ (34 ∷ [])
+quotedOf s = letter "\"" ∷ escaped s ++ bytes "\""
 
 -- the digits of a number, in groups where the width is not 0
 unfoldable pub digitsIn : Figure → List ℕ

@@ -6,6 +6,7 @@ use mathlib.Core.List.{List, [], _∷_, _++_}
 use Prim.Native.Nat.{ℕ, _+_, _-_, _≤_, _<_, min}
 use lib.Dec.{eqb}
 use lib.ListN.{length, take, drop, replicate}
+use Rattle.rules.specs.Letters.{letter}
 use Rattle.rules.specs.Piece.{escaped}
 use Rattle.pieces.specs.Bytes.{part, owed, quotedOf, beside}
 use Rattle.pieces.specs.declared.resuming.QuoteRest.{QuoteRest}
@@ -17,7 +18,7 @@ stringOf t q = part (q .start) (q .end - q .start) t
 
 -- what follows the string: the last quote, and the padding on the right
 abbrev pub closingOf : QuoteRest → List ℕ
-closingOf q = 34 ∷ replicate (q .right) (q .pad)
+closingOf q = letter "\"" ∷ replicate (q .right) (q .pad)
 
 -- what is left of the piece, by how far it has come: 0 nothing; 1 all from its padding on the left; 2 inside the
 -- quotes; 3 the same, with the backslash of the first byte gone; above that the padding on the right

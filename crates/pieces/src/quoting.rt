@@ -12,7 +12,7 @@ ghost use Rattle.pieces.specs.Rest.{Escapes};
 fn is_marked(byte: u8) -> bool
     ensures { λ r. ⌜ r ≡ isMarked byte ⌝ }
 {
-    if byte == 34 { true } else { byte == 92 }
+    if byte == b'"' { true } else { byte == b'\\' }
 }
 
 // The length of a string in quotes.
@@ -40,14 +40,14 @@ pub fn quote_whole(src: &[u8], out: &mut [u8])
     requires { ⌜ length (now out) ≡ length (quotedOf (now src)) ⌝ }
     ensures { λ _. ⌜ now (out .exit) ≡ quotedOf (now (src .entry)) ⌝ }
 {
-    out[0] = 34;
+    out[0] = b'"';
     let mut i = 0;
     let mut to = 1;
     while i < src.len() {
         let byte = src[i];
         i += 1;
         if is_marked(byte) {
-            out[to] = 92;
+            out[to] = b'\\';
             to += 1;
             out[to] = byte;
             to += 1;
@@ -56,7 +56,7 @@ pub fn quote_whole(src: &[u8], out: &mut [u8])
             to += 1;
         }
     }
-    out[to] = 34;
+    out[to] = b'"';
 }
 
 // Where a place of the escaped text falls: at a byte of the string, whose backslash is gone already or not.
@@ -121,7 +121,7 @@ pub fn escape_some(src: &[u8], first_gone: bool, out: &mut [u8], from: usize) ->
             to += 1;
         } else {
             if is_marked(byte) {
-                out[to] = 92;
+                out[to] = b'\\';
                 gone = true;
                 to += 1;
             } else {
@@ -161,7 +161,7 @@ pub fn quote_part(src: &[u8], size: usize, from: usize, out: &mut [u8])
     let a = cuts.a;
     let b = cuts.b;
     let start = cuts.start;
-    fill(34, &mut out[0..a]);
+    fill(b'"', &mut out[0..a]);
     escape_part(src, start, &mut out[a..b]);
-    fill(34, &mut out[b..n]);
+    fill(b'"', &mut out[b..n]);
 }

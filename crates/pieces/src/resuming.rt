@@ -116,7 +116,7 @@ fn write_inside(q: QuoteRest, table: &[u8], out: &mut [u8], from: usize) -> Rest
     let at = stand.at;
     let mut rest = q;
     if at < out.len() {
-        out[at] = 34;
+        out[at] = b'"';
         rest.stage = PADDING;
         return write_padding(rest, out, at + 1);
     }
@@ -136,7 +136,7 @@ fn write_from_left(q: QuoteRest, table: &[u8], out: &mut [u8], from: usize) -> R
     let at = padded.at;
     let mut rest = q;
     if at < out.len() {
-        out[at] = 34;
+        out[at] = b'"';
         rest.stage = INSIDE;
         return write_inside(rest, table, out, at + 1);
     }

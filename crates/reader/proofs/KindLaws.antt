@@ -1,38 +1,41 @@
--- The code of a short directive: its kind and its detail say what it is, and no other code has a kind of theirs.
+-- Short directives by their letters: what kind and detail say is the code, and which letters are none of theirs.
 -- Assumes nothing.
 use mathlib.Core.Path.{_≡_, refl, ap, _∙_}
-use mathlib.Core.Bool.{Bool, true, false, cond}
+use mathlib.Core.Bool.{true, false}
 use mathlib.Core.List.{List}
 use Prim.Native.Nat.{ℕ, _+_}
 use native.Mathlib.Decide.{ℕ-discrete as decEq}
 use native.Mathlib.Omega.{arith}
 use borrow.Author.Tests.{eq-eqb, ne-eqb, eqb-true}
-use lib.Dec.{eqb}
 use lib.ListN.{getD}
-use Rattle.rules.specs.Directive.{lowerCase, codeNamed, codeOf}
-use Rattle.rules.specs.declared.Code.{Code}
-use Rattle.rules.specs.declared.Code.the-variants.{Writes, Jump, Escape, Opens, Separator, Closes, Unknown}
-use Rattle.rules.specs.declared.Form.the-variants.{Object, Numeral, Glyph, Plural, Repeat, Fold}
-use Rattle.reader.specs.Shorts.{shortForm}
-use Rattle.reader.specs.Shorts.{kindOf, detailOf, fitsIn, codedAt}
+use Rattle.rules.specs.Directive.{lowerCase, codeNamed}
+use Rattle.rules.specs.declared.Code.the-variants.{Writes}
+use Rattle.rules.proofs.Tables.{Each, looked-up, Missed, missed}
+use Rattle.reader.specs.Shorts.{shortForm, shortLetters, shortKind, shortDetail, fitsIn, codedAt}
 use Rattle.reader.specs.declared.short.Short.the-variants.{Other, Is as IsOne}
 use Rattle.reader.proofs.ScanLaws.{no-both}
 
 -- kind and detail say what the code is
-pub kind-is : (c : Code) → (kindOf c ≡ 3 → ⊥) → c ≡ Writes (shortForm (kindOf c) (detailOf c))
-kind-is (Writes (Object true)) z = refl
-kind-is (Writes (Object false)) z = refl
-kind-is (Writes (Numeral base)) z = refl
-kind-is (Writes Glyph) z = absurd (z refl)
-kind-is (Writes Plural) z = absurd (z refl)
-kind-is (Writes (Repeat b)) z = refl
-kind-is (Writes Fold) z = absurd (z refl)
-kind-is Jump z = absurd (z refl)
-kind-is Escape z = absurd (z refl)
-kind-is (Opens b) z = absurd (z refl)
-kind-is Separator z = absurd (z refl)
-kind-is (Closes b) z = absurd (z refl)
-kind-is Unknown z = absurd (z refl)
+abbrev Says : ℕ → ℕ × ℕ → Type 0
+Says b x = (x .0 ≡ 3 → ⊥) → codeNamed b ≡ Writes (shortForm (x .0) (x .1))
+
+letters-say : Each Says shortLetters
+unfolding codeNamed
+letters-say = search tt
+
+pub kind-is : (b : ℕ) → (shortKind b ≡ 3 → ⊥) → codeNamed b ≡ Writes (shortForm (shortKind b) (shortDetail b))
+unfolding shortKind shortDetail
+kind-is b = looked-up Says shortLetters (3, 0) b letters-say (λ z. absurd (z refl))
+
+-- a byte that is none of the letters, as the last arm of a `match` on them has it
+module _ (K : Type 0) (b : ℕ) (m : Missed K b shortLetters) where
+  pub no-kind : shortKind b ≡ 3
+  unfolding shortKind
+  no-kind = ap (λ (x : ℕ × ℕ). x .0) (missed K shortLetters (3, 0) b m)
+
+  pub no-detail : shortDetail b ≡ 0
+  unfolding shortDetail
+  no-detail = ap (λ (x : ℕ × ℕ). x .1) (missed K shortLetters (3, 0) b m)
 
 -- a directive of the kind is short with this character, or none
 pub record Fits (kind byte : ℕ) : Type 0 where
@@ -49,52 +52,15 @@ fits-is kind byte f = elim (decEq kind 1) [
 ]
 
 -- the code at i, by its byte in lower case and its kind
-module _ (t : List ℕ) (i number byte : ℕ) {b₀ b kind : ℕ} (at : b₀ ≡ getD t i 0) (low : b ≡ lowerCase b₀) (is : kind ≡ kindOf (codeNamed b)) where
-  code-at : codeNamed b ≡ codeOf (getD t i 0)
-  code-at = ap codeNamed (low ∙ ap lowerCase at)
+module _ (t : List ℕ) (i number byte : ℕ) {b₀ b kind : ℕ} (at : b₀ ≡ getD t i 0) (low : b ≡ lowerCase b₀) (is : kind ≡ shortKind b) where
+  byte-at : b ≡ lowerCase (getD t i 0)
+  byte-at = low ∙ ap lowerCase at
 
-  pub coded-one : (detail : ℕ) → detail ≡ detailOf (codeNamed b) → fitsIn kind byte ≡ true
+  pub coded-one : (detail : ℕ) → detail ≡ shortDetail b → fitsIn kind byte ≡ true
       → IsOne kind detail number byte (i + 1) ≡ codedAt t number byte i
   unfolding codedAt
-  coded-one detail d f = rw (← code-at, ← is, ← d, f)
+  coded-one detail d f = rw (← byte-at, ← is, ← d, f)
 
   pub coded-other : fitsIn kind byte ≡ false → Other ≡ codedAt t number byte i
   unfolding codedAt
-  coded-other f = rw (← code-at, ← is, f)
-
--- no code of a short directive
-abbrev Plain : Code → Type 0
-Plain c = (kindOf c ≡ 3) × (detailOf c ≡ 0)
-
-plain-or : (y : Bool) (c other : Code) → Plain c → Plain other → Plain (cond y c other)
-plain-or true c other u w = u
-plain-or false c other u w = w
-
-pub no-short : (b : ℕ) → (b ≡ 97 → ⊥) → (b ≡ 115 → ⊥) → (b ≡ 100 → ⊥) → (b ≡ 120 → ⊥) → (b ≡ 111 → ⊥) → (b ≡ 98 → ⊥)
-    → (b ≡ 126 → ⊥) → (b ≡ 37 → ⊥) → (b ≡ 95 → ⊥) → (b ≡ 124 → ⊥) → (b ≡ 47 → ⊥) → Plain (codeNamed b)
-unfolding codeNamed
-no-short b a s d x o n tilde percent line bar slash =
-    rw (
-      ne-eqb b 97 a,
-      ne-eqb b 115 s,
-      ne-eqb b 100 d,
-      ne-eqb b 120 x,
-      ne-eqb b 111 o,
-      ne-eqb b 98 n,
-      ne-eqb b 126 tilde,
-      ne-eqb b 37 percent,
-      ne-eqb b 95 line,
-      ne-eqb b 124 bar,
-      ne-eqb b 47 slash,
-    )
-    (plain-or (eqb b 99) _ _ (refl, refl)
-    (plain-or (eqb b 112) _ _ (refl, refl)
-    (plain-or (eqb b 42) _ _ (refl, refl)
-    (plain-or (eqb b 10) _ _ (refl, refl)
-    (plain-or (eqb b 91) _ _ (refl, refl)
-    (plain-or (eqb b 59) _ _ (refl, refl)
-    (plain-or (eqb b 93) _ _ (refl, refl)
-    (plain-or (eqb b 123) _ _ (refl, refl)
-    (plain-or (eqb b 125) _ _ (refl, refl)
-    (plain-or (eqb b 94) _ _ (refl, refl)
-    (refl, refl)))))))))))
+  coded-other f = rw (← byte-at, ← is, f)

@@ -4,5 +4,4 @@ pub mod PassLaws
 pub mod ReaderExamples
 pub mod ScanLaws
 pub mod ShortLaws
-pub mod SkipLaws
 pub mod SpanLaws

@@ -36,14 +36,14 @@ module _ (t : List ℕ) (p : ℕ) (e : getD t p 0 ≡ 126) where
 
   -- the code stands after the tilde, or after a modifier
   two-bytes : (b : ℕ) (d : Directive) → getD t (p + 1) 0 ≡ b → (b ≡ 0 → ⊥) → step start blank b ≡ ends d
-      → skips (d .code) (d .colon) ≡ false → itemAt t p ≡ going d (p + 2)
+      → skips b (d .colon) ≡ false → itemAt t p ≡ going d (p + 2)
   two-bytes b d q z s k =
       item-tilde t p within e
       ∙ rw (scan-on t (p + 1) start blank (byte-inside t (p + 1) (λ y. z (sym q ∙ y))), q, s, k)
       (ap (going d) (omega arith))
 
   three-bytes : (b c : ℕ) (d₁ d : Directive) → getD t (p + 1) 0 ≡ b → (b ≡ 0 → ⊥) → getD t (p + 2) 0 ≡ c → (c ≡ 0 → ⊥)
-      → step start blank b ≡ goes modifiers d₁ → step modifiers d₁ c ≡ ends d → skips (d .code) (d .colon) ≡ false
+      → step start blank b ≡ goes modifiers d₁ → step modifiers d₁ c ≡ ends d → skips c (d .colon) ≡ false
       → itemAt t p ≡ going d (p + 3)
   three-bytes b c d₁ d q z r y s n k =
       let i : p + 1 + 1 ≡ p + 2 = omega arith in
@@ -76,7 +76,7 @@ nothing t p z = absurd (z refl)
 
 module _ (t : List ℕ) (p : ℕ) (e : getD t p 0 ≡ 126) where
   two : (m b : ℕ) → (b ≡ 0 → ⊥) → step start blank b ≡ ends (markDirective m 0)
-      → skips (markDirective m 0 .code) (markDirective m 0 .colon) ≡ false → markSize m ≡ 2
+      → skips b (markDirective m 0 .colon) ≡ false → markSize m ≡ 2
       → ((next : ℕ) → wellWritten (markDirective m next) ≡ true) → getD t (p + 1) 0 ≡ b → Stands t p m
   unfolding markDirective
   two m b z s k n w q y = record { item = rw n (two-bytes t p e b (markDirective m 0) q z s k); well = w }

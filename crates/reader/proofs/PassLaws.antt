@@ -7,11 +7,10 @@ use Prim.Native.Nat.{ℕ, _+_, _≤_, _<_}
 use native.Mathlib.Omega.{arith}
 use lib.ListN.{length, getD}
 use Rattle.rules.specs.Text.{directiveMet, innermost, outer}
-use Rattle.rules.specs.declared.Form.{Form}
 use Rattle.rules.specs.declared.Setting.{Setting}
 use Rattle.rules.proofs.Reading.{item-literal}
 use Rattle.rules.proofs.TextLaws.{Within, next-inside, verdict-literal, verdict-written, levels-literal, levels-writes}
-use Rattle.reader.specs.Shorts.{shortDirective, IsShort, ShortAt, Skips}
+use Rattle.reader.specs.Shorts.{Brief, formOf, shortDirective, IsShort, ShortAt, Skips}
 use Rattle.reader.specs.Shorts.{shortAt, nextOr, AfterShort, SkipsShort}
 use Rattle.reader.specs.declared.short.Short.{Short}
 use Rattle.reader.specs.declared.short.Short.the-variants.{Other, Is as IsOne}
@@ -33,18 +32,18 @@ module _ {t : List ℕ} {first p : ℕ} (k : Skips t first p) where
         most = λ z. omega arith;
       }
 
-  module _ {f : Form} {x y : Setting} {next : ℕ} (u : IsShort t p f x y next) where
+  module _ {b : Brief} {x y : Setting} {next : ℕ} (u : IsShort t p b x y next) where
     skip-on : Within p (length t) next
     skip-on =
-        let w = next-inside t p (shortDirective f x y next) (u .item) in
+        let w = next-inside t p (shortDirective (formOf b) x y next) (u .item) in
         record { above = omega (arith, w .above); most = w .most }
 
     skip-directive : Skips t first next
     unfolding directiveMet
     skip-directive =
-        let l = levels-writes t p (shortDirective f x y next) (u .item) f refl in
+        let l = levels-writes t p (shortDirective (formOf b) x y next) (u .item) (formOf b) refl in
         record {
-          same = λ os. k .same os ∙ verdict-written t os p (shortDirective f x y next) (u .item) ∙ rw (short-well f x y next (u .suits));
+          same = λ os. k .same os ∙ verdict-written t os p (shortDirective (formOf b) x y next) (u .item) ∙ rw (short-well b x y next (u .suits));
           more = k .more ∙ ap (λ xs. innermost xs .more) l;
           outside = k .outside ∙ ap outer l;
           least = omega (arith, k .least, skip-on .above);

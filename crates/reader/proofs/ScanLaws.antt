@@ -14,7 +14,7 @@ use lib.Seq.{drop-cons}
 use Rattle.rules.specs.Choice.{both}
 use Rattle.rules.specs.Directive.{Reading, start, signed, digits, quote, whole, modifiers, step, scan, blank, having}
 use Rattle.rules.specs.Directive.{noParameters, closed, pending, withParameter, isDigit, oneMore}
-use Rattle.rules.specs.Directive.{lowerCase, codeOf}
+use Rattle.rules.specs.Directive.{lowerCase, codeOf, skipped}
 use Rattle.rules.specs.declared.Code.{Code}
 use Rattle.rules.specs.declared.Code.the-variants.{Unknown}
 use Rattle.rules.specs.declared.Directive.{Directive}
@@ -24,9 +24,9 @@ use Rattle.rules.specs.declared.Parameter.{Parameter}
 use Rattle.rules.specs.declared.Parameter.the-variants.{Number, Character, Next, Remaining}
 use Rattle.rules.specs.declared.Parameters.{Parameters}
 use Rattle.rules.proofs.Reading.{scan-on, scan-end}
-use Rattle.reader.specs.Scans.{digitAt, commaAt, zerosAt, greatestOf, afterAt, reading, skippedBy, Numbers}
+use Rattle.reader.specs.Scans.{digitAt, commaAt, zerosAt, greatestOf, afterAt, reading, Numbers}
 use Rattle.reader.specs.Scans.{numberParameter, numberFrom, Ends, Advances, Parametrises}
-use Rattle.reader.specs.Spans.{inClass, spanOf}
+use Rattle.reader.specs.Spans.{isZero, spanOf}
 use Rattle.reader.specs.declared.directive.NumberRead.{NumberRead}
 use Rattle.reader.specs.declared.directive.NumberRead.the-variants.{Bad as BadOne, Whole as WholeOne}
 use Rattle.reader.specs.declared.directive.ParameterRead.{ParameterRead}
@@ -260,7 +260,8 @@ module _ (t : List ℕ) (p : ℕ) (colon at : Bool) (ps : Parameters) (h : p < l
   at-on e f = rw (scan-on t p modifiers (marked colon at ps) h, step, e, f)
 
   pub code-ends : both (eqb (getD t p 0) 58) (not colon) ≡ false → both (eqb (getD t p 0) 64) (not at) ≡ false
-      → (code : Code) → code ≡ codeOf (getD t p 0) → (next : ℕ) → next ≡ p + 1 + skippedBy code colon (drop (p + 1) t)
+      → (code : Code) → code ≡ codeOf (getD t p 0) → (next : ℕ)
+      → next ≡ p + 1 + skipped (getD t p 0) colon (drop (p + 1) t)
       → scan modifiers (marked colon at ps) (drop p t) p
       ≡ Written (record { code = code; colon = colon; at = at; parameters = ps; next = next })
   unfolding step
@@ -340,7 +341,7 @@ zeros-inside t i e =
     let q = eqb-true b 48 (both-first (eqb b 48) (eqb (getD t (i + 1) 0) 48) e) in
     byte-inside t i (λ z. omega (arith, q, z))
 
-zero-byte : (b : ℕ) → inClass 48 48 48 b ≡ true → b ≡ 48
+zero-byte : (b : ℕ) → isZero b ≡ true → b ≡ 48
 zero-byte b e = elim (decEq b 48) [
   | yes z ↦ z
   | no z ↦
@@ -355,16 +356,16 @@ greatest-few true = omega arith
 greatest-few false = omega arith
 
 abbrev zeros : List ℕ → ℕ → ℕ
-zeros t i = spanOf (inClass 48 48 48) (drop i t)
+zeros t i = spanOf isZero (drop i t)
 
 module _ (t : List ℕ) (first : ℕ) (m : Bool) where
   zeros-passed : (k i : ℕ) → Numbering t first m 0 i → k ≤ zeros t i → Numbering t first m 0 (i + k)
   zeros-passed zero i s e = let none : i + 0 ≡ i = omega arith in rw none s
   zeros-passed (suc k) i s e =
       let some : 1 ≤ zeros t i = omega (arith, e) in
-      let h = span-inside (inClass 48 48 48) t i some in
-      let b = zero-byte (getD t i 0) (span-first (inClass 48 48 48) t i some) in
-      let on : k ≤ zeros t (i + 1) = omega (arith, e, span-on (inClass 48 48 48) t i h (rw b)) in
+      let h = span-inside isZero t i some in
+      let b = zero-byte (getD t i 0) (span-first isZero t i some) in
+      let on : k ≤ zeros t (i + 1) = omega (arith, e, span-on isZero t i h (rw b)) in
       let next : i + 1 + k ≡ i + suc k = omega arith in
       let more = number-more s 48 (greatestOf m) (rw (lt-ltb i (length t) h, b)) (sym b) (refl, greatest-few m) (omega arith) in
       rw next at (zeros-passed k (i + 1) more on)

@@ -8,24 +8,22 @@ use native.Mathlib.Decide.{ℕ-discrete as decEq}
 use native.Mathlib.Omega.{arith}
 use borrow.Author.Tests.{lt-ltb, le-leb, eq-eqb, ne-eqb}
 use lib.ListN.{length, getD, drop, List·getD-eq-default}
-use Rattle.rules.specs.Directive.{Reading, whole, modifiers, scan, blank, having, closed, pending, withParameter, noParameters, isDigit, codeNamed, codeOf, itemAt}
+use Rattle.rules.specs.Directive.{Reading, whole, modifiers, scan, blank, having, closed, pending, withParameter, noParameters, isDigit, lowerCase, codeOf, itemAt}
 use Rattle.rules.specs.Rows.{wellWritten}
-use Rattle.rules.specs.declared.Code.{Code}
-use Rattle.rules.specs.declared.Code.the-variants.{Writes, Jump, Escape, Opens, Separator, Closes, Unknown}
+use Rattle.rules.specs.declared.Code.the-variants.{Writes}
 use Rattle.rules.specs.declared.Directive.{Directive}
 use Rattle.rules.specs.declared.Form.{Form}
-use Rattle.rules.specs.declared.Form.the-variants.{Object, Numeral, Glyph, Plural, Repeat, Fold}
 use Rattle.rules.specs.declared.Item.the-variants.{Written}
 use Rattle.rules.specs.declared.Parameter.the-variants.{Character}
 use Rattle.rules.specs.declared.Parameters.{Parameters}
 use Rattle.rules.specs.declared.Setting.{Setting}
 use Rattle.rules.specs.declared.Setting.the-variants.{Absent, Is}
 use Rattle.rules.proofs.Reading.{item-tilde}
-use Rattle.reader.specs.Scans.{digitAt, zerosAt, numberFrom, afterAt, skippedBy, Numbers}
+use Rattle.reader.specs.Scans.{digitAt, zerosAt, numberFrom, afterAt, Numbers}
 use Rattle.reader.specs.declared.directive.NumberRead.{NumberRead}
 use Rattle.reader.specs.declared.directive.NumberRead.the-variants.{Bad as BadOne, Whole as WholeOne}
-use Rattle.reader.specs.Shorts.{settingOf, shortForm, shortParameters, shortDirective, NumberIn, CharacterIn, NoneIn, ShortIn, ShortAt, leading, NoSign, Leads}
-use Rattle.reader.specs.Shorts.{kindOf, detailOf, fitsIn, codedAt, secondAt, afterSecond, shortAfter, leadingAt, shortAt, nextOr, ShortRead, AfterShort}
+use Rattle.reader.specs.Shorts.{Brief, object, numeral, repeats, formOf, briefOf, settingOf, shortForm, shortParameters, shortDirective, NumberIn, CharacterIn, NoneIn, ShortIn, ShortAt, leading, NoSign, Leads}
+use Rattle.reader.specs.Shorts.{shortKind, shortDetail, fitsIn, codedAt, secondAt, afterSecond, shortAfter, leadingAt, shortAt, nextOr, ShortRead, AfterShort}
 use Rattle.reader.specs.declared.short.Short.{Short}
 use Rattle.reader.specs.declared.short.Short.the-variants.{Other, Is as IsOne}
 use Rattle.reader.proofs.ScanLaws.{byte-inside, test-inside, test-true, test-false, start-digit, start-other, comma-on, comma-none, quote-whole, marked, code-ends}
@@ -42,7 +40,7 @@ module _ (t : List ℕ) (number : ℕ) where
   past = let h : length t ≤ length t = omega arith in List·getD-eq-default t 0 h
 
   uncoded : codedAt t number 256 (length t) ≡ Other
-  unfolding codeNamed codedAt
+  unfolding shortKind codedAt
   uncoded = rw past
 
   none-past : shortAfter t (WholeOne number (length t)) ≡ Other
@@ -94,35 +92,30 @@ module _ (t : List ℕ) (first : ℕ) (h : first ≤ length t) where
           few = omega (arith, u .few);
         }
 
--- 2. A code that writes begins no parameter and is no modifier.
+-- 2. A letter of a short directive begins no parameter, is no modifier and no newline.
 
-abbrev writes : Code → ℕ
-writes (Writes f) = 1
-writes Jump = 0
-writes Escape = 0
-writes (Opens b) = 0
-writes Separator = 0
-writes (Closes b) = 0
-writes Unknown = 0
+module _ (b : ℕ) (e : shortKind (lowerCase b) ≡ 3 → ⊥) where
+  other-than : (k : ℕ) → shortKind (lowerCase k) ≡ 3 → b ≡ k → ⊥
+  other-than k u q = e (ap (λ (c : ℕ). shortKind (lowerCase c)) q ∙ u)
 
-module _ (b : ℕ) (f : Form) (e : codeOf b ≡ Writes f) where
-  other-than : (k : ℕ) → writes (codeOf k) ≡ 0 → b ≡ k → ⊥
-  other-than k u q = let z : _≡_ {A = ℕ} 0 1 = sym u ∙ ap writes (ap codeOf (sym q) ∙ e) in omega (arith, z)
-
-  pub no-comma : b ≡ 44 → ⊥
-  unfolding codeNamed
+  no-comma : b ≡ 44 → ⊥
+  unfolding shortKind
   no-comma = other-than 44 refl
 
   no-colon : b ≡ 58 → ⊥
-  unfolding codeNamed
+  unfolding shortKind
   no-colon = other-than 58 refl
 
   no-at : b ≡ 64 → ⊥
-  unfolding codeNamed
+  unfolding shortKind
   no-at = other-than 64 refl
 
+  no-newline : b ≡ 10 → ⊥
+  unfolding shortKind
+  no-newline = other-than 10 refl
+
   no-sign : (t : List ℕ) (i : ℕ) → getD t i 0 ≡ b → NoSign t i
-  unfolding codeNamed
+  unfolding shortKind
   no-sign t i q = record {
     plus = λ z. other-than 43 refl (sym q ∙ z);
     minus = λ z. other-than 45 refl (sym q ∙ z);
@@ -150,24 +143,17 @@ comma-sign t i q = record {
 
 -- 3. The directive that is read.
 
-none-skipped : (f : Form) (x y : Setting) (bs : List ℕ) → ShortIn f x y → skippedBy (Writes f) false bs ≡ 0
-none-skipped (Object q) x y bs s = refl
-none-skipped (Numeral b) x y bs s = refl
-none-skipped Glyph x y bs s = absurd s
-none-skipped Plural x y bs s = absurd s
-none-skipped (Repeat b) x y bs s = refl
-none-skipped Fold x y bs s = absurd s
-
 -- the code at i, after the parameters ps
-module _ (t : List ℕ) (i : ℕ) (f : Form) (x y : Setting) (h : i < length t) (e : codeOf (getD t i 0) ≡ Writes f) (s : ShortIn f x y) where
-  pub code-read : (r : Reading) (d : Directive) (ps : Parameters) → having d (closed r (d .parameters)) ≡ marked false false ps
+module _ (t : List ℕ) (i : ℕ) (f : Form) (h : i < length t) (e : codeOf (getD t i 0) ≡ Writes f)
+    (s : shortKind (lowerCase (getD t i 0)) ≡ 3 → ⊥) where
+  code-read : (r : Reading) (d : Directive) (ps : Parameters) → having d (closed r (d .parameters)) ≡ marked false false ps
       → afterAt t r d i ≡ Written (record { code = Writes f; colon = false; at = false; parameters = ps; next = i + 1 })
   code-read r d ps q =
-      comma-none t i r d (rw (lt-ltb i (length t) h, ne-eqb (getD t i 0) 44 (no-comma (getD t i 0) f e)))
+      comma-none t i r d (rw (lt-ltb i (length t) h, ne-eqb (getD t i 0) 44 (no-comma (getD t i 0) s)))
       ∙ ap (λ (m : Directive). scan modifiers m (drop i t) i) q
-      ∙ code-ends t i false false ps h (rw (ne-eqb (getD t i 0) 58 (no-colon (getD t i 0) f e)))
-      (rw (ne-eqb (getD t i 0) 64 (no-at (getD t i 0) f e))) (Writes f) (sym e) (i + 1)
-      (omega (arith, none-skipped f x y (drop (i + 1) t) s))
+      ∙ code-ends t i false false ps h (rw (ne-eqb (getD t i 0) 58 (no-colon (getD t i 0) s)))
+      (rw (ne-eqb (getD t i 0) 64 (no-at (getD t i 0) s))) (Writes f) (sym e) (i + 1)
+      (rw (ne-eqb (getD t i 0) 10 (no-newline (getD t i 0) s)) (omega arith))
 
 -- without a character, and with one
 closed-one : (x : Setting) → having blank (closed (leading x) noParameters) ≡ marked false false (shortParameters x Absent)
@@ -184,19 +170,21 @@ module _ (t : List ℕ) (p number i : ℕ) (f : Form) (h : p < length t) (e : ge
   abbrev lead : Setting
   lead = settingOf 4097 number
 
-  one-read : (k : i < length t) → codeOf (getD t i 0) ≡ Writes f → ShortIn f lead Absent → itemAt t p ≡ Written (shortDirective f lead Absent (i + 1))
+  one-read : (k : i < length t) → codeOf (getD t i 0) ≡ Writes f → (shortKind (lowerCase (getD t i 0)) ≡ 3 → ⊥)
+      → itemAt t p ≡ Written (shortDirective f lead Absent (i + 1))
   one-read k w s =
-      item-tilde t p h e ∙ l .is k (no-sign (getD t i 0) f w t i refl) blank
-      ∙ code-read t i f lead Absent k w s (leading lead) blank (shortParameters lead Absent) (closed-one lead)
+      item-tilde t p h e ∙ l .is k (no-sign (getD t i 0) s t i refl) blank
+      ∙ code-read t i f k w s (leading lead) blank (shortParameters lead Absent) (closed-one lead)
 
   two-read : (c j : ℕ) → j ≡ i + 1 + 1 + 1 → i + 1 + 1 < length t → getD t i 0 ≡ 44 → getD t (i + 1) 0 ≡ 39 → c ≡ getD t (i + 1 + 1) 0
-      → j < length t → codeOf (getD t j 0) ≡ Writes f → ShortIn f lead (Is c) → itemAt t p ≡ Written (shortDirective f lead (Is c) (j + 1))
+      → j < length t → codeOf (getD t j 0) ≡ Writes f → (shortKind (lowerCase (getD t j 0)) ≡ 3 → ⊥)
+      → itemAt t p ≡ Written (shortDirective f lead (Is c) (j + 1))
   two-read c j is k comma mark q m w s =
       item-tilde t p h e ∙ l .is (omega arith) (comma-sign t i comma) blank
       ∙ comma-on t i (leading lead) blank (rw (lt-ltb i (length t) (omega arith), eq-eqb (getD t i 0) 44 comma))
       ∙ quote-whole t (i + 1) (having blank (withParameter noParameters (pending (leading lead)))) (omega arith) mark k
       ∙ rw (← q, ← is)
-      (code-read t j f lead (Is c) m w s (whole (Character c)) (having blank (withParameter noParameters (pending (leading lead)))) (shortParameters lead (Is c)) (closed-two lead c))
+      (code-read t j f m w s (whole (Character c)) (having blank (withParameter noParameters (pending (leading lead)))) (shortParameters lead (Is c)) (closed-two lead c))
 
 -- 4. What is read is what the definition reads.
 
@@ -216,7 +204,7 @@ none-in : (c : ℕ) → c ≡ 256 → NoneIn (settingOf 256 c)
 none-in c z = rw (eq-eqb c 256 z) tt
 
 short-in : (kind detail number byte : ℕ) → Fits kind byte → number ≤ 4097 → byte ≤ 256
-    → ShortIn (shortForm kind detail) (settingOf 4097 number) (settingOf 256 byte)
+    → ShortIn (briefOf kind detail) (settingOf 4097 number) (settingOf 256 byte)
 short-in kind detail number byte u h k = elim (decEq kind 0) [
   | yes z ↦ rw (eq-eqb kind 0 z) (number-in number h, none-in byte (u .alone (λ o. omega (arith, z, o))))
   | no z ↦ elim (decEq kind 1) [
@@ -242,46 +230,45 @@ second-is t i c e z = elim (decEq (getD t i 0) 44) [
 
 module _ (t : List ℕ) (p number i byte : ℕ) (h : p < length t) (e : getD t p 0 ≡ 126) (l : Leads t (p + 1) number i)
     (c : byte ≡ secondAt t i) (few : byte ≤ 256) where
-  -- a code of the kind stands at j, after the parameters
-  module _ (j kind detail : ℕ) (q : j ≡ afterSecond i byte) (f : Fits kind byte) (w : codeOf (getD t j 0) ≡ Writes (shortForm kind detail)) where
+  -- a letter of the kind stands at j, after the parameters
+  module _ (j kind detail : ℕ) (q : j ≡ afterSecond i byte) (f : Fits kind byte) (n : shortKind (lowerCase (getD t j 0)) ≡ 3 → ⊥)
+      (w : codeOf (getD t j 0) ≡ Writes (shortForm kind detail)) where
     inside : j < length t
-    unfolding codeNamed
-    inside = byte-inside t j (other-than (getD t j 0) (shortForm kind detail) w 0 refl)
-
-    suits : ShortIn (shortForm kind detail) (settingOf 4097 number) (settingOf 256 byte)
-    suits = short-in kind detail number byte f (l .few) few
+    unfolding shortKind
+    inside = byte-inside t j (other-than (getD t j 0) n 0 refl)
 
     item : Dec (byte ≡ 256) → itemAt t p ≡ Written (shortDirective (shortForm kind detail) (settingOf 4097 number) (settingOf 256 byte) (j + 1))
     item (yes z) =
         let y = eq-eqb byte 256 z in
         let k : j ≡ i = q ∙ rw y in
-        let s : ShortIn (shortForm kind detail) (settingOf 4097 number) Absent = rw y at suits in
-        rw (y, k) (one-read t p number i (shortForm kind detail) h e l (rw k at inside) (rw k at w) s)
+        rw (y, k) (one-read t p number i (shortForm kind detail) h e l (rw k at inside) (rw k at w) (rw k at n))
     item (no z) =
         let y = ne-eqb byte 256 z in
         let k : j ≡ i + 1 + 1 + 1 = q ∙ rw y (omega arith) in
-        let n : i + 2 ≡ i + 1 + 1 = omega arith in
+        let o : i + 2 ≡ i + 1 + 1 = omega arith in
         let b = second-is t i byte c z in
-        let s : ShortIn (shortForm kind detail) (settingOf 4097 number) (Is byte) = rw y at suits in
         rw y (two-read t p number i (shortForm kind detail) h e l byte j k (omega (arith, inside)) (b .comma) (b .mark)
-        (rw n at (b .is)) inside w s)
+        (rw o at (b .is)) inside w n)
 
   coded-means : (j : ℕ) → j ≡ afterSecond i byte → ShortAt t p (codedAt t number byte j)
   unfolding codedAt
   coded-means j q = by (fitsIn kind byte) refl
     where
       kind : ℕ
-      kind = kindOf (codeOf (getD t j 0))
+      kind = shortKind (lowerCase (getD t j 0))
 
       detail : ℕ
-      detail = detailOf (codeOf (getD t j 0))
+      detail = shortDetail (lowerCase (getD t j 0))
 
       by : (y : Bool) → fitsIn kind byte ≡ y → ShortAt t p (cond y (IsOne kind detail number byte (j + 1)) Other)
       by false f = tt
       by true f =
           let u = fits-is kind byte f in
-          let w = kind-is (codeOf (getD t j 0)) (u .known) in
-          record { item = item j kind detail q u w (decEq byte 256); suits = suits j kind detail q u w }
+          let w = kind-is (lowerCase (getD t j 0)) (u .known) in
+          record {
+            item = item j kind detail q u (u .known) w (decEq byte 256);
+            suits = short-in kind detail number byte u (l .few) few;
+          }
 
   pub short-read : (j : ℕ) → j ≡ afterSecond i byte → (r : Short) → r ≡ codedAt t number byte j → ShortRead t p r
   unfolding shortAt
@@ -299,18 +286,15 @@ after-read t p s u = record { is = ap (nextOr p) (u .is); means = subst (ShortAt
 
 -- 5. It is well written.
 
-pub short-well : (f : Form) (x y : Setting) (next : ℕ) → ShortIn f x y → wellWritten (shortDirective f x y next) ≡ true
+pub short-well : (b : Brief) (x y : Setting) (next : ℕ) → ShortIn b x y → wellWritten (shortDirective (formOf b) x y next) ≡ true
 unfolding wellWritten
-short-well (Object q) Absent Absent next s = refl
-short-well (Object q) (Is n) Absent next s = rw (le-leb 0 n (omega arith), le-leb n 4096 (s .0))
-short-well (Object q) x (Is c) next s = absurd (s .1)
-short-well (Numeral b) Absent Absent next s = refl
-short-well (Numeral b) (Is n) Absent next s = rw (le-leb 0 n (omega arith), le-leb n 4096 (s .0))
-short-well (Numeral b) Absent (Is c) next s = refl
-short-well (Numeral b) (Is n) (Is c) next s = rw (le-leb 0 n (omega arith), le-leb n 4096 (s .0))
-short-well Glyph x y next s = absurd s
-short-well Plural x y next s = absurd s
-short-well (Repeat b) Absent Absent next s = refl
-short-well (Repeat b) (Is n) Absent next s = rw (le-leb 0 n (omega arith), le-leb n 4096 (s .0))
-short-well (Repeat b) x (Is c) next s = absurd (s .1)
-short-well Fold x y next s = absurd s
+short-well (object q) Absent Absent next s = refl
+short-well (object q) (Is n) Absent next s = rw (le-leb 0 n (omega arith), le-leb n 4096 (s .0))
+short-well (object q) x (Is c) next s = absurd (s .1)
+short-well (numeral b) Absent Absent next s = refl
+short-well (numeral b) (Is n) Absent next s = rw (le-leb 0 n (omega arith), le-leb n 4096 (s .0))
+short-well (numeral b) Absent (Is c) next s = refl
+short-well (numeral b) (Is n) (Is c) next s = rw (le-leb 0 n (omega arith), le-leb n 4096 (s .0))
+short-well (repeats b) Absent Absent next s = refl
+short-well (repeats b) (Is n) Absent next s = rw (le-leb 0 n (omega arith), le-leb n 4096 (s .0))
+short-well (repeats b) x (Is c) next s = absurd (s .1)

@@ -7,9 +7,9 @@ use mathlib.Core.List.{List, [], _∷_}
 use lib.Dec.{ltb, leb, eqb}
 use lib.ListN.{length, getD, drop}
 use Rattle.rules.specs.Choice.{both}
-use Rattle.rules.specs.Directive.{Reading, start, signed, whole, isDigit, blanks, skips, scan, afterStep, onStep}
+use Rattle.rules.specs.Letters.{letter}
+use Rattle.rules.specs.Directive.{Reading, start, signed, whole, isDigit, scan, afterStep, onStep}
 use Rattle.rules.specs.Directive.{going, skipped, pending, oneMore}
-use Rattle.rules.specs.declared.Code.{Code}
 use Rattle.rules.specs.declared.Directive.{Directive}
 use Rattle.rules.specs.declared.Item.{Item}
 use Rattle.rules.specs.declared.Item.the-variants.{BadNumber, Unfinished}
@@ -24,11 +24,11 @@ abbrev pub digitAt : List ℕ → ℕ → Bool
 digitAt t i = both (ltb i (length t)) (isDigit (getD t i 0))
 
 abbrev pub commaAt : List ℕ → ℕ → Bool
-commaAt t i = both (ltb i (length t)) (eqb (getD t i 0) 44)
+commaAt t i = both (ltb i (length t)) (eqb (getD t i 0) (letter ","))
 
 -- two zeros stand at i
 abbrev pub zerosAt : List ℕ → ℕ → Bool
-zerosAt t i = both (eqb (getD t i 0) 48) (eqb (getD t (i + 1) 0) 48)
+zerosAt t i = both (eqb (getD t i 0) (letter "0")) (eqb (getD t (i + 1) 0) (letter "0"))
 
 abbrev pub greatestOf : Bool → ℕ
 greatestOf minus = cond minus 0 4096
@@ -42,7 +42,7 @@ abbrev pub afterAt : List ℕ → Reading → Directive → ℕ → Item
 afterAt t r d i =
     inside (ltb i (length t))
     (λ _. onStep (afterStep r d (getD t i 0)) (λ r₂ d₂. scan r₂ d₂ (drop (i + 1) t) (i + 1))
-    (λ d₂. going d₂ (i + 1 + skipped d₂ (drop (i + 1) t))))
+    (λ d₂. going d₂ (i + 1 + skipped (getD t i 0) (d₂ .colon) (drop (i + 1) t))))
 
 -- where reading stands after a parameter, written or not
 abbrev pub reading : Bool → Parameter → Reading
@@ -95,6 +95,3 @@ pub record Numbers (t : List ℕ) (i : ℕ) (minus : Bool) (r : NumberRead) : Ty
 pub record Parametrises (t : List ℕ) (i : ℕ) (r : ParameterRead) : Type 0 where
   pub is : (d : Directive) → scan start d (drop i t) i ≡ onParameter t d r
   pub advances : Advances t i r
-
-abbrev pub skippedBy : Code → Bool → List ℕ → ℕ
-skippedBy code colon bs = cond (skips code colon) (blanks bs) 0

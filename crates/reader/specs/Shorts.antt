@@ -4,17 +4,17 @@ use Prim.Native.Nat.{ℕ, _+_, _≤_, _<_}
 use mathlib.Core.Path.{_≡_}
 use mathlib.Core.Logic.{_⊎_}
 use mathlib.Core.Bool.{Bool, true, false, cond}
-use mathlib.Core.List.{List}
+use mathlib.Core.List.{List, [], _∷_}
 use lib.Dec.{eqb}
 use lib.ListN.{length, getD, drop}
 use Rattle.rules.specs.Choice.{both}
-use Rattle.rules.specs.Directive.{Reading, start as starting, whole, scan, codeOf, itemAt, noParameters}
+use Rattle.rules.specs.Letters.{letter, lookUp}
+use Rattle.rules.specs.Directive.{Reading, start as starting, whole, lowerCase, scan, itemAt, noParameters}
 use Rattle.rules.specs.Text.{Block, verdictAt, innermost, outer, levelsAt}
-use Rattle.rules.specs.declared.Code.{Code}
-use Rattle.rules.specs.declared.Code.the-variants.{Writes, Jump, Escape, Opens, Separator, Closes, Unknown}
+use Rattle.rules.specs.declared.Code.the-variants.{Writes}
 use Rattle.rules.specs.declared.Directive.{Directive}
 use Rattle.rules.specs.declared.Form.{Form}
-use Rattle.rules.specs.declared.Form.the-variants.{Object, Numeral, Glyph, Plural, Repeat, Fold}
+use Rattle.rules.specs.declared.Form.the-variants.{Object, Numeral, Repeat}
 use Rattle.rules.specs.declared.Item.the-variants.{Written}
 use Rattle.rules.specs.declared.Parameter.the-variants.{Default, Number, Character}
 use Rattle.rules.specs.declared.Parameters.{Parameters}
@@ -30,8 +30,46 @@ use Rattle.reader.specs.declared.short.Short.the-variants.{Other, Is as 
 abbrev pub settingOf : ℕ → ℕ → Setting
 settingOf none n = cond (eqb n none) Absent (Is n)
 
+-- What may be short: ~a and, with true, ~s; ~d ~x ~o ~b by their base; ~~ ~% ~_ ~| ~/ by the byte that they repeat
+pub data Brief : Type 0 where
+  object : Bool → Brief
+  numeral : ℕ → Brief
+  repeats : ℕ → Brief
+
+abbrev pub formOf : Brief → Form
+formOf (object q) = Object q
+formOf (numeral base) = Numeral base
+formOf (repeats b) = Repeat b
+
+-- The same as numbers: the kind is 0, 1 or 2 in this order, and 3 for what is not short; the detail is 1 for ~s, the
+-- base, or the byte repeated
+abbrev pub briefOf : ℕ → ℕ → Brief
+briefOf kind detail = cond (eqb kind 0) (object (eqb detail 1)) (cond (eqb kind 1) (numeral detail) (repeats detail))
+
 abbrev pub shortForm : ℕ → ℕ → Form
-shortForm kind detail = cond (eqb kind 0) (Object (eqb detail 1)) (cond (eqb kind 1) (Numeral detail) (Repeat detail))
+shortForm kind detail = formOf (briefOf kind detail)
+
+-- kind and detail by the letter
+abbrev pub shortLetters : List (ℕ × (ℕ × ℕ))
+shortLetters =
+    (letter "a", (0, 0))
+    ∷ (letter "s", (0, 1))
+    ∷ (letter "d", (1, 10))
+    ∷ (letter "x", (1, 16))
+    ∷ (letter "o", (1, 8))
+    ∷ (letter "b", (1, 2))
+    ∷ (letter "~", (2, letter "~"))
+    ∷ (letter "|", (2, 12))
+    ∷ (letter "%", (2, letter "\n"))
+    ∷ (letter "_", (2, letter " "))
+    ∷ (letter "/", (2, letter "\t"))
+    ∷ []
+
+unfoldable pub shortKind : ℕ → ℕ
+shortKind b = lookUp shortLetters (3, 0) b .0
+
+unfoldable pub shortDetail : ℕ → ℕ
+shortDetail b = lookUp shortLetters (3, 0) b .1
 
 -- the parameters of a short directive: a number x and a character y
 abbrev pub shortParameters : Setting → Setting → Parameters
@@ -47,7 +85,7 @@ abbrev pub shortDirective : Form → Setting → Setting → ℕ → Directive
 shortDirective f x y next =
     record { code = Writes f; colon = false; at = false; parameters = shortParameters x y; next = next }
 
--- the forms of short directives, with the parameters that they take
+-- the parameters that a short directive takes
 abbrev pub NumberIn : Setting → Type 0
 NumberIn Absent = Unit {0}
 NumberIn (Is n) = n ≤ 4096
@@ -60,53 +98,20 @@ abbrev pub NoneIn : Setting → Type 0
 NoneIn Absent = Unit {0}
 NoneIn (Is c) = ⊥
 
-abbrev pub ShortIn : Form → Setting → Setting → Type 0
-ShortIn (Object q) x y = NumberIn x × NoneIn y
-ShortIn (Numeral base) x y = NumberIn x × CharacterIn y
-ShortIn Glyph x y = ⊥
-ShortIn Plural x y = ⊥
-ShortIn (Repeat b) x y = NumberIn x × NoneIn y
-ShortIn Fold x y = ⊥
+abbrev pub ShortIn : Brief → Setting → Setting → Type 0
+ShortIn (object q) x y = NumberIn x × NoneIn y
+ShortIn (numeral base) x y = NumberIn x × CharacterIn y
+ShortIn (repeats b) x y = NumberIn x × NoneIn y
 
 -- a short directive stands at p
-pub record IsShort (t : List ℕ) (p : ℕ) (f : Form) (x y : Setting) (next : ℕ) : Type 0 where
-  pub item : itemAt t p ≡ Written (shortDirective f x y next)
-  pub suits : ShortIn f x y
+pub record IsShort (t : List ℕ) (p : ℕ) (s : Brief) (x y : Setting) (next : ℕ) : Type 0 where
+  pub item : itemAt t p ≡ Written (shortDirective (formOf s) x y next)
+  pub suits : ShortIn s x y
 
 abbrev pub ShortAt : List ℕ → ℕ → Short → Type 0
 ShortAt t p Other = Unit {0}
 ShortAt t p (IsOne kind detail number byte next) =
-    IsShort t p (shortForm kind detail) (settingOf 4097 number) (settingOf 256 byte) next
-
--- What the code of a short directive is, as numbers: its kind is 0 for ~a ~s, 1 for ~d ~x ~o ~b, 2 for ~~ ~% ~_ ~| ~/
--- and 3 for any other; its detail is 1 for ~s, the base, or the byte repeated
-abbrev pub kindOf : Code → ℕ
-kindOf (Writes (Object q)) = 0
-kindOf (Writes (Numeral base)) = 1
-kindOf (Writes Glyph) = 3
-kindOf (Writes Plural) = 3
-kindOf (Writes (Repeat b)) = 2
-kindOf (Writes Fold) = 3
-kindOf Jump = 3
-kindOf Escape = 3
-kindOf (Opens b) = 3
-kindOf Separator = 3
-kindOf (Closes b) = 3
-kindOf Unknown = 3
-
-abbrev pub detailOf : Code → ℕ
-detailOf (Writes (Object q)) = cond q 1 0
-detailOf (Writes (Numeral base)) = base
-detailOf (Writes Glyph) = 0
-detailOf (Writes Plural) = 0
-detailOf (Writes (Repeat b)) = b
-detailOf (Writes Fold) = 0
-detailOf Jump = 0
-detailOf Escape = 0
-detailOf (Opens b) = 0
-detailOf Separator = 0
-detailOf (Closes b) = 0
-detailOf Unknown = 0
+    IsShort t p (briefOf kind detail) (settingOf 4097 number) (settingOf 256 byte) next
 
 -- whether a directive of the kind is short with this character, or none: only a numeral may have one
 abbrev pub fitsIn : ℕ → ℕ → Bool
@@ -117,11 +122,13 @@ shortOf kind detail number byte next = cond (fitsIn kind byte) (IsOne kind detai
 
 -- the short directive whose parameters are read, and whose code stands at i
 unfoldable pub codedAt : List ℕ → ℕ → ℕ → ℕ → Short
-codedAt t number byte i = shortOf (kindOf (codeOf (getD t i 0))) (detailOf (codeOf (getD t i 0))) number byte (i + 1)
+codedAt t number byte i =
+    let b : ℕ = lowerCase (getD t i 0) in
+    shortOf (shortKind b) (shortDetail b) number byte (i + 1)
 
 -- the character c of a `,'c` at i, or 256; and where the text goes on then
 abbrev pub secondAt : List ℕ → ℕ → ℕ
-secondAt t i = cond (both (eqb (getD t i 0) 44) (eqb (getD t (i + 1) 0) 39)) (getD t (i + 2) 0) 256
+secondAt t i = cond (both (eqb (getD t i 0) (letter ",")) (eqb (getD t (i + 1) 0) (letter "'"))) (getD t (i + 2) 0) 256
 
 abbrev pub afterSecond : ℕ → ℕ → ℕ
 afterSecond i byte = cond (eqb byte 256) i (i + 3)
@@ -138,7 +145,7 @@ leadingAt t i = cond (digitAt t i) (cond (zerosAt t i) Bad (numberAt t false i))
 
 -- the short directive at p, if one stands there
 unfoldable pub shortAt : List ℕ → ℕ → Short
-shortAt t p = cond (eqb (getD t p 0) 126) (shortAfter t (leadingAt t (p + 1))) Other
+shortAt t p = cond (eqb (getD t p 0) (letter "~")) (shortAfter t (leadingAt t (p + 1))) Other
 
 -- r is the short directive at p, and what that says
 pub record ShortRead (t : List ℕ) (p : ℕ) (r : Short) : Type 0 where
@@ -161,11 +168,11 @@ leading (Is n) = whole (Number n)
 
 -- the byte at i begins no parameter, or none but a number
 pub record NoSign (t : List ℕ) (i : ℕ) : Type 0 where
-  pub plus : getD t i 0 ≡ 43 → ⊥
-  pub minus : getD t i 0 ≡ 45 → ⊥
-  pub quoted : getD t i 0 ≡ 39 → ⊥
-  pub taken : (getD t i 0 ≡ 86) ⊎ (getD t i 0 ≡ 118) → ⊥
-  pub counted : getD t i 0 ≡ 35 → ⊥
+  pub plus : getD t i 0 ≡ letter "+" → ⊥
+  pub minus : getD t i 0 ≡ letter "-" → ⊥
+  pub quoted : getD t i 0 ≡ letter "'" → ⊥
+  pub taken : (getD t i 0 ≡ letter "V") ⊎ (getD t i 0 ≡ letter "v") → ⊥
+  pub counted : getD t i 0 ≡ letter "#" → ⊥
 
 -- the number that begins at `first`, or none, ends at next, unless a sign, a character, `v` or `#` follows; then nothing
 -- short stands there
@@ -186,7 +193,7 @@ pub record Skips (t : List ℕ) (first r : ℕ) : Type 0 where
 
 -- the text ends at r, or a directive stands there that is not short
 abbrev pub Stops : List ℕ → ℕ → Type 0
-Stops t r = (length t ≤ r) ⊎ ((getD t r 0 ≡ 126) × (shortAt t r ≡ Other))
+Stops t r = (length t ≤ r) ⊎ ((getD t r 0 ≡ letter "~") × (shortAt t r ≡ Other))
 
 pub record SkipsShort (t : List ℕ) (first r : ℕ) : Type 0 where
   pub over : Skips t first r

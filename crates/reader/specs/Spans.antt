@@ -6,10 +6,14 @@ use mathlib.Core.List.{List, [], _∷_}
 use lib.Dec.{leb, eqb}
 use lib.ListN.{length, getD, drop}
 use Rattle.rules.specs.Choice.{both}
+use Rattle.rules.specs.Letters.{letter}
 
 -- a class of bytes: those from low to high, and one other
 abbrev pub inClass : ℕ → ℕ → ℕ → ℕ → Bool
 inClass low high other b = cond (eqb b other) true (both (leb low b) (leb b high))
+
+abbrev pub isZero : ℕ → Bool
+isZero = inClass (letter "0") (letter "0") (letter "0")
 
 -- how many bytes at the head of the list are of a class
 unfoldable pub spanOf : (ℕ → Bool) → List ℕ → ℕ

@@ -1,4 +1,4 @@
-// The code of a directive, and the parameters and modifiers that it takes.
+// The code of a directive, by its letter.
 use rules::Bracket;
 use rules::Code;
 use rules::Form;
@@ -8,10 +8,10 @@ ghost use Rattle.rules.specs.Directive.{lowerCase, codeNamed, codeOf};
 pub fn lower_case(b: u8) -> u8
     ensures { λ r. ⌜ r ≡ lowerCase b ⌝ }
 {
-    if b < 65 {
+    if b < b'A' {
         return b;
     }
-    if 90 < b {
+    if b'Z' < b {
         return b;
     }
     b + 32
@@ -21,27 +21,27 @@ fn code_named(b: u8) -> Code
     ensures { λ r. ⌜ r ≡ codeNamed b ⌝ }
 {
     match b {
-        97 => Code::Writes(Form::Object(false)),
-        115 => Code::Writes(Form::Object(true)),
-        100 => Code::Writes(Form::Numeral(10)),
-        120 => Code::Writes(Form::Numeral(16)),
-        111 => Code::Writes(Form::Numeral(8)),
-        98 => Code::Writes(Form::Numeral(2)),
-        99 => Code::Writes(Form::Glyph),
-        112 => Code::Writes(Form::Plural),
-        42 => Code::Jump,
-        126 => Code::Writes(Form::Repeat(126)),
-        37 => Code::Writes(Form::Repeat(10)),
-        95 => Code::Writes(Form::Repeat(32)),
-        124 => Code::Writes(Form::Repeat(12)),
-        47 => Code::Writes(Form::Repeat(9)),
-        10 => Code::Writes(Form::Fold),
-        91 => Code::Opens(Bracket::Conditional),
-        59 => Code::Separator,
-        93 => Code::Closes(Bracket::Conditional),
-        123 => Code::Opens(Bracket::Iteration),
-        125 => Code::Closes(Bracket::Iteration),
-        94 => Code::Escape,
+        b'a' => Code::Writes(Form::Object(false)),
+        b's' => Code::Writes(Form::Object(true)),
+        b'd' => Code::Writes(Form::Numeral(10)),
+        b'x' => Code::Writes(Form::Numeral(16)),
+        b'o' => Code::Writes(Form::Numeral(8)),
+        b'b' => Code::Writes(Form::Numeral(2)),
+        b'c' => Code::Writes(Form::Glyph),
+        b'p' => Code::Writes(Form::Plural),
+        b'*' => Code::Jump,
+        b'~' => Code::Writes(Form::Repeat(b'~')),
+        b'%' => Code::Writes(Form::Repeat(b'\n')),
+        b'_' => Code::Writes(Form::Repeat(b' ')),
+        b'|' => Code::Writes(Form::Repeat(12)),
+        b'/' => Code::Writes(Form::Repeat(b'\t')),
+        b'\n' => Code::Writes(Form::Fold),
+        b'[' => Code::Opens(Bracket::Conditional),
+        b';' => Code::Separator,
+        b']' => Code::Closes(Bracket::Conditional),
+        b'{' => Code::Opens(Bracket::Iteration),
+        b'}' => Code::Closes(Bracket::Iteration),
+        b'^' => Code::Escape,
         _ => Code::Unknown,
     }
 }

@@ -3,9 +3,7 @@ use crate::codes::code_of;
 use crate::spans::STRIDE;
 use crate::spans::after_strides;
 use crate::spans::in_class;
-use rules::Code;
 use rules::Directive;
-use rules::Form;
 use rules::Item;
 use rules::Parameter;
 use rules::Parameters;
@@ -17,11 +15,11 @@ ghost use lib.Dec.{eqb};
 ghost use lib.ListN.{length, getD, drop};
 ghost use Rattle.rules.specs.Choice.{both};
 ghost use Rattle.rules.specs.Directive.{withParameter, noParameters, isDigit, isBlank, blanks, blank, having, closed};
-ghost use Rattle.rules.specs.Directive.{scan, start as starting, modifiers, itemAt};
+ghost use Rattle.rules.specs.Directive.{scan, start as starting, modifiers, skipped, itemAt};
 ghost use Rattle.reader.specs.declared.directive.ParameterRead.the-variants.{Whole};
 ghost use Rattle.reader.specs.Scans.{digitAt, commaAt, zerosAt, greatestOf, Few, Numbers, numberParameter, Parametrises};
-ghost use Rattle.reader.specs.Scans.{reading, skippedBy};
-ghost use Rattle.reader.specs.Spans.{inClass, spanOf, Along};
+ghost use Rattle.reader.specs.Scans.{reading};
+ghost use Rattle.reader.specs.Spans.{isZero, spanOf, Along};
 
 // A number that is read: its value and the position after it, or a number that is refused.
 pub enum NumberRead {
@@ -92,7 +90,7 @@ fn with_parameter(ps: Parameters, x: Parameter) -> Parameters
 fn is_digit(b: u8) -> bool
     ensures { λ r. ⌜ r ≡ isDigit b ⌝ }
 {
-    if b < 48 { false } else { b <= 57 }
+    if b < b'0' { false } else { b <= b'9' }
 }
 
 pub fn digit_at(text: &[u8], i: usize) -> bool
@@ -127,18 +125,18 @@ fn greatest(minus: bool) -> usize
 pub fn zeros_at(text: &[u8], i: usize) -> bool
     ensures { λ r. ⌜ r ≡ zerosAt (now (text .entry)) i ⌝ }
 {
-    if byte_at(text, i) != 48 {
+    if byte_at(text, i) != b'0' {
         return false;
     }
-    byte_at(text, i + 1) == 48
+    byte_at(text, i + 1) == b'0'
 }
 
 // A position among the zeros that a number at start begins with: after the strides of them, if two zeros stand there.
 fn after_zeros(text: &[u8], start: usize) -> usize
-    ensures { λ r. ⌜ (start ≤ r) × (r ≤ start + spanOf (inClass 48 48 48) (drop start (now (text .entry)))) ⌝ }
+    ensures { λ r. ⌜ (start ≤ r) × (r ≤ start + spanOf isZero (drop start (now (text .entry)))) ⌝ }
 {
     if zeros_at(text, start) {
-        return after_strides(text, start, 48, 48, 48);
+        return after_strides(text, start, b'0', b'0', b'0');
     }
     start
 }
@@ -202,16 +200,16 @@ fn read_parameter(text: &[u8], i: usize) -> ParameterRead
     }
     let next = i + 1;
     match b {
-        43 => number_parameter(read_number(text, next, false)),
-        45 => number_parameter(read_number(text, next, true)),
-        39 => {
+        b'+' => number_parameter(read_number(text, next, false)),
+        b'-' => number_parameter(read_number(text, next, true)),
+        b'\'' => {
             if next < text.len() {
                 return written_parameter(Parameter::Character(text[next]), next + 1);
             }
             ParameterRead::Cut
         }
-        118 | 86 => written_parameter(Parameter::Next, next),
-        35 => written_parameter(Parameter::Remaining, next),
+        b'v' | b'V' => written_parameter(Parameter::Next, next),
+        b'#' => written_parameter(Parameter::Remaining, next),
         _ => ParameterRead::Whole {
             parameter: Parameter::Default,
             written: false,
@@ -261,23 +259,15 @@ fn after_blanks(text: &[u8], start: usize) -> usize
     i
 }
 
-// Where the text goes on after a code that ends at i.
-fn after_code(text: &[u8], code: Code, colon: bool, i: usize) -> usize
+// Where the text goes on after the code b, which ends at i.
+fn after_code(text: &[u8], b: u8, colon: bool, i: usize) -> usize
     requires { ⌜ i ≤ length (now text) ⌝ }
-    ensures { λ r. ⌜ (r ≡ i + skippedBy code colon (drop i (now (text .entry)))) × (r ≤ length (now (text .entry))) ⌝ }
+    ensures { λ r. ⌜ (r ≡ i + skipped b colon (drop i (now (text .entry)))) × (r ≤ length (now (text .entry))) ⌝ }
 {
-    match code {
-        Code::Writes(form) => match form {
-            Form::Fold => {
-                if colon {
-                    return i;
-                }
-                after_blanks(text, i)
-            }
-            _ => i,
-        },
-        _ => i,
+    if b != b'\n' {
+        return i;
     }
+    if colon { i } else { after_blanks(text, i) }
 }
 
 // Whether b is a modifier that is not seen yet.
@@ -297,15 +287,15 @@ fn read_code(text: &[u8], start: usize, ps: Parameters) -> Item
     let mut i = start;
     while i < text.len() {
         let b = text[i];
-        if is_new(b, 58, colon) {
+        if is_new(b, b':', colon) {
             colon = true;
             i += 1;
-        } else if is_new(b, 64, at) {
+        } else if is_new(b, b'@', at) {
             at = true;
             i += 1;
         } else {
             let code = code_of(b);
-            let next = after_code(text, code, colon, i + 1);
+            let next = after_code(text, b, colon, i + 1);
             return Item::Written(Directive {
                 code,
                 colon,
@@ -337,7 +327,7 @@ fn comma_at(text: &[u8], i: usize) -> bool
 {
     if i < text.len() {
         let b = text[i];
-        b == 44
+        b == b','
     } else {
         false
     }
@@ -383,7 +373,7 @@ pub fn item_at(text: &[u8], p: usize) -> Item
         return Item::End;
     }
     let b = text[p];
-    if b == 126 {
+    if b == b'~' {
         return read_directive(text, p + 1);
     }
     Item::Literal(b)

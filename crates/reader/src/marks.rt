@@ -35,35 +35,35 @@ pub const OVER_ARGUMENTS: u8 = 8;
 fn mark_after_colon(b: u8) -> u8
     ensures { λ r. ⌜ r ≡ markAfterColon b ⌝ }
 {
-    if b == 91 { TWO_CLAUSES } else { NO_MARK }
+    if b == b'[' { TWO_CLAUSES } else { NO_MARK }
 }
 
 // The mark of a code after `@`.
 fn mark_after_at(b: u8) -> u8
     ensures { λ r. ⌜ r ≡ markAfterAt b ⌝ }
 {
-    if b == 91 {
+    if b == b'[' {
         return ONE_CLAUSE;
     }
-    if b == 123 { OVER_ARGUMENTS } else { NO_MARK }
+    if b == b'{' { OVER_ARGUMENTS } else { NO_MARK }
 }
 
 // The mark at p, if one stands there.
 pub fn mark_at(text: &[u8], p: usize) -> u8
     ensures { λ r. ⌜ r ≡ markAt (now (text .entry)) p ⌝ }
 {
-    if byte_at(text, p) != 126 {
+    if byte_at(text, p) != b'~' {
         return NO_MARK;
     }
     let b = byte_at(text, p + 1);
     match b {
-        59 => SEPARATOR,
-        93 => END_CONDITIONAL,
-        125 => END_ITERATION,
-        91 => NUMBERED,
-        123 => OVER_LIST,
-        58 => mark_after_colon(byte_at(text, p + 2)),
-        64 => mark_after_at(byte_at(text, p + 2)),
+        b';' => SEPARATOR,
+        b']' => END_CONDITIONAL,
+        b'}' => END_ITERATION,
+        b'[' => NUMBERED,
+        b'{' => OVER_LIST,
+        b':' => mark_after_colon(byte_at(text, p + 2)),
+        b'@' => mark_after_at(byte_at(text, p + 2)),
         _ => NO_MARK,
     }
 }
@@ -89,12 +89,12 @@ pub fn closes_at(text: &[u8], p: usize) -> bool
     if text.len() <= p {
         return true;
     }
-    if text[p] != 126 {
+    if text[p] != b'~' {
         return false;
     }
     let b = byte_at(text, p + 1);
-    if b == 59 {
+    if b == b';' {
         return true;
     }
-    if b == 93 { true } else { b == 125 }
+    if b == b']' { true } else { b == b'}' }
 }

@@ -12,8 +12,8 @@ use rules::scalars::wide;
 ghost use mathlib.Core.Path.{_≡_};
 ghost use Prim.Native.Nat.{_+_, _≤_, _<_};
 ghost use lib.ListN.{length, getD};
-ghost use Rattle.rules.specs.Directive.{codeNamed};
-ghost use Rattle.reader.specs.Shorts.{shortForm, Leads, secondAt, afterSecond, kindOf, detailOf, fitsIn, codedAt};
+ghost use Rattle.rules.specs.Letters.{letter};
+ghost use Rattle.reader.specs.Shorts.{shortForm, Leads, secondAt, afterSecond, shortKind, shortDetail, fitsIn, codedAt};
 ghost use Rattle.reader.specs.Shorts.{ShortRead, AfterShort, SkipsShort};
 
 // Stands for a number that is not written.
@@ -84,8 +84,8 @@ fn leading_number(text: &[u8], start: usize) -> Leading
 fn second_character(text: &[u8], i: usize) -> usize
     ensures { λ r. ⌜ (r ≡ secondAt (now (text .entry)) i) × (r ≤ 256) ⌝ }
 {
-    if byte_at(text, i) == 44 {
-        if byte_at(text, i + 1) == 39 {
+    if byte_at(text, i) == b',' {
+        if byte_at(text, i + 1) == b'\'' {
             return wide(byte_at(text, i + 2));
         }
     }
@@ -101,30 +101,30 @@ fn after_character(i: usize, byte: usize) -> usize
 }
 
 fn sign_kind(b: u8) -> u8
-    requires { ⌜ b < 97 ⌝ }
-    ensures { λ r. ⌜ r ≡ kindOf (codeNamed b) ⌝ }
+    requires { ⌜ b < letter "a" ⌝ }
+    ensures { λ r. ⌜ r ≡ shortKind b ⌝ }
 {
     match b {
-        37 => REPEAT,
-        95 => REPEAT,
-        47 => REPEAT,
+        b'%' => REPEAT,
+        b'_' => REPEAT,
+        b'/' => REPEAT,
         _ => OTHER,
     }
 }
 
 fn letter_kind(b: u8) -> u8
-    requires { ⌜ 97 ≤ b ⌝ }
-    ensures { λ r. ⌜ r ≡ kindOf (codeNamed b) ⌝ }
+    requires { ⌜ letter "a" ≤ b ⌝ }
+    ensures { λ r. ⌜ r ≡ shortKind b ⌝ }
 {
     match b {
-        97 => OBJECT,
-        115 => OBJECT,
-        100 => NUMERAL,
-        120 => NUMERAL,
-        111 => NUMERAL,
-        98 => NUMERAL,
-        126 => REPEAT,
-        124 => REPEAT,
+        b'a' => OBJECT,
+        b's' => OBJECT,
+        b'd' => NUMERAL,
+        b'x' => NUMERAL,
+        b'o' => NUMERAL,
+        b'b' => NUMERAL,
+        b'~' => REPEAT,
+        b'|' => REPEAT,
         _ => OTHER,
     }
 }
@@ -132,26 +132,30 @@ fn letter_kind(b: u8) -> u8
 // The kind of the short directive that a code stands for. Two small tables are put in place, where a call of one large
 // table stays a call.
 fn kind_of(b: u8) -> u8
-    ensures { λ r. ⌜ r ≡ kindOf (codeNamed b) ⌝ }
+    ensures { λ r. ⌜ r ≡ shortKind b ⌝ }
 {
-    if b < 97 { sign_kind(b) } else { letter_kind(b) }
+    if b < b'a' {
+        sign_kind(b)
+    } else {
+        letter_kind(b)
+    }
 }
 
 fn detail_of(b: u8) -> u8
-    ensures { λ r. ⌜ r ≡ detailOf (codeNamed b) ⌝ }
+    ensures { λ r. ⌜ r ≡ shortDetail b ⌝ }
 {
     match b {
-        97 => 0,
-        115 => 1,
-        100 => 10,
-        120 => 16,
-        111 => 8,
-        98 => 2,
-        126 => 126,
-        37 => 10,
-        95 => 32,
-        124 => 12,
-        47 => 9,
+        b'a' => 0,
+        b's' => 1,
+        b'd' => 10,
+        b'x' => 16,
+        b'o' => 8,
+        b'b' => 2,
+        b'~' => b'~',
+        b'|' => 12,
+        b'%' => b'\n',
+        b'_' => b' ',
+        b'/' => b'\t',
         _ => 0,
     }
 }
@@ -205,7 +209,7 @@ fn short_of(text: &[u8], i: usize, number: usize, byte: usize) -> Short
 pub fn read_short(text: &[u8], p: usize) -> Short
     ensures { λ r. ⌜ ShortRead (now (text .entry)) p r ⌝ }
 {
-    if byte_at(text, p) != 126 {
+    if byte_at(text, p) != b'~' {
         return Short::Other;
     }
     let first = leading_number(text, p + 1);
@@ -215,7 +219,7 @@ pub fn read_short(text: &[u8], p: usize) -> Short
 
 // The position after the short directive whose tilde stands at p; p itself if there is none.
 fn after_short(text: &[u8], p: usize) -> usize
-    requires { ⌜ (p < length (now text)) × (getD (now text) p 0 ≡ 126) ⌝ }
+    requires { ⌜ (p < length (now text)) × (getD (now text) p 0 ≡ letter "~") ⌝ }
     ensures { λ r. ⌜ AfterShort (now (text .entry)) p r ⌝ }
 {
     let first = leading_number(text, p + 1);
@@ -231,7 +235,7 @@ pub fn skip_short(text: &[u8], start: usize) -> usize
 {
     let mut p = start;
     while p < text.len() {
-        if text[p] == 126 {
+        if text[p] == b'~' {
             let q = after_short(text, p);
             if q == p {
                 return p;

@@ -5,47 +5,25 @@ use mathlib.Core.Path.{_≡_, subst}
 use mathlib.Core.Bool.{Bool, true, false, cond, not}
 use mathlib.Core.List.{List, [], _∷_}
 use native.Mathlib.Omega.{arith}
+use borrow.Author.Needs.{needs}
 use lib.Dec.{leb, eqb}
 use lib.ListN.{drop}
 use Rattle.rules.specs.Choice.{both}
-use Rattle.rules.specs.Directive.{lowerCase, codeNamed, CodeRight, Reading, start, signed, digits, quote, whole, modifiers, blank, having, closed, Step, goes, bad, ends, modifierStep, afterStep, isDigit, oneMore, digitStep, startStep, step, skipped, going, cutShort, onStep, scan, itemOf, itemAt}
+use Rattle.rules.specs.Directive.{lowerCase, letters, codeNamed, CodeRight, Reading, start, signed, digits, quote, whole, modifiers, blank, having, closed, Step, goes, bad, ends, modifierStep, afterStep, isDigit, oneMore, digitStep, startStep, step, skipped, going, cutShort, onStep, scan, itemOf, itemAt}
 use Rattle.rules.specs.declared.Code.{Code}
+use Rattle.rules.specs.declared.Code.the-variants.{Unknown}
 use Rattle.rules.specs.declared.Directive.{Directive}
 use Rattle.rules.specs.declared.Item.{Item}
 use Rattle.rules.specs.declared.Item.the-variants.{End, Literal, Written, BadNumber, Unfinished}
+use Rattle.rules.proofs.Tables.{Each, looked-up}
 
--- one test of the list of codes
-by-name : (b k : ℕ) (code other : Code) → CodeRight code → CodeRight other → CodeRight (cond (eqb b k) code other)
-by-name b k code other x y = pick (eqb b k)
-  where
-    pick : (t : Bool) → CodeRight (cond t code other)
-    pick true = x
-    pick false = y
+-- each code of the table is right
+all-right : Each (λ b. CodeRight) letters
+all-right = search needs
 
 named-right : (b : ℕ) → CodeRight (codeNamed b)
 unfolding codeNamed
-named-right b =
-    by-name b 97 _ _ tt
-    (by-name b 115 _ _ tt
-    (by-name b 100 _ _ (omega arith)
-    (by-name b 120 _ _ (omega arith)
-    (by-name b 111 _ _ (omega arith)
-    (by-name b 98 _ _ (omega arith)
-    (by-name b 99 _ _ tt
-    (by-name b 112 _ _ tt
-    (by-name b 42 _ _ tt
-    (by-name b 126 _ _ tt
-    (by-name b 37 _ _ tt
-    (by-name b 95 _ _ tt
-    (by-name b 124 _ _ tt
-    (by-name b 47 _ _ tt
-    (by-name b 10 _ _ tt
-    (by-name b 91 _ _ tt
-    (by-name b 59 _ _ tt
-    (by-name b 93 _ _ tt
-    (by-name b 123 _ _ tt
-    (by-name b 125 _ _ tt
-    (by-name b 94 _ _ tt tt))))))))))))))))))))
+named-right b = looked-up (λ b. CodeRight) letters Unknown b all-right tt
 
 -- a byte that ends a directive is its code
 abbrev EndsRight : Step → Type 0
@@ -121,7 +99,7 @@ scan-readable : (bs : List ℕ) (r : Reading) (d : Directive) (p : ℕ) → Read
 unfolding scan
 scan-readable [] r d p = cut-readable r
 scan-readable (b ∷ bs) r d p =
-    on-step (step r d b) (λ r₂ d₂. scan r₂ d₂ bs (suc p)) (λ d₂. going d₂ (suc p + skipped d₂ bs)) (step-right r d b)
+    on-step (step r d b) (λ r₂ d₂. scan r₂ d₂ bs (suc p)) (λ d₂. going d₂ (suc p + skipped b (d₂ .colon) bs)) (step-right r d b)
     (λ r₂ d₂. scan-readable bs r₂ d₂ (suc p)) (λ d₂ h. h)
 
 pub item-readable : (b : ℕ) (bs : List ℕ) (p : ℕ) → Readable (itemOf (b ∷ bs) p)

@@ -52,7 +52,7 @@ pub fn hex_digit(digit: u8) -> u8
     requires { ⌜ digit < 16 ⌝ }
     ensures { λ r. ⌜ r ≡ digitByte digit ⌝ }
 {
-    if digit < 10 { 48 + digit } else { 87 + digit }
+    if digit < 10 { b'0' + digit } else { 87 + digit }
 }
 
 // A parameter that is worked out, or its default.

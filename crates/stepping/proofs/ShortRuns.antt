@@ -18,14 +18,14 @@ use Rattle.rules.specs.Working.{Context, workOut, settle, settleAll, InPlace, I
 use Rattle.rules.specs.Run.{Flow, refused, onSettled, writeFrom}
 use Rattle.rules.specs.declared.Directive.{Directive}
 use Rattle.rules.specs.declared.Form.{Form}
-use Rattle.rules.specs.declared.Form.the-variants.{Object, Numeral, Glyph, Plural, Repeat, Fold}
+use Rattle.rules.specs.declared.Form.the-variants.{Object, Numeral, Repeat}
 use Rattle.rules.specs.declared.Item.the-variants.{Written}
 use Rattle.rules.specs.declared.Setting.{Setting}
 use Rattle.rules.specs.declared.Setting.the-variants.{Absent, Is}
 use Rattle.rules.specs.declared.Settings.{Settings}
 use Rattle.rules.proofs.RunLaws.{choose-no}
 use Rattle.rules.proofs.Tests.{both-true}
-use Rattle.reader.specs.Shorts.{settingOf, shortForm, shortParameters, shortDirective, NumberIn, CharacterIn, NoneIn, ShortIn}
+use Rattle.reader.specs.Shorts.{Brief, object, numeral, repeats, formOf, briefOf, settingOf, shortForm, shortParameters, shortDirective, NumberIn, CharacterIn, NoneIn, ShortIn}
 use Rattle.reader.proofs.ShortLaws.{short-well}
 use Rattle.acting.specs.declared.state.Ran.{Ran}
 use Rattle.acting.specs.declared.state.Spot.{Spot}
@@ -48,18 +48,15 @@ in-character : (y : Setting) → CharacterIn y → InPlace CharacterPlace y
 in-character Absent h = tt
 in-character (Is c) h = h
 
-in-range : (f : Form) (x y : Setting) → ShortIn f x y → InPlaces (formPlaces f) (shortSettings x y)
-in-range (Object q) x Absent s = record { first = in-number x (s .0); second = tt; third = tt; fourth = tt; fifth = tt }
-in-range (Object q) x (Is c) s = absurd (s .1)
-in-range (Numeral base) x y s = record { first = in-number x (s .0); second = in-character y (s .1); third = tt; fourth = tt; fifth = tt }
-in-range Glyph x y s = absurd s
-in-range Plural x y s = absurd s
-in-range (Repeat b) x Absent s = record { first = in-number x (s .0); second = tt; third = tt; fourth = tt; fifth = tt }
-in-range (Repeat b) x (Is c) s = absurd (s .1)
-in-range Fold x y s = absurd s
+in-range : (b : Brief) (x y : Setting) → ShortIn b x y → InPlaces (formPlaces (formOf b)) (shortSettings x y)
+in-range (object q) x Absent s = record { first = in-number x (s .0); second = tt; third = tt; fourth = tt; fifth = tt }
+in-range (object q) x (Is c) s = absurd (s .1)
+in-range (numeral base) x y s = record { first = in-number x (s .0); second = in-character y (s .1); third = tt; fourth = tt; fifth = tt }
+in-range (repeats b) x Absent s = record { first = in-number x (s .0); second = tt; third = tt; fourth = tt; fifth = tt }
+in-range (repeats b) x (Is c) s = absurd (s .1)
 
-pub short-worked : (f : Form) (x y a c : Setting) (g : Form) → a ≡ x → c ≡ y → g ≡ f → FormRight f → ShortIn f x y → WellSet g (shortSettings a c)
-short-worked f x y a c g q w k b s = rw (q, w, k) (worked-in f (shortSettings x y) b (in-range f x y s))
+pub short-worked : (b : Brief) (x y a c : Setting) (g : Form) → a ≡ x → c ≡ y → g ≡ formOf b → FormRight (formOf b) → ShortIn b x y → WellSet g (shortSettings a c)
+short-worked b x y a c g q w k r s = rw (q, w, k) (worked-in (formOf b) (shortSettings x y) r (in-range b x y s))
 
 -- both are written out, so they are worked out to themselves whatever their places
 settled : (v : View) (c : Context) (ys : Places) (x y : Setting) (p m : ℕ) (on : Settings → ℕ → Flow)
@@ -71,21 +68,21 @@ settled v c ys Absent (Is k) p m on = refl
 settled v c ys (Is n) (Is k) p m on = refl
 
 -- a short directive, once it is begun, at the place `here` of whatever gives the sequences
-pub short-begun : (s : ℕ → List Level) (n : ℕ) (v : View) (first count level here i left at : ℕ) (b : List ℕ) (f : Form) (x y : Setting) {p place : ℕ} → ShortIn f x y
-    → ActsAt s here p (Written (shortDirective f x y place)) place → Ahead n here place → (left ≡ 0 → ⊥)
+pub short-begun : (s : ℕ → List Level) (n : ℕ) (v : View) (first count level here i left at : ℕ) (b : List ℕ) (w : Brief) (x y : Setting) {p place : ℕ} → ShortIn w x y
+    → ActsAt s here p (Written (shortDirective (formOf w) x y place)) place → Ahead n here place → (left ≡ 0 → ⊥)
     → {b₂ : List ℕ} {r : Ran} (spot : Spot) → spot ≡ record { position = p; place = place; left = left - 1; at = at }
     → ((d : Directive) → d .colon ≡ false → d .at ≡ false
-    → Performed (λ on. writeFrom v (spot .position) (spot .left) f d (hand first count 0) (shortSettings x y) i on (sourceOf f false (shortSettings x y))) count spot b b₂ r)
+    → Performed (λ on. writeFrom v (spot .position) (spot .left) (formOf w) d (hand first count 0) (shortSettings x y) i on (sourceOf (formOf w) false (shortSettings x y))) count spot b b₂ r)
     → Steps s n v (hand first count) level here i left at b b₂ r
-short-begun s n v first count level here i left at b f x y {p} {place} u a h z spot o w =
-    let d : Directive = shortDirective f x y place in
+short-begun s n v first count level here i left at b w x y {p} {place} u a h z spot o k =
+    let d : Directive = shortDirective (formOf w) x y place in
     acts-begun s n v first count level here i left at b z h a spot o
     (performed-as _
-    (λ on. acts-writes v (spot .position) (spot .left) d (hand first count i) on f refl
-    ∙ settings-well v (spot .position) (spot .left) d (hand first count i) _ (short-well f x y place u)
-    ∙ settled v (hand first count i) (formPlaces f) x y (spot .position) (spot .left) _
-    ∙ write-anywhere v (spot .position) (spot .left) f d first count i (shortSettings x y) i on (sourceOf f false (shortSettings x y)))
-    (w d refl refl))
+    (λ on. acts-writes v (spot .position) (spot .left) d (hand first count i) on (formOf w) refl
+    ∙ settings-well v (spot .position) (spot .left) d (hand first count i) _ (short-well w x y place u)
+    ∙ settled v (hand first count i) (formPlaces (formOf w)) x y (spot .position) (spot .left) _
+    ∙ write-anywhere v (spot .position) (spot .left) (formOf w) d first count i (shortSettings x y) i on (sourceOf (formOf w) false (shortSettings x y)))
+    (k d refl refl))
 
 -- one that is refused has done nothing, and one for which no step is left is not refused for want of room
 module _ {p i left at : ℕ} {b e : List ℕ} {r : Ran} where
@@ -152,8 +149,11 @@ none-absent : (y : Setting) → NoneIn y → y ≡ Absent
 none-absent Absent h = refl
 none-absent (Is c) h = absurd h
 
-pub object-alone : (kind detail : ℕ) (x y : Setting) → shortForm kind detail ≡ Object false → ShortIn (shortForm kind detail) x y → y ≡ Absent
-object-alone kind detail x y e s = none-absent y (subst (λ (f : Form). ShortIn f x y) e s .1)
+pub object-alone : (kind detail : ℕ) (x y : Setting) → both (eqb kind 0) (eqb detail 0) ≡ true → ShortIn (briefOf kind detail) x y → y ≡ Absent
+object-alone kind detail x y e s =
+    let h = both-true (eqb kind 0) (eqb detail 0) e in
+    let k : ShortIn (object (eqb detail 1)) x y = rw (h .0) at s in
+    none-absent y (k .1)
 
 character-few : (byte : ℕ) → CharacterIn (settingOf 256 byte) → byte ≤ 256
 character-few byte h = elim (decEq byte 256) [
@@ -161,5 +161,9 @@ character-few byte h = elim (decEq byte 256) [
   | no z ↦ let k : byte < 256 = rw (ne-eqb byte 256 z) at h in omega arith
 ]
 
-pub pad-few : (kind detail byte : ℕ) (x : Setting) → shortForm kind detail ≡ Numeral 10 → ShortIn (shortForm kind detail) x (settingOf 256 byte) → byte ≤ 256
-pad-few kind detail byte x e s = character-few byte (subst (λ (f : Form). ShortIn f x (settingOf 256 byte)) e s .1)
+pub pad-few : (kind detail byte : ℕ) (x : Setting) → both (eqb kind 1) (eqb detail 10) ≡ true → ShortIn (briefOf kind detail) x (settingOf 256 byte) → byte ≤ 256
+pad-few kind detail byte x e s =
+    let h = both-true (eqb kind 1) (eqb detail 10) e in
+    let q = eqb-true kind 1 (h .0) in
+    let k : ShortIn (numeral detail) x (settingOf 256 byte) = rw q at s in
+    character-few byte (k .1)

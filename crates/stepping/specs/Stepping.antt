@@ -6,6 +6,7 @@ use mathlib.Core.List.{List}
 use lib.Dec.{leb}
 use lib.ListN.{length, getD}
 use Rattle.rules.specs.Directive.{FormRight}
+use Rattle.rules.specs.Letters.{letter}
 use Rattle.rules.specs.Run.{writeFrom}
 use Rattle.rules.specs.Table.{View, viewOf}
 use Rattle.rules.specs.Text.{Level, levelsAt}
@@ -74,7 +75,7 @@ WritesShort t hand i kind detail number byte spot b e r =
 
 -- a directive stands at p that is not short
 abbrev pub NotShort : List ℕ → ℕ → Type 0
-NotShort t p = (getD t p 0 ≡ 126) × (shortAt t p ≡ Other)
+NotShort t p = (getD t p 0 ≡ letter "~") × (shortAt t p ≡ Other)
 
 -- a directive at p that finds no room has done nothing: with its step back, all is as it was met
 abbrev pub Unbegun : ℕ → ℕ → ℕ → ℕ → List ℕ → List ℕ → Ran → Type 0

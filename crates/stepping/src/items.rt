@@ -15,6 +15,7 @@ ghost use mathlib.Core.Path.{_≡_};
 ghost use mathlib.Core.List.{List};
 ghost use Prim.Native.Nat.{ℕ, _+_, _-_, _≤_, _<_};
 ghost use lib.ListN.{length, getD};
+ghost use Rattle.rules.specs.Letters.{letter};
 ghost use Rattle.rules.specs.Table.{View, viewOf};
 ghost use Rattle.rules.specs.Text.{Level};
 ghost use Rattle.rules.specs.declared.Item.the-variants.{Literal};
@@ -69,14 +70,14 @@ pub fn put_literals(text: &[u8], p: usize, left: usize, out: &mut [u8], at: usiz
     requires { ⌜ p ≤ length (now text) ⌝ }
     requires { ⌜ at ≤ length (now out) ⌝ }
     ensures puts { λ r. ⌜ PutsLiterals (now (text .entry)) p left at (now (out .entry)) (now (out .exit)) r ⌝ }
-    ensures all { λ r. ⌜ (r < left → p + r < length (now (text .entry)) → at + r < length (now (out .entry)) → getD (now (text .entry)) (p + r) 0 ≡ 126) ⌝ }
+    ensures all { λ r. ⌜ (r < left → p + r < length (now (text .entry)) → at + r < length (now (out .entry)) → getD (now (text .entry)) (p + r) 0 ≡ letter "~") ⌝ }
 {
     // the least bound first, so that a turn of the loop asks it and the byte alone
     let most = smaller(left, smaller(text.len() - p, out.len() - at));
     let mut k: usize = 0;
     while k < most {
         let byte = text[p + k];
-        if byte == 126 {
+        if byte == b'~' {
             return k;
         }
         out[at + k] = byte;

@@ -33,7 +33,7 @@ ghost use Rattle.rules.specs.Piece.{orElse};
 ghost use Rattle.rules.specs.Table.{viewOf};
 ghost use Rattle.rules.specs.Text.{Level, levelsAt};
 ghost use Rattle.rules.specs.declared.Item.the-variants.{Written};
-ghost use Rattle.reader.specs.Shorts.{settingOf, shortForm, shortAt, shortDirective, ShortIn};
+ghost use Rattle.reader.specs.Shorts.{briefOf, settingOf, shortForm, shortAt, shortDirective, ShortIn};
 ghost use Rattle.reader.specs.declared.short.Short.the-variants.{Other};
 ghost use Rattle.acting.specs.Acting.{Untouched};
 ghost use Rattle.acting.specs.declared.state.Stop.the-variants.{Ended, Left};
@@ -93,7 +93,7 @@ fn write_piece(
     out: &mut [u8],
 ) -> Ran
     requires { ⌜ FormRight (shortForm kind detail) ⌝ }
-    requires { ⌜ ShortIn (shortForm kind detail) (settingOf 4097 number) (settingOf 256 byte) ⌝ }
+    requires { ⌜ ShortIn (briefOf kind detail) (settingOf 4097 number) (settingOf 256 byte) ⌝ }
     requires { ⌜ InHand (now table) hand ⌝ }
     requires { ⌜ i .0 ≤ hand .count ⌝ }
     requires { ⌜ spot .at ≤ length (now out) ⌝ }
@@ -127,7 +127,7 @@ fn write_argument(
     out: &mut [u8],
 ) -> Ran
     requires { ⌜ FormRight (shortForm kind detail) ⌝ }
-    requires { ⌜ ShortIn (shortForm kind detail) (settingOf 4097 number) (settingOf 256 byte) ⌝ }
+    requires { ⌜ ShortIn (briefOf kind detail) (settingOf 4097 number) (settingOf 256 byte) ⌝ }
     requires { ⌜ kind ≤ 1 ⌝ }
     requires { ⌜ InHand (now table) hand ⌝ }
     requires { ⌜ i .0 ≤ hand .count ⌝ }
@@ -175,7 +175,7 @@ fn act_short(
     at: usize,
 ) -> Ran
     requires { ⌜ FormRight (shortForm kind detail) ⌝ }
-    requires { ⌜ ShortIn (shortForm kind detail) (settingOf 4097 number) (settingOf 256 byte) ⌝ }
+    requires { ⌜ ShortIn (briefOf kind detail) (settingOf 4097 number) (settingOf 256 byte) ⌝ }
     requires { ⌜ InHand (now table) hand ⌝ }
     requires { ⌜ next .0 ≤ hand .count ⌝ }
     requires { ⌜ at ≤ length (now out) ⌝ }

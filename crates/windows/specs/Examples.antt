@@ -5,6 +5,7 @@ use mathlib.Core.Bool.{Bool, true, false}
 use mathlib.Core.List.{List, [], _∷_, _++_, map}
 use lib.ListN.{length, drop, replicate}
 use Rattle.rules.specs.Flow.{givenText}
+use Rattle.rules.specs.Letters.{bytes}
 use Rattle.rules.specs.Directive.{codeNamed, step, scan, itemOf}
 use Rattle.rules.specs.Rows.{wellWritten}
 use Rattle.rules.specs.Text.{tokensFrom, tokensAt, directiveMet, verdictOf, textVerdict, levelsOf, levelsAt}
@@ -36,29 +37,29 @@ abbrev empty : List ℕ
 empty = header 0 0 0
 
 abbrev pad : List ℕ
-pad = header 1 1 3 ++ (entry 3 0 3 ++ (112 ∷ 97 ∷ 100 ∷ []))
+pad = header 1 1 3 ++ (entry 3 0 3 ++ bytes "pad")
 
 abbrev quote : List ℕ
-quote = header 1 1 3 ++ (entry 3 0 3 ++ (97 ∷ 34 ∷ 98 ∷ []))
+quote = header 1 1 3 ++ (entry 3 0 3 ++ bytes "a\"b")
 
 abbrev pair : List ℕ
-pair = header 3 1 4 ++ (entry 4 1 2 ++ (entry 3 0 2 ++ (entry 3 2 2 ++ (97 ∷ 98 ∷ 99 ∷ 100 ∷ []))))
+pair = header 3 1 4 ++ (entry 4 1 2 ++ (entry 3 0 2 ++ (entry 3 2 2 ++ bytes "abcd")))
 
 -- formats: `windows`, `up`, `~6@a`, `~s!` and `~{<~a>~}`
 abbrev word : List ℕ
-word = 119 ∷ 105 ∷ 110 ∷ 100 ∷ 111 ∷ 119 ∷ 115 ∷ []
+word = bytes "windows"
 
 abbrev up : List ℕ
-up = 117 ∷ 112 ∷ []
+up = bytes "up"
 
 abbrev padded : List ℕ
-padded = 126 ∷ 54 ∷ 64 ∷ 97 ∷ []
+padded = bytes "~6@a"
 
 abbrev quoted : List ℕ
-quoted = 126 ∷ 115 ∷ 33 ∷ []
+quoted = bytes "~s!"
 
 abbrev listed : List ℕ
-listed = 126 ∷ 123 ∷ 60 ∷ 126 ∷ 97 ∷ 62 ∷ 126 ∷ 125 ∷ []
+listed = bytes "~{<~a>~}"
 
 -- 1. Calls from a fresh state
 
@@ -126,23 +127,23 @@ lines :
     -- a window that the last byte fills is the last: no call is left for the end alone
     ∷ case word empty (4 ∷ 3 ∷ 3 ∷ []) 0 0 7 (4 ∷ 3 ∷ []) word
     -- too few windows: more
-    ∷ case word empty (3 ∷ 3 ∷ []) 256 0 0 (3 ∷ 3 ∷ []) (119 ∷ 105 ∷ 110 ∷ 100 ∷ 111 ∷ 119 ∷ [])
+    ∷ case word empty (3 ∷ 3 ∷ []) 256 0 0 (3 ∷ 3 ∷ []) (bytes "window")
     -- windows of 0 bytes write nothing
     ∷ case up empty (0 ∷ 1 ∷ 0 ∷ 1 ∷ 1 ∷ []) 0 0 2 (0 ∷ 1 ∷ 0 ∷ 1 ∷ []) up
     -- nor do they end a line that has no bytes
     ∷ case [] empty (0 ∷ 0 ∷ 1 ∷ []) 0 0 0 (0 ∷ 0 ∷ 0 ∷ []) []
     -- `up~`: code 3 at 2, though not before there is a byte of room
-    ∷ case (117 ∷ 112 ∷ 126 ∷ []) empty (0 ∷ 1 ∷ []) 3 2 0 (0 ∷ 0 ∷ []) []
+    ∷ case (bytes "up~") empty (0 ∷ 1 ∷ []) 3 2 0 (0 ∷ 0 ∷ []) []
     -- a table that is refused: code 1 at 0
     ∷ case up [] (1 ∷ []) 1 0 0 (0 ∷ []) []
     -- `n=~d`, no argument: code 6 at 2, with the last byte that is kept
-    ∷ case (110 ∷ 61 ∷ 126 ∷ 100 ∷ []) empty (replicate 4 1) 6 2 3 (1 ∷ 1 ∷ []) (110 ∷ 61 ∷ [])
+    ∷ case (bytes "n=~d") empty (replicate 4 1) 6 2 3 (1 ∷ 1 ∷ []) (bytes "n=")
     -- a piece is cut in its padding and in its text
-    ∷ case padded pad (replicate 4 2) 0 0 1 (2 ∷ 2 ∷ 2 ∷ []) (32 ∷ 32 ∷ 32 ∷ 112 ∷ 97 ∷ 100 ∷ [])
+    ∷ case padded pad (replicate 4 2) 0 0 1 (2 ∷ 2 ∷ 2 ∷ []) (bytes "   pad")
     -- between a backslash and its quote
-    ∷ case quoted quote (replicate 4 3) 0 0 2 (3 ∷ 3 ∷ 1 ∷ []) (34 ∷ 97 ∷ 92 ∷ 34 ∷ 98 ∷ 34 ∷ 33 ∷ [])
+    ∷ case quoted quote (replicate 4 3) 0 0 2 (3 ∷ 3 ∷ 1 ∷ []) (bytes "\"a\\\"b\"!")
     -- inside a block
-    ∷ case listed pair (replicate 4 3) 0 0 9 (3 ∷ 3 ∷ 2 ∷ []) (60 ∷ 97 ∷ 98 ∷ 62 ∷ 60 ∷ 99 ∷ 100 ∷ 62 ∷ [])
+    ∷ case listed pair (replicate 4 3) 0 0 9 (3 ∷ 3 ∷ 2 ∷ []) (bytes "<ab><cd>")
     ∷ [])
 unfolding windowsOf remains givenText codeNamed step scan itemOf wellWritten tokensFrom tokensAt directiveMet verdictOf textVerdict levelsOf levelsAt poolOf entryAt rightFor valueBy valueAt firstBad tableVerdict valuesFrom viewOf escaped bareOf timesPadded textOf workOut settle itemActs turn walk run
 lines = refl
@@ -237,17 +238,17 @@ out-of-range = refl
 inside-lines :
     AllShown (
     -- four bytes are given: `ad`
-    sight padded pad (begun 0 65536 4 0 1 0 noBlocks noRest) 2 (atEnd 0 0 1 (97 ∷ 100 ∷ []))
+    sight padded pad (begun 0 65536 4 0 1 0 noBlocks noRest) 2 (atEnd 0 0 1 (bytes "ad"))
     -- more than it has: none are left
     ∷ sight padded pad (begun 0 65536 99 0 1 0 noBlocks noRest) 2 (atEnd 0 0 1 [])
     -- inside a string in quotes, and then the run from `!` on
-    ∷ sight quoted quote (begun 2 65535 0 0 1 1 noBlocks (quoteOn 23)) 6 (atEnd 0 0 2 (34 ∷ 98 ∷ 34 ∷ 46 ∷ 46 ∷ 33 ∷ []))
+    ∷ sight quoted quote (begun 2 65535 0 0 1 1 noBlocks (quoteOn 23)) 6 (atEnd 0 0 2 (bytes "\"b\"..!"))
     -- the same in less room
-    ∷ sight quoted quote (begun 2 65535 0 0 1 1 noBlocks (quoteOn 23)) 2 (more (34 ∷ 98 ∷ []))
+    ∷ sight quoted quote (begun 2 65535 0 0 1 1 noBlocks (quoteOn 23)) 2 (more (bytes "\"b"))
     -- inside a block, at `>` of its first pass
-    ∷ sight listed pair (begun 5 65532 0 1 2 1 (blocks 1) noRest) 8 (atEnd 0 0 9 (62 ∷ 60 ∷ 99 ∷ 100 ∷ 62 ∷ []))
+    ∷ sight listed pair (begun 5 65532 0 1 2 1 (blocks 1) noRest) 8 (atEnd 0 0 9 (bytes "><cd>"))
     -- at `a`, where no item starts: it is read from there
-    ∷ sight listed pair (begun 4 65532 0 1 2 1 (blocks 1) noRest) 8 (atEnd 0 0 10 (97 ∷ 62 ∷ 60 ∷ 99 ∷ 100 ∷ 62 ∷ []))
+    ∷ sight listed pair (begun 4 65532 0 1 2 1 (blocks 1) noRest) 8 (atEnd 0 0 10 (bytes "a><cd>"))
     ∷ [])
 unfolding shownIn remains givenText codeNamed step scan itemOf wellWritten tokensFrom tokensAt levelsOf levelsAt poolOf entryAt rightFor valueBy valueAt firstBad tableVerdict valuesFrom viewOf escaped bareOf timesPadded textOf workOut settle itemActs turn walk run owed restOf framesOf allLie
 inside-lines = refl

@@ -1,7 +1,8 @@
 -- `reader::codes::code_named` meets its contract, arm by arm: its `match` is the definition's table. Assumes nothing.
 use mathlib.Core.Path.{sym, ap}
-use borrow.Author.Tests.{ne-eqb}
-use Rattle.rules.specs.Directive.{codeNamed}
+use Rattle.rules.specs.Directive.{letters, codeNamed}
+use Rattle.rules.specs.declared.Code.the-variants.{Unknown}
+use Rattle.rules.proofs.Tables.{missed}
 use Rattle.reader.proofs.codes.code_named.Statement.{statement}
 use Rattle.reader.proofs.codes.code_named.Tie as tie
 
@@ -91,32 +92,7 @@ returns-21 c = sym (ap codeNamed (c .match .keys21))
 
 returns-22 : tie.Need-returns-22
 unfolding codeNamed
-returns-22 c =
-    let b = (c .before .args .b) in
-    let none = (c .match .rest) in
-    simp (
-      ne-eqb b 97 (none .0 .0 .0 .0 .0 .0 .0 .0 .0 .0 .0 .0 .0 .0 .0 .0 .0 .0 .0 .0 .1),
-      ne-eqb b 115 (none .0 .0 .0 .0 .0 .0 .0 .0 .0 .0 .0 .0 .0 .0 .0 .0 .0 .0 .0 .1),
-      ne-eqb b 100 (none .0 .0 .0 .0 .0 .0 .0 .0 .0 .0 .0 .0 .0 .0 .0 .0 .0 .0 .1),
-      ne-eqb b 120 (none .0 .0 .0 .0 .0 .0 .0 .0 .0 .0 .0 .0 .0 .0 .0 .0 .0 .1),
-      ne-eqb b 111 (none .0 .0 .0 .0 .0 .0 .0 .0 .0 .0 .0 .0 .0 .0 .0 .0 .1),
-      ne-eqb b 98 (none .0 .0 .0 .0 .0 .0 .0 .0 .0 .0 .0 .0 .0 .0 .0 .1),
-      ne-eqb b 99 (none .0 .0 .0 .0 .0 .0 .0 .0 .0 .0 .0 .0 .0 .0 .1),
-      ne-eqb b 112 (none .0 .0 .0 .0 .0 .0 .0 .0 .0 .0 .0 .0 .0 .1),
-      ne-eqb b 42 (none .0 .0 .0 .0 .0 .0 .0 .0 .0 .0 .0 .0 .1),
-      ne-eqb b 126 (none .0 .0 .0 .0 .0 .0 .0 .0 .0 .0 .0 .1),
-      ne-eqb b 37 (none .0 .0 .0 .0 .0 .0 .0 .0 .0 .0 .1),
-      ne-eqb b 95 (none .0 .0 .0 .0 .0 .0 .0 .0 .0 .1),
-      ne-eqb b 124 (none .0 .0 .0 .0 .0 .0 .0 .0 .1),
-      ne-eqb b 47 (none .0 .0 .0 .0 .0 .0 .0 .1),
-      ne-eqb b 10 (none .0 .0 .0 .0 .0 .0 .1),
-      ne-eqb b 91 (none .0 .0 .0 .0 .0 .1),
-      ne-eqb b 59 (none .0 .0 .0 .0 .1),
-      ne-eqb b 93 (none .0 .0 .0 .1),
-      ne-eqb b 123 (none .0 .0 .1),
-      ne-eqb b 125 (none .0 .1),
-      ne-eqb b 94 (none .1),
-    )
+returns-22 c = sym (missed _ letters Unknown (c .before .args .b) (c .match .rest))
 
 pub code-named-spec : {M : Type 1} → statement M
 code-named-spec =

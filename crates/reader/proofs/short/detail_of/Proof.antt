@@ -1,60 +1,57 @@
--- `reader::short::detail_of` meets its contract, arm by arm: its `match` is a part of the table of codes. Assumes nothing.
-use Prim.Native.Nat.{ℕ}
+-- `reader::short::detail_of` meets its contract, arm by arm: its `match` is the table of short letters.
+-- Assumes nothing.
 use mathlib.Core.Path.{sym, ap}
-use Rattle.rules.specs.Directive.{codeNamed}
-use Rattle.reader.specs.Shorts.{detailOf}
-use Rattle.reader.proofs.KindLaws.{no-short}
+use Rattle.reader.specs.Shorts.{shortDetail}
+use Rattle.reader.proofs.KindLaws.{no-detail}
 use Rattle.reader.proofs.short.detail_of.Statement.{statement}
 use Rattle.reader.proofs.short.detail_of.Tie as tie
 
 returns : tie.Need-returns
-unfolding codeNamed
-returns c = sym (ap (λ (b : ℕ). detailOf (codeNamed b)) (c .match .keys1))
+unfolding shortDetail
+returns c = sym (ap shortDetail (c .match .keys1))
 
 returns-2 : tie.Need-returns-2
-unfolding codeNamed
-returns-2 c = sym (ap (λ (b : ℕ). detailOf (codeNamed b)) (c .match .keys2))
+unfolding shortDetail
+returns-2 c = sym (ap shortDetail (c .match .keys2))
 
 returns-3 : tie.Need-returns-3
-unfolding codeNamed
-returns-3 c = sym (ap (λ (b : ℕ). detailOf (codeNamed b)) (c .match .keys3))
+unfolding shortDetail
+returns-3 c = sym (ap shortDetail (c .match .keys3))
 
 returns-4 : tie.Need-returns-4
-unfolding codeNamed
-returns-4 c = sym (ap (λ (b : ℕ). detailOf (codeNamed b)) (c .match .keys4))
+unfolding shortDetail
+returns-4 c = sym (ap shortDetail (c .match .keys4))
 
 returns-5 : tie.Need-returns-5
-unfolding codeNamed
-returns-5 c = sym (ap (λ (b : ℕ). detailOf (codeNamed b)) (c .match .keys5))
+unfolding shortDetail
+returns-5 c = sym (ap shortDetail (c .match .keys5))
 
 returns-6 : tie.Need-returns-6
-unfolding codeNamed
-returns-6 c = sym (ap (λ (b : ℕ). detailOf (codeNamed b)) (c .match .keys6))
+unfolding shortDetail
+returns-6 c = sym (ap shortDetail (c .match .keys6))
 
 returns-7 : tie.Need-returns-7
-unfolding codeNamed
-returns-7 c = sym (ap (λ (b : ℕ). detailOf (codeNamed b)) (c .match .keys7))
+unfolding shortDetail
+returns-7 c = sym (ap shortDetail (c .match .keys7))
 
 returns-8 : tie.Need-returns-8
-unfolding codeNamed
-returns-8 c = sym (ap (λ (b : ℕ). detailOf (codeNamed b)) (c .match .keys8))
+unfolding shortDetail
+returns-8 c = sym (ap shortDetail (c .match .keys8))
 
 returns-9 : tie.Need-returns-9
-unfolding codeNamed
-returns-9 c = sym (ap (λ (b : ℕ). detailOf (codeNamed b)) (c .match .keys9))
+unfolding shortDetail
+returns-9 c = sym (ap shortDetail (c .match .keys9))
 
 returns-10 : tie.Need-returns-10
-unfolding codeNamed
-returns-10 c = sym (ap (λ (b : ℕ). detailOf (codeNamed b)) (c .match .keys10))
+unfolding shortDetail
+returns-10 c = sym (ap shortDetail (c .match .keys10))
 
 returns-11 : tie.Need-returns-11
-unfolding codeNamed
-returns-11 c = sym (ap (λ (b : ℕ). detailOf (codeNamed b)) (c .match .keys11))
+unfolding shortDetail
+returns-11 c = sym (ap shortDetail (c .match .keys11))
 
 returns-12 : tie.Need-returns-12
-returns-12 c =
-    let none = c .match .rest in
-    sym (no-short (c .before .args .b) (none .0 .0 .0 .0 .0 .0 .0 .0 .0 .0 .1) (none .0 .0 .0 .0 .0 .0 .0 .0 .0 .1) (none .0 .0 .0 .0 .0 .0 .0 .0 .1) (none .0 .0 .0 .0 .0 .0 .0 .1) (none .0 .0 .0 .0 .0 .0 .1) (none .0 .0 .0 .0 .0 .1) (none .0 .0 .0 .0 .1) (none .0 .0 .0 .1) (none .0 .0 .1) (none .0 .1) (none .1) .1)
+returns-12 c = sym (no-detail _ (c .before .args .b) (c .match .rest))
 
 pub detail-of-spec : {M : Type 1} → statement M
 detail-of-spec =

@@ -1,5 +1,5 @@
 -- A short directive acts as 01 has it. Assumes nothing.
-use Rattle.reader.specs.Shorts.{settingOf, shortForm, shortDirective}
+use Rattle.reader.specs.Shorts.{briefOf, settingOf, shortForm, shortDirective}
 use borrow.Author.Needs.{needs}
 use mathlib.Core.Path.{refl, sym}
 use Rattle.working.specs.Settling.{handAt}
@@ -36,7 +36,7 @@ same-length c = search needs
 
 returns-2 : tie.Need-returns-2
 returns-2 c = let a = c .before .before .before .before .before .before .before .before .before .before .args in let st = shortSettings (settingOf 4097 (a .number)) (settingOf 256 (a .byte)) in (
-  λ s n level here e h. short-begun s n (viewOf (a .table .now)) (a .hand .first .0) (a .hand .count) level here (a .next .0) (a .left) (a .at) (a .out .now) (shortForm (a .kind) (a .detail)) (settingOf 4097 (a .number)) (settingOf 256 (a .byte)) (c .before .before .before .before .before .before .before .before .before .before .pre .1 .0) e h (c .before .before .before .before .before .before .before .if1 .left) _ (c .before .before .before .before .before .before .begin .ensures) (λ d q w. writes-as (viewOf (a .table .now)) (handAt (a .hand) 0) (a .next .0) (a .hand .count) _ d _ _ _ {x = settingOf 4097 (a .number)} {y = settingOf 256 (a .byte)} (sym (repeat-form (a .kind) (a .detail) (omega (arith, c .before .before .before .before .before .if2 .taken)))) refl refl (run-written (a .table .now) (a .hand) st _ (a .next .0) d (a .detail) _ (c .before .before .before .before .number-or .ensures) ((c .before .before .put-run .ensures .0) (a .hand .count) (c .before .before .before .before .before .before .before .before .before .before .pre .1 .1 .1 .0)))),
+  λ s n level here e h. short-begun s n (viewOf (a .table .now)) (a .hand .first .0) (a .hand .count) level here (a .next .0) (a .left) (a .at) (a .out .now) (briefOf (a .kind) (a .detail)) (settingOf 4097 (a .number)) (settingOf 256 (a .byte)) (c .before .before .before .before .before .before .before .before .before .before .pre .1 .0) e h (c .before .before .before .before .before .before .before .if1 .left) _ (c .before .before .before .before .before .before .begin .ensures) (λ d q w. writes-as (viewOf (a .table .now)) (handAt (a .hand) 0) (a .next .0) (a .hand .count) _ d _ _ _ {x = settingOf 4097 (a .number)} {y = settingOf 256 (a .byte)} (sym (repeat-form (a .kind) (a .detail) (omega (arith, c .before .before .before .before .before .if2 .taken)))) refl refl (run-written (a .table .now) (a .hand) st _ (a .next .0) d (a .detail) _ (c .before .before .before .before .number-or .ensures) ((c .before .before .put-run .ensures .0) (a .hand .count) (c .before .before .before .before .before .before .before .before .before .before .pre .1 .1 .1 .0)))),
   (
     unbegun _ (c .before .before .before .before .before .before .begin .ensures) (c .before .before .before .before .before .before .before .if1 .left) (c .before .before .put-run .ensures .1),
     performed-stays ((c .before .before .put-run .ensures .0) (a .hand .count) (c .before .before .before .before .before .before .before .before .before .before .pre .1 .1 .1 .0)),
@@ -51,7 +51,7 @@ same-length-2 c = search needs
 
 returns-3 : tie.Need-returns-3
 returns-3 c = let a = c .before .before .before .before .before .before .before .before .before .args in (
-  λ s n level here e h. short-begun s n (viewOf (a .table .now)) (a .hand .first .0) (a .hand .count) level here (a .next .0) (a .left) (a .at) (a .out .now) (shortForm (a .kind) (a .detail)) (settingOf 4097 (a .number)) (settingOf 256 (a .byte)) (c .before .before .before .before .before .before .before .before .before .pre .1 .0) e h (c .before .before .before .before .before .before .if1 .left) _ (c .before .before .before .before .before .begin .ensures) (c .before .before .write-argument .ensures .0),
+  λ s n level here e h. short-begun s n (viewOf (a .table .now)) (a .hand .first .0) (a .hand .count) level here (a .next .0) (a .left) (a .at) (a .out .now) (briefOf (a .kind) (a .detail)) (settingOf 4097 (a .number)) (settingOf 256 (a .byte)) (c .before .before .before .before .before .before .before .before .before .pre .1 .0) e h (c .before .before .before .before .before .before .if1 .left) _ (c .before .before .before .before .before .begin .ensures) (c .before .before .write-argument .ensures .0),
   (
     unbegun _ (c .before .before .before .before .before .begin .ensures) (c .before .before .before .before .before .before .if1 .left) (c .before .before .write-argument .ensures .1),
     performed-stays ((c .before .before .write-argument .ensures .0) (shortDirective (shortForm (a .kind) (a .detail)) (settingOf 4097 (a .number)) (settingOf 256 (a .byte)) (a .place)) refl refl),

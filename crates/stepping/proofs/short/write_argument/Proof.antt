@@ -45,8 +45,8 @@ same-length : tie.Need-same-length
 same-length c = search needs
 
 returns-2 : tie.Need-returns-2
-returns-2 c = let a = c .before .before .before .before .before .before .before .before .before .before .before .before .before .before .before .args in let s = shortSettings (settingOf 4097 (a .number)) (settingOf 256 (a .byte)) in let x = c .before .before .before .before .before .before .before .argument .given .1 in let l = c .before .before .before .before .before .before .before .before .before .before .before .if1 .left in let e = object-form (a .kind) (a .detail) (sym (c .before .before .before .before .before .is-both .ensures) ∙ c .before .before .before .before .if2 .taken) in (
-  λ d q w. writes-as (viewOf (a .table .now)) (handAt (a .hand) 0) (a .i .0) (a .hand .count) (a .spot) d _ _ _ {x = settingOf 4097 (a .number)} {y = settingOf 256 (a .byte)} (sym e) refl refl (text-written (a .table .now) (a .hand) s (a .spot) (a .i .0) d (c .before .before .before .before .before .before .before .before .before .before .argument-at .result) l (c .before .before .before .before .before .before .before .before .before .before .argument-at .ensures .1) _ _ (c .before .before .before .before .before .before .before .before .before .number-or .result) x (string-held x (c .before .before .before .before .before .before .before .before .before .before .argument-at .ensures .0)) w (object-alone (a .kind) (a .detail) (settingOf 4097 (a .number)) (settingOf 256 (a .byte)) e (c .before .before .before .before .before .before .before .before .before .before .before .before .before .before .before .pre .1 .0)) refl refl (c .before .before .before .before .before .before .before .before .before .number-or .ensures) ((c .before .before .put-text .ensures .0) (a .hand .count) (omega (arith, l)) (omega (arith, l)))),
+returns-2 c = let a = c .before .before .before .before .before .before .before .before .before .before .before .before .before .before .before .args in let s = shortSettings (settingOf 4097 (a .number)) (settingOf 256 (a .byte)) in let x = c .before .before .before .before .before .before .before .argument .given .1 in let l = c .before .before .before .before .before .before .before .before .before .before .before .if1 .left in let y = sym (c .before .before .before .before .before .is-both .ensures) ∙ c .before .before .before .before .if2 .taken in let e = object-form (a .kind) (a .detail) y in (
+  λ d q w. writes-as (viewOf (a .table .now)) (handAt (a .hand) 0) (a .i .0) (a .hand .count) (a .spot) d _ _ _ {x = settingOf 4097 (a .number)} {y = settingOf 256 (a .byte)} (sym e) refl refl (text-written (a .table .now) (a .hand) s (a .spot) (a .i .0) d (c .before .before .before .before .before .before .before .before .before .before .argument-at .result) l (c .before .before .before .before .before .before .before .before .before .before .argument-at .ensures .1) _ _ (c .before .before .before .before .before .before .before .before .before .number-or .result) x (string-held x (c .before .before .before .before .before .before .before .before .before .before .argument-at .ensures .0)) w (object-alone (a .kind) (a .detail) (settingOf 4097 (a .number)) (settingOf 256 (a .byte)) y (c .before .before .before .before .before .before .before .before .before .before .before .before .before .before .before .pre .1 .0)) refl refl (c .before .before .before .before .before .before .before .before .before .number-or .ensures) ((c .before .before .put-text .ensures .0) (a .hand .count) (omega (arith, l)) (omega (arith, l)))),
   c .before .before .put-text .ensures .1,
 )
 
@@ -60,7 +60,7 @@ is-both-requires-2 : tie.Need-is-both-requires-2
 is-both-requires-2 c κs = search needs
 
 pad-or-requires : tie.Need-pad-or-requires
-pad-or-requires c κs = let a = c .before .before .before .before .before .before .before .before .before .before .before .args in pad-few (a .kind) (a .detail) (a .byte) (settingOf 4097 (a .number)) (decimal-form (a .kind) (a .detail) (sym (c .before .is-both2 .ensures) ∙ c .if3 .taken)) (c .before .before .before .before .before .before .before .before .before .before .before .pre .1 .0)
+pad-or-requires c κs = let a = c .before .before .before .before .before .before .before .before .before .before .before .args in pad-few (a .kind) (a .detail) (a .byte) (settingOf 4097 (a .number)) (sym (c .before .is-both2 .ensures) ∙ c .if3 .taken) (c .before .before .before .before .before .before .before .before .before .before .before .pre .1 .0)
 
 put-decimal-requires : tie.Need-put-decimal-requires
 put-decimal-requires c κs = search needs
@@ -69,7 +69,7 @@ same-length-2 : tie.Need-same-length-2
 same-length-2 c = search needs
 
 returns-3 : tie.Need-returns-3
-returns-3 c = let a = c .before .before .before .before .before .before .before .before .before .before .before .before .before .before .before .before .args in let s = shortSettings (settingOf 4097 (a .number)) (settingOf 256 (a .byte)) in let l = c .before .before .before .before .before .before .before .before .before .before .before .before .if1 .left in let e = decimal-form (a .kind) (a .detail) (sym (c .before .before .before .before .before .before .is-both2 .ensures) ∙ c .before .before .before .before .before .if3 .taken) in let back = toZ-ofZ w64 (c .before .before .before .before .before .before .before .before .argument2 .given .0 .0) (record { sfits = c .before .before .before .before .before .before .before .known-told2 .given .0 .1 }) in (
+returns-3 c = let a = c .before .before .before .before .before .before .before .before .before .before .before .before .before .before .before .before .args in let s = shortSettings (settingOf 4097 (a .number)) (settingOf 256 (a .byte)) in let l = c .before .before .before .before .before .before .before .before .before .before .before .before .if1 .left in let y = (sym (c .before .before .before .before .before .before .is-both2 .ensures) ∙ c .before .before .before .before .before .if3 .taken) in let e = decimal-form (a .kind) (a .detail) y in let back = toZ-ofZ w64 (c .before .before .before .before .before .before .before .before .argument2 .given .0 .0) (record { sfits = c .before .before .before .before .before .before .before .known-told2 .given .0 .1 }) in (
   λ d q w. writes-as (viewOf (a .table .now)) (handAt (a .hand) 0) (a .i .0) (a .hand .count) (a .spot) d _ _ _ {x = settingOf 4097 (a .number)} {y = settingOf 256 (a .byte)} (sym e) refl refl (decimal-written (a .table .now) (a .hand) s (a .spot) (a .i .0) d (c .before .before .before .before .before .before .before .before .before .before .before .argument-at .result) l (c .before .before .before .before .before .before .before .before .before .before .before .argument-at .ensures .1) _ _ (c .before .before .before .before .before .before .before .before .before .before .number-or .result) (c .before .before .before .before .pad-or .result) (c .before .before .before .before .before .before .before .before .argument2 .given .1) back q w (c .before .before .before .before .before .before .before .before .before .before .number-or .ensures) (c .before .before .before .before .pad-or .ensures) ((c .before .before .put-decimal .ensures .0) (a .hand .count) (omega (arith, l)) (omega (arith, l)))),
   c .before .before .put-decimal .ensures .1,
 )

@@ -1,5 +1,5 @@
 -- `write_piece` meets its contract: the settings and the form are those that were read. Assumes nothing.
-use Rattle.reader.specs.Shorts.{settingOf, shortForm}
+use Rattle.reader.specs.Shorts.{briefOf, settingOf}
 use borrow.Author.Needs.{needs}
 use Rattle.working.specs.Settling.{handAt}
 use Rattle.rules.specs.Table.{viewOf}
@@ -17,7 +17,7 @@ short-form-requires : tie.Need-short-form-requires
 short-form-requires c κs = search needs
 
 write-form-requires : tie.Need-write-form-requires
-write-form-requires c κs = let a = c .before .before .before .before .before .before .args in (short-worked (shortForm (a .kind) (a .detail)) (settingOf 4097 (a .number)) (settingOf 256 (a .byte)) _ _ _ (c .before .before .before .setting-of .ensures) (c .before .before .setting-of2 .ensures) (c .before .short-form .ensures) (c .before .before .before .before .before .before .pre .0) (c .before .before .before .before .before .before .pre .1 .0), (c .before .before .before .before .before .before .pre .1 .1 .0, (c .before .before .before .before .before .before .pre .1 .1 .1 .1, c .before .before .before .before .before .before .pre .1 .1 .1 .0)))
+write-form-requires c κs = let a = c .before .before .before .before .before .before .args in (short-worked (briefOf (a .kind) (a .detail)) (settingOf 4097 (a .number)) (settingOf 256 (a .byte)) _ _ _ (c .before .before .before .setting-of .ensures) (c .before .before .setting-of2 .ensures) (c .before .short-form .ensures) (c .before .before .before .before .before .before .pre .0) (c .before .before .before .before .before .before .pre .1 .0), (c .before .before .before .before .before .before .pre .1 .1 .0, (c .before .before .before .before .before .before .pre .1 .1 .1 .1, c .before .before .before .before .before .before .pre .1 .1 .1 .0)))
 
 same-length : tie.Need-same-length
 same-length c = search needs
