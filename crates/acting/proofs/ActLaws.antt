@@ -1,17 +1,18 @@
 -- What a directive that writes or jumps does, arm by arm. Assumes nothing.
 use Prim.Native.Nat.{ℕ, _+_, _-_, _<_, _≤_}
 use mathlib.Core.Path.{_≡_, refl, sym, ap, subst, _∙_}
-use mathlib.Core.Bool.{Bool, true, false}
+use mathlib.Core.Bool.{Bool, true, false, cond}
 use mathlib.Core.List.{List}
 use native.Mathlib.Omega.{arith}
 use borrow.Author.Tests.{lt-ltb, le-ltb, le-leb, lt-leb, eq-eqb, ne-eqb}
 use lib.ListN.{length}
+use Rattle.rules.specs.Act.{writes, refuses, jumpTo, jump, actBy, actAfter, actOf}
 use Rattle.rules.specs.Rows.{placesIn, wellWritten, accepts}
 use Rattle.rules.specs.Table.{View, Value}
 use Rattle.rules.specs.Piece.{orElse, textOf, kindOf}
-use Rattle.rules.specs.Working.{Context, argumentIn, settleAll, Source, own, back, given, sourceOf}
+use Rattle.rules.specs.Working.{Context, argumentIn, Settled, settled, unsettled, settleAll, settleDirective, own, back, given, sourceOf}
 use Rattle.rules.specs.Flow.{done, Finish, finishOf}
-use Rattle.rules.specs.Run.{Flow, refused, put, onSettled, withSettings, withArgument, write, writeFrom, jumpTo, jump, directiveActs, itemActs}
+use Rattle.rules.specs.Run.{Flow, refused, put, choose, onSettled, write, joined, itemActs, writeFrom, withSettings}
 use Rattle.rules.specs.declared.Code.{Code}
 use Rattle.rules.specs.declared.Code.the-variants.{Writes, Jump}
 use Rattle.rules.specs.declared.Directive.{Directive}
@@ -24,7 +25,7 @@ use Rattle.acting.specs.declared.state.Ran.{Ran}
 use Rattle.acting.specs.declared.state.Stop.the-variants.{Left}
 use Rattle.acting.specs.declared.state.Spot.{Spot}
 use Rattle.acting.specs.Acting.{Performed, Untouched}
-use Rattle.acting.specs.Ran.{refusedRan, endedRan, gives, lacks, Performs, hand}
+use Rattle.acting.specs.Ran.{refusedRan, endedRan, gives, lacks, Performs}
 use Rattle.acting.proofs.Joining.{stays, here, said, from, gave-left, no-end, no-left, same-refusal}
 use Rattle.acting.proofs.Buffer.{Put, put-gives, put-lacks}
 
@@ -61,38 +62,42 @@ module _ (v : View) (p m : ℕ) (d : Directive) (c : Context) where
   -- the parameters of a directive that is well written, and of one that is not
   pub settings-well : (on : Settings → ℕ → Flow) → wellWritten d ≡ true
       → withSettings v p m d c on ≡ onSettled p m (settleAll v c (placesIn d) (d .parameters) (c .next)) on
-  settings-well on h = choose-yes _ _ h
+  settings-well on h = rw h
 
   pub settings-ill : (on : Settings → ℕ → Flow) → wellWritten d ≡ false → withSettings v p m d c on ≡ refused 5 p m
-  settings-ill on h = choose-no _ _ h
-
-  -- an argument that is there, and one that is not
-  pub argument-there : (i : ℕ) (on : Value → Flow) → i < c .count → withArgument v p m c i on ≡ on (argumentIn v c i)
-  argument-there i on h = choose-yes _ _ (lt-ltb i (c .count) h)
-
-  pub argument-none : (i : ℕ) (on : Value → Flow) → c .count ≤ i → withArgument v p m c i on ≡ refused 6 p m
-  argument-none i on h = choose-no _ _ (le-ltb i (c .count) h)
+  settings-ill on h = rw h
 
   module _ (f : Form) (s : Settings) (on : ℕ → Flow) where
     -- the piece of a value of a kind that the form takes, and of another
-    pub write-yes : {colon at : Bool} (x : Value) (next : ℕ) → d .colon ≡ colon → d .at ≡ at → accepts f (kindOf x) ≡ true → write v p m f d s x next on ≡ put p m (textOf f colon at s x) (on next)
+    pub write-yes : {colon at : Bool} (x : Value) (next : ℕ) → d .colon ≡ colon → d .at ≡ at → accepts f (kindOf x) ≡ true → write p m f d s x next on ≡ put p m (textOf f colon at s x) (on next)
     write-yes x next q r h = choose-yes _ _ h ∙ rw (q, r)
 
-    pub write-no : (x : Value) (next : ℕ) → accepts f (kindOf x) ≡ false → write v p m f d s x next on ≡ refused 7 p m
+    pub write-no : (x : Value) (next : ℕ) → accepts f (kindOf x) ≡ false → write p m f d s x next on ≡ refused 7 p m
     write-no x next h = choose-no _ _ h
 
     module _ (next : ℕ) where
-      pub from-own : next < c .count → writeFrom v p m f d c s next on own ≡ write v p m f d s (argumentIn v c next) (next + 1) on
-      from-own h = argument-there next (λ x. write v p m f d s x (next + 1) on) h
+      pub from-own : next < c .count → writeFrom v p m f d c s next on own ≡ write p m f d s (argumentIn v c next) (next + 1) on
+      from-own h = rw (lt-ltb next (c .count) h)
 
       pub from-own-none : c .count ≤ next → writeFrom v p m f d c s next on own ≡ refused 6 p m
-      from-own-none h = argument-none next (λ x. write v p m f d s x (next + 1) on) h
+      from-own-none h = rw (le-ltb next (c .count) h)
 
-      pub from-back : (next ≡ 0 → ⊥) → next - 1 < c .count → writeFrom v p m f d c s next on back ≡ write v p m f d s (argumentIn v c (next - 1)) next on
-      from-back z h = choose-no _ _ (ne-eqb next 0 z) ∙ argument-there (next - 1) (λ x. write v p m f d s x next on) h
+      pub from-back : (next ≡ 0 → ⊥) → next - 1 < c .count → writeFrom v p m f d c s next on back ≡ write p m f d s (argumentIn v c (next - 1)) next on
+      from-back z h = rw (ne-eqb next 0 z, lt-ltb (next - 1) (c .count) h)
 
       pub from-back-none : next ≡ 0 → writeFrom v p m f d c s next on back ≡ refused 6 p m
-      from-back-none z = choose-yes _ _ (eq-eqb next 0 z)
+      from-back-none z = rw (eq-eqb next 0 z)
+
+      pub from-given : (x : Value) → writeFrom v p m f d c s next on (given x) ≡ write p m f d s x next on
+      from-given x = by (accepts f (kindOf x))
+        where
+          text : List ℕ
+          text = textOf f (d .colon) (d .at) s x
+
+          by : (b : Bool) → joined (λ i. argumentIn v c i) p m (cond b (writes text next) (refuses 7)) on
+              ≡ choose b (λ _. put p m text (on next)) (λ _. refused 7 p m)
+          by true = refl
+          by false = refl
 
 -- the same at a spot, with the answer as it is told
 module _ {f : (ℕ → Flow) → Flow} {count : ℕ} {spot : Spot} where
@@ -146,32 +151,33 @@ pub refused-stays : {code p i left at place : ℕ} {r : Ran} → r ≡ refusedRa
 refused-stays h q = no-left (ap (λ (y : Ran). y .stop) h) q
 
 -- jumps
-module _ (v : View) (p m : ℕ) (d : Directive) (c : Context) (s : Settings) (next : ℕ) (on : ℕ → Flow) where
-  pub jump-at : d .at ≡ true → jump v p m d c s next on ≡ jumpTo v p m c (orElse (s .first) 0) on
-  jump-at h = choose-yes _ _ h
+module _ (count : ℕ) (d : Directive) (s : Settings) (next : ℕ) where
+  pub jump-at : d .at ≡ true → jump count d s next ≡ jumpTo count (orElse (s .first) 0)
+  jump-at h = rw h
 
-  pub jump-back : d .at ≡ false → d .colon ≡ true → orElse (s .first) 1 ≤ next → jump v p m d c s next on ≡ jumpTo v p m c (next - orElse (s .first) 1) on
-  jump-back h k l = choose-no _ _ h ∙ choose-yes _ _ k ∙ choose-yes _ _ (le-leb (orElse (s .first) 1) next l)
+  pub jump-back : d .at ≡ false → d .colon ≡ true → orElse (s .first) 1 ≤ next → jump count d s next ≡ jumpTo count (next - orElse (s .first) 1)
+  jump-back h k l = rw (h, k, le-leb (orElse (s .first) 1) next l)
 
-  pub jump-before : d .at ≡ false → d .colon ≡ true → next < orElse (s .first) 1 → jump v p m d c s next on ≡ refused 6 p m
-  jump-before h k l = choose-no _ _ h ∙ choose-yes _ _ k ∙ choose-no _ _ (lt-leb (orElse (s .first) 1) next l)
+  pub jump-before : d .at ≡ false → d .colon ≡ true → next < orElse (s .first) 1 → jump count d s next ≡ refuses 6
+  jump-before h k l = rw (h, k, lt-leb (orElse (s .first) 1) next l)
 
-  pub jump-forth : d .at ≡ false → d .colon ≡ false → jump v p m d c s next on ≡ jumpTo v p m c (next + orElse (s .first) 1) on
-  jump-forth h k = choose-no _ _ h ∙ choose-no _ _ k
+  pub jump-forth : d .at ≡ false → d .colon ≡ false → jump count d s next ≡ jumpTo count (next + orElse (s .first) 1)
+  jump-forth h k = rw (h, k)
 
 -- what a directive that acts does, by its code
 module _ (v : View) (p m : ℕ) (d : Directive) (c : Context) (on : ℕ → Flow) where
+  acts-by : (k : Code) → d .code ≡ k → itemActs v p m (Written d) c on
+      ≡ withSettings v p m d c (λ s next. joined (λ i. argumentIn v c i) p m (actBy (c .count) d k s next) on)
+  unfolding actOf
+  acts-by k q = by (settleDirective v c d)
+    where
+      by : (z : Settled) → joined (λ i. argumentIn v c i) p m (actAfter (c .count) d z) on
+          ≡ onSettled p m z (λ s next. joined (λ i. argumentIn v c i) p m (actBy (c .count) d k s next) on)
+      by (settled ss next) = rw q
+      by (unsettled code) = refl
+
   pub acts-writes : (f : Form) → d .code ≡ Writes f → itemActs v p m (Written d) c on ≡ withSettings v p m d c (λ s next. writeFrom v p m f d c s next on (sourceOf f (d .colon) s))
-  unfolding itemActs
-  acts-writes f q = ap (λ (k : Code). directiveActs v p m d k c on) q
+  acts-writes f q = acts-by (Writes f) q
 
-  pub acts-jump : d .code ≡ Jump → itemActs v p m (Written d) c on ≡ withSettings v p m d c (λ s next. jump v p m d c s next on)
-  unfolding itemActs
-  acts-jump q = ap (λ (k : Code). directiveActs v p m d k c on) q
-
--- the number of the next argument that the context has plays no part
-pub write-anywhere : (v : View) (p m : ℕ) (f : Form) (d : Directive) (first count i : ℕ) (s : Settings) (next : ℕ) (on : ℕ → Flow) (x : Source)
-    → writeFrom v p m f d (hand first count i) s next on x ≡ writeFrom v p m f d (hand first count 0) s next on x
-write-anywhere v p m f d first count i s next on own = refl
-write-anywhere v p m f d first count i s next on back = refl
-write-anywhere v p m f d first count i s next on (given x) = refl
+  pub acts-jump : d .code ≡ Jump → itemActs v p m (Written d) c on ≡ withSettings v p m d c (λ s next. joined (λ i. argumentIn v c i) p m (jump (c .count) d s next) on)
+  acts-jump q = acts-by Jump q

@@ -32,7 +32,7 @@ use Rattle.acting.specs.declared.state.Ran.{Ran}
 use Rattle.acting.specs.declared.state.Spot.{Spot}
 use Rattle.acting.specs.Acting.{Performed}
 use Rattle.acting.specs.Ran.{refusedRan, endedRan}
-use Rattle.acting.proofs.ActLaws.{performed-as, performed-put, performed-full, write-yes, from-own}
+use Rattle.acting.proofs.ActLaws.{performed-as, performed-put, performed-full, write-yes, from-own, from-given}
 use Rattle.acting.proofs.Buffer.{Put, put-byte, put-none, put-then, put-between, fill-between, copy-between}
 use Rattle.acting.proofs.Sources.{reachable}
 
@@ -172,7 +172,8 @@ module _ (t : List ℕ) (hand : Hand) (s : Settings) (spot : Spot) (i : ℕ) (d 
       → n ≡ orElse (s .first) 1 → Puts (replicate n byte) i count b e r → FormWritten (Repeat byte) count b e r
   run-written byte n q k =
       performed-as _
-      (λ on. write-yes (viewOf t) (spot .position) (spot .left) d (handAt hand 0) (Repeat byte) s on (boolean false) i refl refl refl
+      (λ on. from-given (viewOf t) (spot .position) (spot .left) d (handAt hand 0) (Repeat byte) s on i (boolean false)
+      ∙ write-yes (viewOf t) (spot .position) (spot .left) d (handAt hand 0) (Repeat byte) s on (boolean false) i refl refl refl
       ∙ ap (λ (w : List ℕ). put (spot .position) (spot .left) w (on i))
       (repeat-text (d .colon) s (d .at) byte (boolean false) ∙ ap (λ (m : ℕ). replicate m byte) (sym q)))
       k
@@ -181,10 +182,10 @@ module _ (t : List ℕ) (hand : Hand) (s : Settings) (spot : Spot) (i : ℕ) (d 
     -- the argument that is taken
     own-taken : (f : Form) (on : ℕ → Flow) {v : Argument} → x ≡ v
         → writeFrom (viewOf t) (spot .position) (spot .left) f d (handAt hand 0) s i on own
-        ≡ write (viewOf t) (spot .position) (spot .left) f d s (meant t v) (i + 1) on
+        ≡ write (spot .position) (spot .left) f d s (meant t v) (i + 1) on
     own-taken f on q =
         from-own (viewOf t) (spot .position) (spot .left) d (handAt hand 0) f s on i h
-        ∙ ap (λ (z : Value). write (viewOf t) (spot .position) (spot .left) f d s z (i + 1) on) (sym y ∙ ap (meant t) q)
+        ∙ ap (λ (z : Value). write (spot .position) (spot .left) f d s z (i + 1) on) (sym y ∙ ap (meant t) q)
 
     pub text-written : (start end width : ℕ) {count : ℕ} {b e : List ℕ} {r : Ran} → x ≡ Text start end → StringIn t start end → d .at ≡ false
         → s .second ≡ Absent → s .third ≡ Absent → s .fourth ≡ Absent → width ≡ orElse (s .first) 0

@@ -26,7 +26,7 @@ use Rattle.acting.specs.declared.planning.Source.{Source as TakenFrom}
 use Rattle.acting.specs.declared.planning.Taken.{Taken}
 use Rattle.acting.specs.declared.planning.Taken.the-variants.{None, Is as TakenIs}
 use Rattle.acting.specs.Planning.{sourceAs, Takes, onPlanned, PlanReaches, PlansSettled, Plans}
-use Rattle.acting.proofs.ActLaws.{settings-ill, write-yes, write-no, acts-writes, write-anywhere}
+use Rattle.acting.proofs.ActLaws.{settings-ill, write-yes, write-no, acts-writes}
 use Rattle.acting.proofs.Sources.{taken-reaches, taken-none, taken-is}
 
 -- by the argument that is taken: none, one that is shown, one of a kind that the form does not take
@@ -85,7 +85,6 @@ module _ {t : List ℕ} {form : Form} {d : Directive} {hand : Hand} {next : ℕ}
           as-defined =
               λ p m on. acts-writes (viewOf t) p m d (handAt hand next) on form e
               ∙ run-settled h well p m _ q
-              ∙ write-anywhere (viewOf t) p m form d (hand .first .0) (hand .count) next s (i .0) on (sourceOf form (d .colon) s)
               ∙ k .as-defined d p m on;
           reaches = k .reaches;
         }

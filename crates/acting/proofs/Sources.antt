@@ -31,7 +31,7 @@ use Rattle.acting.specs.declared.planning.Taken.{Taken}
 use Rattle.acting.specs.declared.planning.Taken.the-variants.{None, Is as TakenIs}
 use Rattle.acting.specs.Acting.{Numbered}
 use Rattle.acting.specs.Planning.{Coded, OriginRight, sourceAs, SourceReachable, onTaken, TakenReaches, Takes}
-use Rattle.acting.proofs.ActLaws.{from-own, from-own-none, from-back, from-back-none}
+use Rattle.acting.proofs.ActLaws.{from-own, from-own-none, from-back, from-back-none, from-given}
 
 -- an argument that was read lies in its table
 pub reachable : {t : List ℕ} {i : ℕ} (r : Argument) → Holds t i r → Reachable t r
@@ -48,7 +48,7 @@ module _ {t : List ℕ} {hand : Hand} {s : Source} {i : ℕ} where
   takes-own x q h y e =
       subst (λ (s : Source). Takes t hand s i (TakenIs x (record { 0 = i + 1 }))) (sym q)
       (record {
-        as-defined = λ p m f d st on. from-own (viewOf t) p m d (handAt hand 0) f st on i h ∙ ap (λ (z : Value). write (viewOf t) p m f d st z (i + 1) on) (sym e);
+        as-defined = λ p m f d st on. from-own (viewOf t) p m d (handAt hand 0) f st on i h ∙ ap (λ (z : Value). write p m f d st z (i + 1) on) (sym e);
         reaches = (reachable x y, omega arith);
       })
 
@@ -62,7 +62,7 @@ module _ {t : List ℕ} {hand : Hand} {s : Source} {i : ℕ} where
   takes-back x q z h y e =
       subst (λ (s : Source). Takes t hand s i (TakenIs x (record { 0 = i }))) (sym q)
       (record {
-        as-defined = λ p m f d st on. from-back (viewOf t) p m d (handAt hand 0) f st on i z (omega arith) ∙ ap (λ (w : Value). write (viewOf t) p m f d st w i on) (sym e);
+        as-defined = λ p m f d st on. from-back (viewOf t) p m d (handAt hand 0) f st on i z (omega arith) ∙ ap (λ (w : Value). write p m f d st w i on) (sym e);
         reaches = (reachable x y, h);
       })
 
@@ -74,7 +74,7 @@ module _ {t : List ℕ} {hand : Hand} {s : Source} {i : ℕ} where
   pub takes-given : (x : Argument) → s ≡ Given x → SourceReachable t s → i ≤ hand .count → Takes t hand s i (TakenIs x (record { 0 = i }))
   takes-given x q y h =
       subst (λ (s : Source). Takes t hand s i (TakenIs x (record { 0 = i }))) (sym q)
-      (record { as-defined = λ p m f d st on. refl; reaches = (subst (SourceReachable t) q y, h) })
+      (record { as-defined = λ p m f d st on. from-given (viewOf t) p m d (handAt hand 0) f st on i (meant t x); reaches = (subst (SourceReachable t) q y, h) })
 
 -- and what a directive learns from the answer
 module _ {t : List ℕ} {hand : Hand} {s : Source} {i : ℕ} {r : Taken} (k : Takes t hand s i r) where
@@ -83,11 +83,11 @@ module _ {t : List ℕ} {hand : Hand} {s : Source} {i : ℕ} {r : Taken} (k : Ta
 
   module _ (p m : ℕ) (f : Form) (d : Directive) (st : Settings) (on : ℕ → Flow) where
     pub taken-none : r ≡ None → writeFrom (viewOf t) p m f d (handAt hand 0) st i on (sourceAs t s) ≡ refused 6 p m
-    taken-none q = k .as-defined p m f d st on ∙ ap (onTaken t p m (λ x next. write (viewOf t) p m f d st x next on)) q
+    taken-none q = k .as-defined p m f d st on ∙ ap (onTaken t p m (λ x next. write p m f d st x next on)) q
 
     pub taken-is : {x : Argument} {next : ArgumentPosition} → r ≡ TakenIs x next
-        → writeFrom (viewOf t) p m f d (handAt hand 0) st i on (sourceAs t s) ≡ write (viewOf t) p m f d st (meant t x) (next .0) on
-    taken-is q = k .as-defined p m f d st on ∙ ap (onTaken t p m (λ x next. write (viewOf t) p m f d st x next on)) q
+        → writeFrom (viewOf t) p m f d (handAt hand 0) st i on (sourceAs t s) ≡ write p m f d st (meant t x) (next .0) on
+    taken-is q = k .as-defined p m f d st on ∙ ap (onTaken t p m (λ x next. write p m f d st x next on)) q
 
 coded : (x : Setting) → InPlace (NumberPlace 0 127) x → Coded x
 coded Absent a = tt

@@ -52,7 +52,7 @@ pub record Takes (t : List ℕ) (hand : Hand) (source : TakenFrom) (i : ℕ) (r 
   pub as-defined :
       (p m : ℕ) (form : Form) (d : Directive) (s : Settings) (on : ℕ → Flow)
       → writeFrom (viewOf t) p m form d (handAt hand 0) s i on (sourceAs t source)
-      ≡ onTaken t p m (λ x next. write (viewOf t) p m form d s x next on) r
+      ≡ onTaken t p m (λ x next. write p m form d s x next on) r
   -- the argument lies in its table, and the next one is one of those in hand or the end of them
   pub reaches : TakenReaches t (hand .count) r
 

@@ -24,14 +24,13 @@ ghost use mathlib.Core.List.{List};
 ghost use Prim.Native.Nat.{ℕ, _≤_, _<_};
 ghost use lib.ListN.{length};
 ghost use Rattle.rules.specs.Directive.{FormRight};
-ghost use Rattle.rules.specs.Table.{View, viewOf};
+ghost use Rattle.rules.specs.Table.{Value, viewOf};
 ghost use Rattle.rules.specs.Working.{WellSet, sourceOf as sourceIn};
-ghost use Rattle.rules.specs.Run.{put, writeFrom, jumpTo, itemActs};
-ghost use Rattle.rules.specs.Run.{jump as jumping};
+ghost use Rattle.rules.specs.Act.{jumpTo, jump as jumping};
+ghost use Rattle.rules.specs.Run.{put, joined, writeFrom, itemActs};
 ghost use Rattle.rules.specs.declared.Item.the-variants.{Written};
 ghost use Rattle.pieces.specs.Bytes.{Good, bytesOf};
 ghost use Rattle.working.specs.Settling.{InHand, handAt};
-ghost use Rattle.acting.specs.Ran.{hand};
 ghost use Rattle.acting.specs.Acting.{JumpSet, Performed, Untouched};
 
 // A piece put whole at the end of what is written, or refused for want of room.
@@ -96,7 +95,7 @@ pub fn write_form(
 // On with argument k, if it lies from 0 to the count.
 fn jump_to(spot: Spot, k: usize, count: usize, i: ArgumentPosition) -> Ran
     requires { ⌜ i .0 ≤ count ⌝ }
-    ensures { λ r. ⌜ ((v : View) (first : ℕ) (b : List ℕ) → spot .at ≤ length b → Performed (λ on. jumpTo v (spot .position) (spot .left) (hand first count 0) k on) count spot b b r) ⌝ }
+    ensures { λ r. ⌜ ((value : ℕ → Value) (b : List ℕ) → spot .at ≤ length b → Performed (λ on. joined value (spot .position) (spot .left) (jumpTo count k) on) count spot b b r) ⌝ }
 {
     if k <= count {
         return go_on(spot, ArgumentPosition(k), spot.at);
@@ -108,7 +107,7 @@ fn jump_to(spot: Spot, k: usize, count: usize, i: ArgumentPosition) -> Ran
 fn jump(spot: Spot, d: Directive, settings: Settings, count: usize, i: ArgumentPosition) -> Ran
     requires { ⌜ JumpSet settings ⌝ }
     requires { ⌜ (i .0 ≤ count) × (count ≤ 1024) ⌝ }
-    ensures { λ r. ⌜ ((v : View) (first : ℕ) (b : List ℕ) → spot .at ≤ length b → Performed (λ on. jumping v (spot .position) (spot .left) d (hand first count 0) settings (i .0) on) count spot b b r) ⌝ }
+    ensures { λ r. ⌜ ((value : ℕ → Value) (b : List ℕ) → spot .at ≤ length b → Performed (λ on. joined value (spot .position) (spot .left) (jumping count d settings (i .0)) on) count spot b b r) ⌝ }
 {
     let first = settings.first;
     let k = i.0;

@@ -1,17 +1,16 @@
 -- What a jump does: it goes on with another argument, or is refused. Assumes nothing.
 use Prim.Native.Nat.{ℕ, _+_, _-_}
 use mathlib.Core.Path.{_≡_, refl, sym, ap, subst, _∙_}
-use mathlib.Core.Bool.{Bool, true, false}
+use mathlib.Core.Bool.{Bool, true, false, cond}
 use mathlib.Core.List.{List, []}
 use native.Mathlib.Omega.{arith}
 use lib.Dec.{leb}
 use Rattle.rules.specs.Flow.{Flow, done, refused, put, Stretch, still}
-use Rattle.rules.specs.Table.{View}
-use Rattle.rules.specs.Rows.{placesIn, wellWritten}
+use Rattle.rules.specs.Act.{Act, moves, refuses, jumpTo, jump, actAfter, actOf}
+use Rattle.rules.specs.Table.{Value, View}
 use Rattle.rules.specs.Piece.{orElse}
-use Rattle.rules.specs.Working.{Context, Settled, settled, unsettled, settleAll}
-use Rattle.rules.specs.Run.{choose, onSettled, jumpTo, jump, directiveActs, itemActs}
-use Rattle.rules.specs.declared.Code.{Code}
+use Rattle.rules.specs.Working.{Context, argumentIn, Settled, settled, unsettled, settingsOf, settleDirective}
+use Rattle.rules.specs.Run.{joined, itemActs}
 use Rattle.rules.specs.declared.Code.the-variants.{Jump}
 use Rattle.rules.specs.declared.Directive.{Directive}
 use Rattle.rules.specs.declared.Item.the-variants.{Written}
@@ -29,32 +28,38 @@ pub data Silent (f : (ℕ → Flow) → Flow) : Type 0 where
   goes : (i : ℕ) → ((on : ℕ → Flow) → f on ≡ on i) → Silent f
   stops : (code p left : ℕ) → ((on : ℕ → Flow) → f on ≡ refused code p left) → Silent f
 
-silent-either : (t : Bool) {f g : (ℕ → Flow) → Flow} → Silent f → Silent g → Silent (λ on. choose t (λ _. f on) (λ _. g on))
-silent-either true s u = s
-silent-either false s u = u
+-- an act that shows no argument and writes no text
+module _ (value : ℕ → Value) (p m : ℕ) where
+  abbrev SilentAct : Act → Type 0
+  SilentAct a = Silent (λ on. joined value p m a on)
 
-module _ (v : View) (p m : ℕ) (c : Context) where
-  silent-to : (k : ℕ) → Silent (λ on. jumpTo v p m c k on)
-  silent-to k = silent-either (leb k (c .count)) (goes k (λ on. refl)) (stops 6 p m (λ on. refl))
+  silent-on : (i : ℕ) → SilentAct (moves i)
+  silent-on i = goes i (λ on. refl)
 
-  silent-settled : (z : Settled) {f : Settings → ℕ → (ℕ → Flow) → Flow} → ((s : Settings) (i : ℕ) → Silent (f s i)) → Silent (λ on. onSettled p m z (λ s i. f s i on))
-  silent-settled (settled ss i) h = h _ i
-  silent-settled (unsettled code) h = stops code p m (λ on. refl)
+  silent-refusal : (code : ℕ) → SilentAct (refuses code)
+  silent-refusal code = stops code p m (λ on. refl)
 
-  silent-by : (d : Directive) (s : Settings) (i : ℕ) → Silent (λ on. jump v p m d c s i on)
-  silent-by d s i =
-      silent-either (d .at) (silent-to (orElse (s .first) 0))
+  silent-either : (t : Bool) {a b : Act} → SilentAct a → SilentAct b → SilentAct (cond t a b)
+  silent-either true s u = s
+  silent-either false s u = u
+
+  silent-to : (count k : ℕ) → SilentAct (jumpTo count k)
+  silent-to count k = silent-either (leb k count) (silent-on k) (silent-refusal 6)
+
+  silent-by : (count : ℕ) (d : Directive) (s : Settings) (i : ℕ) → SilentAct (jump count d s i)
+  silent-by count d s i =
+      silent-either (d .at) (silent-to count (orElse (s .first) 0))
       (silent-either (d .colon)
-      (silent-either (leb (orElse (s .first) 1) i) (silent-to (i - orElse (s .first) 1)) (stops 6 p m (λ on. refl)))
-      (silent-to (i + orElse (s .first) 1)))
+      (silent-either (leb (orElse (s .first) 1) i) (silent-to count (i - orElse (s .first) 1)) (silent-refusal 6))
+      (silent-to count (i + orElse (s .first) 1)))
 
-  pub silent-jump : (d : Directive) → d .code ≡ Jump → Silent (λ on. itemActs v p m (Written d) c on)
-  unfolding itemActs
-  silent-jump d q =
-      subst (λ (k : Code). Silent (λ on. directiveActs v p m d k c on)) (sym q)
-      (silent-either (wellWritten d)
-      (silent-settled (settleAll v c (placesIn d) (d .parameters) (c .next)) (silent-by d))
-      (stops 5 p m (λ on. refl)))
+  silent-after : (count : ℕ) (d : Directive) → d .code ≡ Jump → (z : Settled) → SilentAct (actAfter count d z)
+  silent-after count d q (settled ss i) = rw q (silent-by count d (settingsOf ss) i)
+  silent-after count d q (unsettled code) = silent-refusal code
+
+pub silent-jump : (v : View) (p m : ℕ) (c : Context) (d : Directive) → d .code ≡ Jump → Silent (λ on. itemActs v p m (Written d) c on)
+unfolding actOf
+silent-jump v p m c d q = silent-after (λ i. argumentIn v c i) p m (c .count) d q (settleDirective v c d)
 
 -- an end is followed by nothing
 done-only : {a k : ℕ} {g : Flow} {w : List ℕ} → Stretch (done a k) g w → g ≡ done a k

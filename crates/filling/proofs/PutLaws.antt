@@ -12,6 +12,7 @@ use Rattle.rules.specs.Piece.{textOf}
 use Rattle.rules.specs.Table.{View, viewOf, meant}
 use Rattle.rules.specs.Text.{levelsAt}
 use Rattle.rules.specs.Working.{Context}
+use Rattle.rules.specs.Act.{actOf}
 use Rattle.rules.specs.Run.{itemActs, run}
 use Rattle.rules.specs.declared.ArgumentPosition.{ArgumentPosition}
 use Rattle.rules.specs.declared.Code.{Code}
@@ -80,7 +81,7 @@ module _ (t table : List ℕ) (x : Item) (q : ℕ) (h : Here) (given at : ℕ) (
 
 -- a literal byte
 literal-acts : (v : View) (p m byte : ℕ) (c : Context) (on : ℕ → Flow) → itemActs v p m (Literal byte) c on ≡ put p m (byte ∷ []) (on (c .next))
-unfolding itemActs
+unfolding actOf
 literal-acts v p m byte c on = refl
 
 module _ (byte : ℕ) (h : Here) (given at : ℕ) (z : h .left ≡ 0 → ⊥) {after : Here} (y : after ≡ hereAt (h .place + 1) (h .left - 1) (h .hand) (h .next)) where

@@ -9,15 +9,16 @@ use lib.Dec.{ltb, leb, eqb}
 use lib.IntN.{ℤ, pos, negsuc}
 use lib.ListN.{length}
 use borrow.Author.Tests.{lt-ltb}
+use Rattle.rules.specs.Act.{Act, writes, shows, moves, refuses, actFrom, jumpTo, jump, actBy, actAfter, actOf}
 use Rattle.rules.specs.Choice.{either}
 use Rattle.rules.specs.Directive.{itemAt}
-use Rattle.rules.specs.Rows.{placesIn, inRow, inOrder, wellWritten, accepts}
+use Rattle.rules.specs.Rows.{placesIn, inRow, inOrder, accepts}
 use Rattle.rules.specs.Flow.{Flow, done, refused, put}
 use Rattle.rules.specs.Piece.{orElse, textOf, kindOf}
-use Rattle.rules.specs.Run.{choose, begin, Outside, sameArguments, other, Frame, iteration, conditional, afterwards, usedUp, oneLess, fallbackOf, clauseAt, pickNumber, pickInteger, isFalse, onSettled, doneWith, withSettings, withArgument, write, writeFrom, jumpTo, jump, directiveActs, itemActs, Onward, pickBy, pickNumbered, pick, overList, enter, leave, nested, turn, walk, run}
+use Rattle.rules.specs.Run.{choose, begin, Outside, sameArguments, other, Frame, iteration, conditional, afterwards, usedUp, oneLess, fallbackOf, clauseAt, pickNumber, pickInteger, isFalse, onSettled, doneWith, joined, withSettings, withArgument, itemActs, Onward, pickBy, pickNumbered, pick, overList, enter, leave, nested, turn, walk, run}
 use Rattle.rules.specs.Table.{Value, boolean, integer, character, string, list, View}
 use Rattle.rules.specs.Text.{Sequence, end, acts, escapes, iterates, chooses, Clauses, none, clause, deepest, textVerdict, sequenceOf}
-use Rattle.rules.specs.Working.{Context, goTo, noneRemain, argumentIn, Settled, settled, unsettled, settle, settingsOf, Source, own, back, given, sourceOf}
+use Rattle.rules.specs.Working.{Context, goTo, noneRemain, argumentIn, Settled, settled, unsettled, settingsOf, settleDirective, Source, own, back, given, sourceOf}
 use Rattle.rules.specs.declared.Code.{Code}
 use Rattle.rules.specs.declared.Code.the-variants.{Writes, Jump, Escape, Opens, Separator, Closes, Unknown}
 use Rattle.rules.specs.declared.Directive.{Directive}
@@ -102,6 +103,13 @@ module _ (v : View) (t : List ℕ) where
   choose-reports true x y h k = h
   choose-reports false x y h k = k
 
+  -- what an act at p may be refused for, with m steps left
+  abbrev Refusable : ℕ → ℕ → Act → Type 0
+  Refusable p m (writes text next) = Unit {0}
+  Refusable p m (shows f d s i next) = Unit {0}
+  Refusable p m (moves next) = Unit {0}
+  Refusable p m (refuses code) = RunRefusal v t code p m
+
   module _ (p : ℕ) (h : p < length t) where
     -- 6 and 7
     plain-refusal : (code m : ℕ) → 6 ≤ code → code ≤ 7 → RunRefusal v t code p m
@@ -138,50 +146,60 @@ module _ (v : View) (t : List ℕ) where
         choose-reports (ltb i (c .count)) (λ _. on (argumentIn v c i)) (λ _. refused 6 p m)
         (r (argumentIn v c i)) no-argument
 
-    write-reports : (m : ℕ) (f : Form) (d : Directive) (s : Settings) (x : Value) (next : ℕ) (on : ℕ → Flow)
-        → Reports v t (on next) → Reports v t (write v p m f d s x next on)
-    write-reports m f d s x next on r =
-        choose-reports (accepts f (kindOf x)) (λ _. put p m (textOf f (d .colon) (d .at) s x) (on next))
-        (λ _. refused 7 p m) (h, r) wrong-kind
+    joined-reports : (value : ℕ → Value) (m : ℕ) (a : Act) (on : ℕ → Flow) → Refusable p m a → ((i : ℕ) → Reports v t (on i))
+        → Reports v t (joined value p m a on)
+    joined-reports value m (writes text next) on k r = (h, r next)
+    joined-reports value m (shows f d s i next) on k r =
+        choose-reports (accepts f (kindOf (value i))) (λ _. put p m (textOf f (d .colon) (d .at) s (value i)) (on next))
+        (λ _. refused 7 p m) (h, r next) wrong-kind
+    joined-reports value m (moves next) on k r = r next
+    joined-reports value m (refuses code) on k r = k
 
-    source-reports : (m : ℕ) (f : Form) (d : Directive) (c : Context) (s : Settings) (next : ℕ) (on : ℕ → Flow)
-        → ((i : ℕ) → Reports v t (on i)) → (x : Source) → Reports v t (writeFrom v p m f d c s next on x)
-    source-reports m f d c s next on r own =
-        argument-reports m c next (λ x. write v p m f d s x (next + 1) on)
-        (λ x. write-reports m f d s x (next + 1) on (r (next + 1)))
-    source-reports m f d c s next on r back =
-        choose-reports (eqb next 0) (λ _. refused 6 p m)
-        (λ _. withArgument v p m c (next - 1) (λ x. write v p m f d s x next on))
-        no-argument
-        (argument-reports m c (next - 1) (λ x. write v p m f d s x next on)
-        (λ x. write-reports m f d s x next on (r next)))
-    source-reports m f d c s next on r (given x) = write-reports m f d s x next on (r next)
+    either-refusable : (m : ℕ) (b : Bool) (x y : Act) → Refusable p m x → Refusable p m y → Refusable p m (cond b x y)
+    either-refusable m true x y h k = h
+    either-refusable m false x y h k = k
 
-    to-reports : (m : ℕ) (c : Context) (i : ℕ) (on : ℕ → Flow) → ((i : ℕ) → Reports v t (on i))
-        → Reports v t (jumpTo v p m c i on)
-    to-reports m c i on r = choose-reports (leb i (c .count)) (λ _. on i) (λ _. refused 6 p m) (r i) no-argument
+    source-refusable : (m count : ℕ) (f : Form) (d : Directive) (s : Settings) (next : ℕ) (x : Source)
+        → Refusable p m (actFrom count f d s next x)
+    source-refusable m count f d s next own = either-refusable m (ltb next count) _ (refuses 6) tt no-argument
+    source-refusable m count f d s next back =
+        either-refusable m (eqb next 0) (refuses 6) _ no-argument
+        (either-refusable m (ltb (next - 1) count) (shows f d s (next - 1) next) (refuses 6) tt no-argument)
+    source-refusable m count f d s next (given x) =
+        either-refusable m (accepts f (kindOf x)) (writes _ next) (refuses 7) tt wrong-kind
 
-    jump-reports : (m : ℕ) (d : Directive) (c : Context) (s : Settings) (next : ℕ) (on : ℕ → Flow)
-        → ((i : ℕ) → Reports v t (on i)) → Reports v t (jump v p m d c s next on)
-    jump-reports m d c s next on r =
+    to-refusable : (m count i : ℕ) → Refusable p m (jumpTo count i)
+    to-refusable m count i = either-refusable m (leb i count) (moves i) (refuses 6) tt no-argument
+
+    jump-refusable : (m count : ℕ) (d : Directive) (s : Settings) (next : ℕ) → Refusable p m (jump count d s next)
+    jump-refusable m count d s next =
         let n = orElse (s .first) 1 in
-        choose-reports (d .at) (λ _. jumpTo v p m c (orElse (s .first) 0) on) _
-        (to-reports m c (orElse (s .first) 0) on r)
-        (choose-reports (d .colon)
-        (λ _. choose (leb n next) (λ _. jumpTo v p m c (next - n) on) (λ _. refused 6 p m))
-        (λ _. jumpTo v p m c (next + n) on)
-        (choose-reports (leb n next) (λ _. jumpTo v p m c (next - n) on) (λ _. refused 6 p m)
-        (to-reports m c (next - n) on r) no-argument)
-        (to-reports m c (next + n) on r))
+        either-refusable m (d .at) (jumpTo count (orElse (s .first) 0)) _ (to-refusable m count (orElse (s .first) 0))
+        (either-refusable m (d .colon) (cond (leb n next) (jumpTo count (next - n)) (refuses 6)) (jumpTo count (next + n))
+        (either-refusable m (leb n next) (jumpTo count (next - n)) (refuses 6) (to-refusable m count (next - n)) no-argument)
+        (to-refusable m count (next + n)))
+
+    by-refusable : (m count : ℕ) (d : Directive) (code : Code) (s : Settings) (next : ℕ) → Refusable p m (actBy count d code s next)
+    by-refusable m count d (Writes f) s next = source-refusable m count f d s next (sourceOf f (d .colon) s)
+    by-refusable m count d Jump s next = jump-refusable m count d s next
+    by-refusable m count d Escape s next = tt
+    by-refusable m count d (Opens b) s next = tt
+    by-refusable m count d Separator s next = tt
+    by-refusable m count d (Closes b) s next = tt
+    by-refusable m count d Unknown s next = tt
 
   -- a well-written directive's parameters
-  module _ (p : ℕ) (d : Directive) (w : WrittenAt t p d) where
-    settled-reports : (m : ℕ) (c : Context) (on : Settings → ℕ → Flow)
-        → ((s : Settings) (i : ℕ) → Reports v t (on s i)) → (z : Settled)
-        → AllWorked (MeetsOutOfRange v c (inRow (placesIn d)) (inOrder (d .parameters)) (c .next)) z
-        → Reports v t (onSettled p m z on)
-    settled-reports m c on r (settled ss next) a = r (settingsOf ss) next
-    settled-reports m c on r (unsettled code) a = record {
+  module _ (p : ℕ) (d : Directive) (w : WrittenAt t p d) (m : ℕ) (c : Context) where
+    abbrev Met : Settled → Type 0
+    Met z = AllWorked (MeetsOutOfRange v c (inRow (placesIn d)) (inOrder (d .parameters)) (c .next)) z
+
+    met : Met (settleDirective v c d)
+    met =
+        rw (w .written)
+        (settle-worked v c (inRow (placesIn d)) (inOrder (d .parameters)) (c .next) (written-suits d (w .written)))
+
+    unsettled-refusal : (code : ℕ) → Met (unsettled code) → RunRefusal v t code p m
+    unsettled-refusal code a = record {
       inside = w .inside;
       least = a .least;
       most = omega (arith, a .most);
@@ -189,34 +207,31 @@ module _ (v : View) (t : List ℕ) where
       spent = λ e. absurd (omega (arith, a .most));
     }
 
-    settings-reports : (m : ℕ) (c : Context) (on : Settings → ℕ → Flow) → ((s : Settings) (i : ℕ) → Reports v t (on s i))
-        → Reports v t (withSettings v p m d c on)
-    settings-reports m c on r =
-        let ys = inRow (placesIn d) in
-        let xs = inOrder (d .parameters) in
-        rw (w .written) (settled-reports m c on r (settle v c ys xs (c .next)) (settle-worked v c ys xs (c .next) (written-suits d (w .written))))
+    settled-reports : (on : Settings → ℕ → Flow) → ((s : Settings) (i : ℕ) → Reports v t (on s i)) → (z : Settled) → Met z
+        → Reports v t (onSettled p m z on)
+    settled-reports on r (settled ss next) a = r (settingsOf ss) next
+    settled-reports on r (unsettled code) a = unsettled-refusal code a
 
-    directive-reports : (m : ℕ) (code : Code) (c : Context) (on : ℕ → Flow) → ((i : ℕ) → Reports v t (on i))
-        → Reports v t (directiveActs v p m d code c on)
-    directive-reports m (Writes f) c on r =
-        settings-reports m c (λ s next. writeFrom v p m f d c s next on (sourceOf f (d .colon) s))
-        (λ s i. source-reports p (w .inside) m f d c s i on r (sourceOf f (d .colon) s))
-    directive-reports m Jump c on r =
-        settings-reports m c (λ s next. jump v p m d c s next on) (λ s i. jump-reports p (w .inside) m d c s i on r)
-    directive-reports m Escape c on r = r (c .next)
-    directive-reports m (Opens b) c on r = r (c .next)
-    directive-reports m Separator c on r = r (c .next)
-    directive-reports m (Closes b) c on r = r (c .next)
-    directive-reports m Unknown c on r = r (c .next)
+    settings-reports : (on : Settings → ℕ → Flow) → ((s : Settings) (i : ℕ) → Reports v t (on s i))
+        → Reports v t (withSettings v p m d c on)
+    settings-reports on r = settled-reports on r (settleDirective v c d) met
+
+    after-refusable : (z : Settled) → Met z → Refusable p m (actAfter (c .count) d z)
+    after-refusable (settled ss next) a = by-refusable p (w .inside) m (c .count) d (d .code) (settingsOf ss) next
+    after-refusable (unsettled code) a = unsettled-refusal code a
+
+  item-refusable : (p m : ℕ) (x : Item) (c : Context) → ActsIn t p x → Refusable p m (actOf v c x)
+  unfolding actOf
+  item-refusable p m End c a = tt
+  item-refusable p m (Literal b) c a = tt
+  item-refusable p m (Written d) c a = after-refusable p d a m c (settleDirective v c d) (met p d a m c)
+  item-refusable p m BadNumber c a = tt
+  item-refusable p m Unfinished c a = tt
 
   item-reports : (p m : ℕ) (x : Item) (c : Context) (on : ℕ → Flow) → ActsIn t p x → ((i : ℕ) → Reports v t (on i))
       → Reports v t (itemActs v p m x c on)
-  unfolding itemActs
-  item-reports p m End c on a r = r (c .next)
-  item-reports p m (Literal b) c on a r = (a, r (c .next))
-  item-reports p m (Written d) c on a r = directive-reports p d a m (d .code) c on r
-  item-reports p m BadNumber c on a r = r (c .next)
-  item-reports p m Unfinished c on a r = r (c .next)
+  item-reports p m x c on a r =
+      joined-reports p (acts-inside t p x a) (λ i. argumentIn v c i) m (actOf v c x) on (item-refusable p m x c a) r
 
   -- the openers: which clause, and which list
   module _ (p : ℕ) (h : p < length t) (m : ℕ) where

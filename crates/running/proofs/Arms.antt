@@ -5,6 +5,7 @@ use mathlib.Core.List.{List, [], _∷_}
 use native.Mathlib.Omega.{arith}
 use borrow.Author.Tests.{le-leb, lt-leb}
 use lib.ListN.{length, set}
+use Rattle.rules.specs.Act.{actOf}
 use Rattle.rules.specs.Table.{View}
 use Rattle.rules.specs.Text.{Sequence, end, Level, innermost, outer, deepest}
 use Rattle.rules.specs.Working.{noneRemain}
@@ -23,7 +24,7 @@ use Rattle.running.specs.Runs.{ActsAt, EscapesAt, restAt, leaving, Runs,
 module _ (v : View) (first count x byte i m at place : ℕ) (b : List ℕ) (k : i ≤ count) where
   pub literal-acts : at < length b
       → Acts v (hand first count i) x (Literal byte) m at b (set b at byte) (record { stop = Ended; next = record { 0 = i }; left = m; at = at + 1; place = place })
-  unfolding itemActs
+  unfolding actOf
   literal-acts h =
       let w = put-byte b at byte h in
       record {
@@ -37,7 +38,7 @@ module _ (v : View) (first count x byte i m at place : ℕ) (b : List ℕ) (k : 
       }
 
   pub literal-full : at ≤ length b → length b ≤ at → Acts v (hand first count i) x (Literal byte) m at b b (refusedRan 10 x i m at place)
-  unfolding itemActs
+  unfolding actOf
   literal-full l h = stays _ (λ on out. lacks refl (put-lacks b (byte ∷ []) x m at _ l (omega arith))) refl (omega arith) l k
 
 module _ (s : ℕ → List Level) (n : ℕ) (v : View) (first count level p i left at : ℕ) (b : List ℕ) where

@@ -5,7 +5,7 @@ use mathlib.Core.Bool.{true, false}
 use mathlib.Core.List.{List}
 use native.Mathlib.Decide.{ℕ-discrete as decEq}
 use native.Mathlib.Omega.{arith}
-use borrow.Author.Tests.{le-ltb, eq-eqb, ne-eqb, eqb-true}
+use borrow.Author.Tests.{eq-eqb, ne-eqb, eqb-true}
 use lib.Dec.{eqb}
 use lib.ListN.{length}
 use Rattle.rules.specs.Choice.{both}
@@ -23,7 +23,6 @@ use Rattle.rules.specs.declared.Item.the-variants.{Written}
 use Rattle.rules.specs.declared.Setting.{Setting}
 use Rattle.rules.specs.declared.Setting.the-variants.{Absent, Is}
 use Rattle.rules.specs.declared.Settings.{Settings}
-use Rattle.rules.proofs.RunLaws.{choose-no}
 use Rattle.rules.proofs.Tests.{both-true}
 use Rattle.reader.specs.Shorts.{Brief, object, numeral, repeats, formOf, briefOf, settingOf, shortForm, shortParameters, shortDirective, NumberIn, CharacterIn, NoneIn, ShortIn}
 use Rattle.reader.proofs.ShortLaws.{short-well}
@@ -33,7 +32,7 @@ use Rattle.rules.specs.Directive.{FormRight}
 use Rattle.acting.specs.Acting.{Performed, Untouched}
 use Rattle.acting.specs.Ran.{refusedRan, endedRan, hand}
 use Rattle.acting.proofs.Joining.{same-refusal}
-use Rattle.acting.proofs.ActLaws.{performed-as, acts-writes, settings-well, write-anywhere}
+use Rattle.acting.proofs.ActLaws.{performed-as, acts-writes, settings-well, from-own-none}
 use Rattle.acting.proofs.Sources.{worked-in}
 use Rattle.running.specs.Runs.{ActsAt, Ahead, Steps, Strides}
 use Rattle.running.proofs.Strides.{strides-none}
@@ -80,8 +79,7 @@ short-begun s n v first count level here i left at b w x y {p} {place} u a h z s
     (performed-as _
     (λ on. acts-writes v (spot .position) (spot .left) d (hand first count i) on (formOf w) refl
     ∙ settings-well v (spot .position) (spot .left) d (hand first count i) _ (short-well w x y place u)
-    ∙ settled v (hand first count i) (formPlaces (formOf w)) x y (spot .position) (spot .left) _
-    ∙ write-anywhere v (spot .position) (spot .left) (formOf w) d first count i (shortSettings x y) i on (sourceOf (formOf w) false (shortSettings x y)))
+    ∙ settled v (hand first count i) (formPlaces (formOf w)) x y (spot .position) (spot .left) _)
     (k d refl refl))
 
 -- one that is refused has done nothing, and one for which no step is left is not refused for want of room
@@ -142,7 +140,8 @@ own-source kind detail s h = elim (decEq kind 0) [
 pub own-none : (v : View) (k : Context) (i p m kind detail : ℕ) (s : Settings) (d : Directive) (on : ℕ → Flow) → kind ≤ 1 → k .count ≤ i
     → writeFrom v p m (shortForm kind detail) d k s i on (sourceOf (shortForm kind detail) false s) ≡ refused 6 p m
 own-none v k i p m kind detail s d on h l =
-    ap (λ (x : Source). writeFrom v p m (shortForm kind detail) d k s i on x) (own-source kind detail s h) ∙ choose-no _ _ (le-ltb i (k .count) l)
+    ap (λ (x : Source). writeFrom v p m (shortForm kind detail) d k s i on x) (own-source kind detail s h)
+    ∙ from-own-none v p m d k (shortForm kind detail) s on i l
 
 -- what suits a form
 none-absent : (y : Setting) → NoneIn y → y ≡ Absent

@@ -7,10 +7,11 @@ use mathlib.Core.List.{List}
 use native.Mathlib.Omega.{arith}
 use lib.ListN.{length}
 use borrow.Author.Tests.{lt-ltb, le-ltb, eq-eqb, ne-eqb}
-use Rattle.rules.specs.Piece.{glyphOf}
+use Rattle.rules.specs.Act.{actFrom as useFrom}
+use Rattle.rules.specs.Piece.{glyphOf, textOf, kindOf}
 use Rattle.rules.specs.Rows.{formRow, formPlaces, inRow, inOrder, accepts}
-use Rattle.rules.specs.Table.{boolean}
-use Rattle.rules.specs.Working.{settled, unsettled, settleAll, WellSet, Source, own, back, glyphSource, sourceBy, sourceOf}
+use Rattle.rules.specs.Table.{Value, boolean, character}
+use Rattle.rules.specs.Working.{settled, unsettled, settleAll, WellSet, Source, own, back, given, glyphSource, sourceBy, sourceOf}
 use Rattle.rules.specs.declared.ArgumentPosition.{ArgumentPosition}
 use Rattle.rules.specs.declared.Code.the-variants.{Writes}
 use Rattle.rules.specs.declared.Directive.{Directive}
@@ -24,11 +25,11 @@ use Rattle.rules.specs.declared.Places.{Places}
 use Rattle.rules.specs.declared.Setting.{Setting}
 use Rattle.rules.specs.declared.Setting.the-variants.{Absent, Is}
 use Rattle.rules.specs.declared.Settings.{Settings}
-use Rattle.rules.proofs.FormLaws.{takes-number}
+use Rattle.rules.proofs.FormLaws.{takes-none, takes-number}
 use Rattle.rules.proofs.Tests.{both-true, not-both-ways}
 use Rattle.vet.specs.Plain.{isNext, noneNext}
 use Rattle.vet.specs.Turns.{kindIn, shownTurn, turnBy, turnOf}
-use Rattle.vet.specs.Use.{inHand, noEntries, useFrom}
+use Rattle.vet.specs.Use.{inHand, noEntries}
 use Rattle.vet.specs.Worst.{worst}
 use Rattle.vet.specs.declared.Turn.{Turn}
 use Rattle.vet.specs.declared.Turn.the-variants.{Goes, Stops}
@@ -97,11 +98,14 @@ module _ (kinds : List ℕ) (longest : ℕ) (f : Form) (d : Directive) (s : Sett
   abbrev From : Source → Turn
   From x = turnBy kinds longest (useFrom (length kinds) f d s next x)
 
+  given-goes : (x : Value) → accepts f (kindOf x) ≡ true → Goes next (length (textOf f (d .colon) (d .at) s x)) ≡ From (given x)
+  given-goes x h = rw h
+
   pub numbered-given : formRow f .origin ≡ NextOrNumber → {n size : ℕ} → s .first ≡ Is n → size ≡ length (glyphOf (d .colon) (d .at) n)
       → Goes next size ≡ From (glyphSource (s .first))
   numbered-given o {n} e z =
       ap (Goes next) (z ∙ ap (λ (t : List ℕ). length t) (sym (takes-number f o .text (d .colon) (d .at) s n)))
-      ∙ sym (ap (λ (x : Setting). From (glyphSource x)) e)
+      ∙ given-goes (character n) (takes-number f o .takes) ∙ sym (ap (λ (x : Setting). From (glyphSource x)) e)
 
   pub numbered-own : {r : Turn} → s .first ≡ Absent → r ≡ From own → r ≡ From (glyphSource (s .first))
   numbered-own e h = h ∙ sym (ap (λ (x : Setting). From (glyphSource x)) e)
@@ -126,7 +130,8 @@ module _ (kinds : List ℕ) (longest : ℕ) (f : Form) (d : Directive) (s : Sett
       → size ≡ worst longest f (d .colon) (d .at) s 0 → Goes next size ≡ From (sourceOf f (d .colon) s)
   by-nowhere o w h e =
       by-origin Nowhere o
-      (ap (Goes next) (e ∙ none-fills longest h f (d .colon) (d .at) s w 0 (omega arith) o (boolean false)))
+      (ap (Goes next) (e ∙ none-fills longest h f (d .colon) (d .at) s w 0 (omega arith) o (boolean false))
+      ∙ given-goes (boolean false) (takes-none f o .takes 0))
 
 -- a directive of a form, from its worked-out parameters
 module _ (kinds : List ℕ) (longest : ℕ) (f : Form) (d : Directive) (next : ℕ) (w : Writing f d) {o : SettledOut}
@@ -137,7 +142,7 @@ module _ (kinds : List ℕ) (longest : ℕ) (f : Form) (d : Directive) (next : �
   pub turn-refused : {code : ℕ} → o ≡ settledWrong code → Stops code ≡ turnOf kinds longest (Written d) next
   turn-refused {code} e =
       let is : unsettled code ≡ settleAll noEntries (inHand (length kinds) next) (formPlaces f) (d .parameters) next = rw e at (h .as-defined) in
-      sym (turn-unsettled kinds longest d f (w .code) next code (sym is))
+      sym (turn-unsettled kinds longest d f (w .code) (w .written) next code (sym is))
 
   module _ {s : Settings} {n : ArgumentPosition} (e : o ≡ settledIs s n) where
     pub settled-well : WellSet f s
@@ -154,7 +159,7 @@ module _ (kinds : List ℕ) (longest : ℕ) (f : Form) (d : Directive) (next : �
     turn-worked t =
         t
         ∙ ap (λ (i : ℕ). turnBy kinds longest (useFrom (length kinds) f d s i (sourceOf f (d .colon) s))) (sym same)
-        ∙ sym (turn-settled kinds longest d f (w .code) next (listed s) (n .0) (sym is))
+        ∙ sym (turn-settled kinds longest d f (w .code) (w .written) next (listed s) (n .0) (sym is))
 
 -- a plain directive is of the form of its code
 pub writing-of : (d : Directive) → PlainDirective d → (f : Form) → d .code ≡ Writes f → Writing f d
@@ -162,6 +167,7 @@ writing-of d w f e =
     let same : w .form ≡ f = cc (w .code) in
     record {
       code = e;
+      written = w .written;
       suits = rw same at (directive-suits d w);
       fixed = w .fixed;
       based = rw same at (w .based);

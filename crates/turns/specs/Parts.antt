@@ -3,7 +3,7 @@ use Prim.Native.Nat.{ℕ, _+_, _-_, _/_, _≤_}
 use mathlib.Core.Path.{_≡_}
 use mathlib.Core.Bool.{Bool, true, cond}
 use Rattle.rules.specs.Directive.{FormRight}
-use Rattle.rules.specs.Rows.{formPlaces, inRow, inOrder, eachSuits}
+use Rattle.rules.specs.Rows.{formPlaces, inRow, inOrder, eachSuits, wellWritten}
 use Rattle.rules.specs.Working.{settleAll}
 use Rattle.rules.specs.declared.Code.the-variants.{Writes}
 use Rattle.rules.specs.declared.Directive.{Directive}
@@ -21,6 +21,7 @@ use Rattle.working.specs.declared.settling.SettledOut.{SettledOut}
 -- a directive of a form, as it stands in an accepted plain text: its parameters suit its places, and none is a `v`
 pub record Writing (f : Form) (d : Directive) : Type 0 where
   pub code : d .code ≡ Writes f
+  pub written : wellWritten d ≡ true
   pub suits : eachSuits (inRow (formPlaces f)) (inOrder (d .parameters)) ≡ true
   pub fixed : noneNext (inOrder (d .parameters)) ≡ true
   pub based : FormRight f

@@ -28,7 +28,7 @@ ghost use Rattle.rules.specs.declared.Origin.the-variants.{NextOrNumber};
 ghost use Rattle.vet.specs.Plain.{noneNext};
 ghost use Rattle.vet.specs.Vet.{Asked};
 ghost use Rattle.vet.specs.Turns.{shownTurn, turnBy, turnOf};
-ghost use Rattle.vet.specs.Use.{useFrom};
+ghost use Rattle.rules.specs.Act.{actFrom as useFrom};
 ghost use Rattle.turns.specs.Parts.{Writing, SettledOn};
 
 // An argument is wanted, and none is left.

@@ -5,23 +5,24 @@ use mathlib.Core.Bool.{Bool, true, false, cond}
 use mathlib.Core.List.{List}
 use native.Mathlib.Omega.{arith}
 use lib.ListN.{length}
+use Rattle.rules.specs.Act.{Act, writes, shows, moves, refuses}
 use Rattle.rules.specs.Flow.{Flow, refused, put}
 use Rattle.rules.specs.Piece.{textOf, kindOf}
 use Rattle.rules.specs.Rows.{accepts}
-use Rattle.rules.specs.Run.{choose, Frame, run}
+use Rattle.rules.specs.Run.{choose, joined, Frame, run}
 use Rattle.rules.specs.Table.{Value, View}
 use Rattle.rules.specs.Text.{Sequence, acts}
 use Rattle.rules.specs.declared.Item.{Item}
 use Rattle.rules.proofs.RunLaws.{begin-yes, run-acts}
 use Rattle.vet.specs.Turns.{kindIn, turnBy, turnOf}
-use Rattle.vet.specs.Use.{Use, writes, shows, stops, inHand, useOf}
+use Rattle.vet.specs.Use.{inHand, useOf}
 use Rattle.vet.specs.Ways.{Way, onTurn, wayOf}
 use Rattle.vet.specs.Worst.{worst}
 use Rattle.vet.specs.declared.Turn.the-variants.{Goes, Stops}
 use Rattle.vet.proofs.Forms.{piece-bound}
 use Rattle.vet.proofs.Meetings.{Led, led-on}
 use Rattle.vet.proofs.Ordinary.{Ordinary}
-use Rattle.vet.proofs.PlainRun.{valueIn, flowBy, item-same}
+use Rattle.vet.proofs.PlainRun.{valueIn, item-same}
 use Rattle.vet.proofs.Reached.{Runs, Walks, reached-piece}
 use Rattle.vet.proofs.Uses.{Within, use-within}
 use Rattle.vet.proofs.Values.{Allowed}
@@ -56,10 +57,11 @@ module _ (kinds : List ℕ) (longest : ℕ) (v : View)
         (wayOf kinds longest rest after (sum + most)) (walk after (sum + most))
 
     -- what it does with the arguments
-    use-walks : (u : Use) → Within count next u → Gives (λ m on. flowBy v count p m u on) → (sum : ℕ)
+    use-walks : (u : Act) → Within count next u → Gives (λ m on. joined (valueIn v count) p m u on) → (sum : ℕ)
         → Goal sum (onTurn p (turnBy kinds longest u) sum (λ n s. wayOf kinds longest rest n s))
     use-walks (writes text after) w is sum = piece-walks text after (length text) sum (omega arith) is
-    use-walks (stops code) w is sum = tt
+    use-walks (moves after) w is sum = absurd w
+    use-walks (refuses code) w is sum = tt
     use-walks (shows f d s i after) w is sum =
         rw (sym (agree i (w .inside)))
         (by (accepts f (kindOf value)) is
@@ -80,7 +82,7 @@ module _ (kinds : List ℕ) (longest : ℕ) (v : View)
         by true is l = piece-walks text after most sum (l refl) is
         by false is l = tt
 
-    acts-gives : Ordinary x → Gives (λ m on. flowBy v count p m (useOf count x next) on)
+    acts-gives : Ordinary x → Gives (λ m on. joined (valueIn v count) p m (useOf count x next) on)
     acts-gives o ks left h =
         run-acts v (inHand count next) p rest x ks left ∙ begin-yes p left _ (λ z. omega arith)
         ∙ item-same v count p (left - 1) x next _ o

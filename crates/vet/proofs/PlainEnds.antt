@@ -4,19 +4,20 @@ use mathlib.Core.Path.{_≡_, refl, sym}
 use mathlib.Core.Bool.{Bool, true, false, cond}
 use mathlib.Core.List.{List, [], _∷_}
 use lib.ListN.{length}
+use Rattle.rules.specs.Act.{Act, writes, shows, moves, refuses}
 use Rattle.rules.specs.Table.{View}
 use Rattle.rules.specs.Text.{Token}
 use Rattle.rules.specs.Piece.{textOf, kindOf}
 use Rattle.rules.specs.Rows.{accepts}
 use Rattle.rules.specs.Flow.{Flow, refused, put, finishOf}
-use Rattle.rules.specs.Run.{choose}
+use Rattle.rules.specs.Run.{choose, joined}
 use Rattle.vet.specs.declared.Turn.the-variants.{Goes, Stops}
 use Rattle.vet.specs.declared.Vetted.{Vetted}
-use Rattle.vet.specs.Use.{Use, writes, shows, stops, useOf}
+use Rattle.vet.specs.Use.{useOf}
 use Rattle.vet.specs.Worst.{worst}
 use Rattle.vet.specs.Turns.{kindIn, turnBy, turnOf}
 use Rattle.vet.proofs.Ordinary.{AllOrdinary}
-use Rattle.vet.proofs.PlainRun.{valueIn, flowBy, flowFrom}
+use Rattle.vet.proofs.PlainRun.{valueIn, flowFrom}
 use Rattle.vet.proofs.PlainVet.{onTurn, vetFrom}
 use Rattle.vet.proofs.Uses.{Within, use-within}
 
@@ -30,13 +31,14 @@ module _ (kinds : List ℕ) (longest : ℕ) (v : View)
   abbrev count : ℕ
   count = length kinds
 
-  use-ended : (p m : ℕ) (u : Use) (next sum : ℕ) (on : ℕ → Flow) (rest : ℕ → ℕ → Vetted) → Within count next u
+  use-ended : (p m : ℕ) (u : Act) (next sum : ℕ) (on : ℕ → Flow) (rest : ℕ → ℕ → Vetted) → Within count next u
       → ((i n : ℕ) → Ended (on i) (rest i n))
-      → Ended (flowBy v count p m u on) (onTurn p (turnBy kinds longest u) sum rest)
+      → Ended (joined (valueIn v count) p m u on) (onTurn p (turnBy kinds longest u) sum rest)
   use-ended p m (writes text after) next sum on rest w h =
       let e = h after (sum + length text) in
       record { code = e .code; position = e .position }
-  use-ended p m (stops code) next sum on rest w h = record { code = refl; position = refl }
+  use-ended p m (moves after) next sum on rest w h = absurd w
+  use-ended p m (refuses code) next sum on rest w h = record { code = refl; position = refl }
   use-ended p m (shows f d s i after) next sum on rest w h =
       rw (sym (agree i (w .inside))) (pick (accepts f (kindOf (valueIn v count i))))
     where

@@ -4,12 +4,13 @@ use Prim.Native.Nat.{ℕ}
 use mathlib.Core.Bool.{cond}
 use mathlib.Core.List.{List}
 use lib.ListN.{length, getD}
+use Rattle.rules.specs.Act.{Act, writes, shows, moves, refuses}
 use Rattle.rules.specs.Rows.{accepts}
 use Rattle.rules.specs.declared.Directive.{Directive}
 use Rattle.rules.specs.declared.Form.{Form}
 use Rattle.rules.specs.declared.Item.{Item}
 use Rattle.rules.specs.declared.Settings.{Settings}
-use Rattle.vet.specs.Use.{Use, writes, shows, stops, useOf}
+use Rattle.vet.specs.Use.{useOf}
 use Rattle.vet.specs.Worst.{worst}
 use Rattle.vet.specs.declared.Turn.{Turn}
 use Rattle.vet.specs.declared.Turn.the-variants.{Goes, Stops}
@@ -24,10 +25,11 @@ abbrev pub shownTurn : ℕ → Form → Directive → Settings → ℕ → ℕ �
 shownTurn longest f d s kind next = cond (accepts f kind) (Goes next (worst longest f (d .colon) (d .at) s kind)) (Stops 7)
 
 module _ (kinds : List ℕ) (longest : ℕ) where
-  abbrev pub turnBy : Use → Turn
+  abbrev pub turnBy : Act → Turn
   turnBy (writes text next) = Goes next (length text)
   turnBy (shows f d s i next) = shownTurn longest f d s (kindIn kinds i) next
-  turnBy (stops code) = Stops code
+  turnBy (moves next) = Goes next 0
+  turnBy (refuses code) = Stops code
 
   unfoldable pub turnOf : Item → ℕ → Turn
   turnOf item next = turnBy (useOf (length kinds) item next)

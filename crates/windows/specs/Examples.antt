@@ -12,7 +12,8 @@ use Rattle.rules.specs.Text.{tokensFrom, tokensAt, directiveMet, verdictOf, tex
 use Rattle.rules.specs.Table.{poolOf, entryAt, rightFor, valueBy, valueAt, firstBad, tableVerdict, valuesFrom, viewOf}
 use Rattle.rules.specs.Piece.{escaped, bareOf, timesPadded, textOf}
 use Rattle.rules.specs.Working.{workOut, settle}
-use Rattle.rules.specs.Run.{itemActs, turn, walk, run}
+use Rattle.rules.specs.Act.{actOf}
+use Rattle.rules.specs.Run.{turn, walk, run}
 use Rattle.pieces.specs.Bytes.{owed}
 use Rattle.pieces.specs.Rest.{restOf}
 use Rattle.pieces.specs.declared.resuming.QuoteRest.{QuoteRest}
@@ -145,7 +146,7 @@ lines :
     -- inside a block
     ∷ case listed pair (replicate 4 3) 0 0 9 (3 ∷ 3 ∷ 2 ∷ []) (bytes "<ab><cd>")
     ∷ [])
-unfolding windowsOf remains givenText codeNamed step scan itemOf wellWritten tokensFrom tokensAt directiveMet verdictOf textVerdict levelsOf levelsAt poolOf entryAt rightFor valueBy valueAt firstBad tableVerdict valuesFrom viewOf escaped bareOf timesPadded textOf workOut settle itemActs turn walk run
+unfolding windowsOf remains givenText codeNamed step scan itemOf wellWritten tokensFrom tokensAt directiveMet verdictOf textVerdict levelsOf levelsAt poolOf entryAt rightFor valueBy valueAt firstBad tableVerdict valuesFrom viewOf escaped bareOf timesPadded textOf workOut settle actOf turn walk run
 lines = refl
 
 -- 2. States that no call gave, or that stand inside a line
@@ -250,5 +251,5 @@ inside-lines :
     -- at `a`, where no item starts: it is read from there
     ∷ sight listed pair (begun 4 65532 0 1 2 1 (blocks 1) noRest) 8 (atEnd 0 0 10 (bytes "a><cd>"))
     ∷ [])
-unfolding shownIn remains givenText codeNamed step scan itemOf wellWritten tokensFrom tokensAt levelsOf levelsAt poolOf entryAt rightFor valueBy valueAt firstBad tableVerdict valuesFrom viewOf escaped bareOf timesPadded textOf workOut settle itemActs turn walk run owed restOf framesOf allLie
+unfolding shownIn remains givenText codeNamed step scan itemOf wellWritten tokensFrom tokensAt levelsOf levelsAt poolOf entryAt rightFor valueBy valueAt firstBad tableVerdict valuesFrom viewOf escaped bareOf timesPadded textOf workOut settle actOf turn walk run owed restOf framesOf allLie
 inside-lines = refl

@@ -1,6 +1,5 @@
 -- A form acts as 01 has it. Assumes nothing.
-use Rattle.rules.specs.Working.{sourceOf}
-use Rattle.acting.proofs.ActLaws.{performed-as, performed-refused, acts-writes, settings-ill, write-anywhere}
+use Rattle.acting.proofs.ActLaws.{performed-as, performed-refused, acts-writes, settings-ill}
 use Rattle.working.proofs.Ranges.{form-in-range}
 use Rattle.working.proofs.Answers.{next-reaches, run-settled, run-refused}
 use Rattle.acting.proofs.Sources.{worked-in}
@@ -44,8 +43,7 @@ returns c =
     let well = sym (c .before .before .before .before .before .before .before .before .before .is-well-written .ensures) ∙ (c .before .before .before .before .before .before .before .before .if1 .taken) in
     performed-as _
     (λ on. acts-writes v (a .spot .position) (a .spot .left) (a .d) (handAt (a .hand) (a .next .0)) on (a .form) (c .before .before .before .before .before .before .before .before .before .before .before .before .pre .0)
-    ∙ run-settled (c .before .before .before .before .before .before .before .settle-directive .ensures) well (a .spot .position) (a .spot .left) _ (c .before .before .before .before .before .settled .given .1)
-    ∙ write-anywhere v (a .spot .position) (a .spot .left) (a .form) (a .d) (a .hand .first .0) (a .hand .count) (a .next .0) ((c .before .before .before .before .before .settled .given .0 .0)) ((c .before .before .before .before .before .settled .given .0 .1 .0 .0)) on (sourceOf (a .form) (a .d .colon) ((c .before .before .before .before .before .settled .given .0 .0))))
+    ∙ run-settled (c .before .before .before .before .before .before .before .settle-directive .ensures) well (a .spot .position) (a .spot .left) _ (c .before .before .before .before .before .settled .given .1))
     ((c .before .before .write-form .ensures .0) (a .d) refl refl)
 
 returns-2 : tie.Need-returns-2

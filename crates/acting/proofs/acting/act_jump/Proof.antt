@@ -7,6 +7,7 @@ use Rattle.acting.proofs.Sources.{numbered}
 use Rattle.acting.proofs.ActLaws.{performed-as, performed-refused, acts-jump, settings-ill}
 use Rattle.working.specs.Settling.{handAt}
 use Rattle.rules.specs.Table.{viewOf}
+use Rattle.rules.specs.Working.{argumentIn}
 use mathlib.Core.Path.{_∙_, sym}
 use borrow.Author.Needs.{needs}
 use Rattle.acting.proofs.acting.act_jump.Statement.{statement}
@@ -43,7 +44,7 @@ returns c =
     λ b l. performed-as _
     (λ on. acts-jump v (a .spot .position) (a .spot .left) (a .d) (handAt (a .hand) (a .next .0)) on (c .before .before .before .before .before .before .before .before .pre .0)
     ∙ run-settled (c .before .before .before .before .settle-directive .ensures) well (a .spot .position) (a .spot .left) _ (c .before .before .settled .given .1))
-    ((c .jump .ensures) v (a .hand .first .0) b l)
+    ((c .jump .ensures) (λ i. argumentIn v (handAt (a .hand) (a .next .0)) i) b l)
 
 returns-2 : tie.Need-returns-2
 returns-2 c =

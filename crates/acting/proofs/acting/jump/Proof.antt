@@ -1,8 +1,8 @@
 -- The position a jump goes to. Assumes nothing.
 use Rattle.acting.proofs.Sources.{or-else-small}
 use Rattle.acting.proofs.ActLaws.{performed-as, performed-refused, jump-at, jump-back, jump-before, jump-forth}
-use Rattle.acting.specs.Ran.{hand}
-use Rattle.rules.specs.Run.{jumpTo}
+use Rattle.rules.specs.Act.{Act, jumpTo}
+use Rattle.rules.specs.Run.{joined}
 use Prim.Native.Nat.{ℕ, _+_, _-_}
 use native.Mathlib.Omega.{arith}
 use mathlib.Core.Path.{_∙_, ap, sym}
@@ -19,10 +19,10 @@ jump-to-requires c κs = search needs
 returns : tie.Need-returns
 returns c =
     let a = (c .before .before .before .args) in
-    λ v first b l. performed-as _
-    (λ on. jump-at v (a .spot .position) (a .spot .left) (a .d) (hand first (a .count) 0) (a .settings) (a .i .0) on (c .before .before .if1 .taken)
-    ∙ ap (λ (k : ℕ). jumpTo v (a .spot .position) (a .spot .left) (hand first (a .count) 0) k on) (sym (c .before .number-or .ensures)))
-    ((c .jump-to .ensures) v first b l)
+    λ value b l. performed-as _
+    (λ on. ap (λ (u : Act). joined value (a .spot .position) (a .spot .left) u on) (jump-at (a .count) (a .d) (a .settings) (a .i .0) (c .before .before .if1 .taken)
+    ∙ ap (λ (k : ℕ). jumpTo (a .count) k) (sym (c .before .number-or .ensures))))
+    ((c .jump-to .ensures) value b l)
 
 number-or-requires-2 : tie.Need-number-or-requires-2
 number-or-requires-2 c κs = search needs
@@ -33,10 +33,10 @@ jump-to-requires-2 c κs = search needs
 returns-2 : tie.Need-returns-2
 returns-2 c =
     let a = (c .before .before .before .before .before .args) in
-    λ v first b l. performed-as _
-    (λ on. jump-back v (a .spot .position) (a .spot .left) (a .d) (hand first (a .count) 0) (a .settings) (a .i .0) on (c .before .before .before .before .if1 .left) (c .before .before .if2 .taken) (omega (arith, (c .before .if3 .taken), (c .before .before .before .number-or2 .ensures)))
-    ∙ ap (λ (k : ℕ). jumpTo v (a .spot .position) (a .spot .left) (hand first (a .count) 0) (a .i .0 - k) on) (sym (c .before .before .before .number-or2 .ensures)))
-    ((c .jump-to2 .ensures) v first b l)
+    λ value b l. performed-as _
+    (λ on. ap (λ (u : Act). joined value (a .spot .position) (a .spot .left) u on) (jump-back (a .count) (a .d) (a .settings) (a .i .0) (c .before .before .before .before .if1 .left) (c .before .before .if2 .taken) (omega (arith, (c .before .if3 .taken), (c .before .before .before .number-or2 .ensures)))
+    ∙ ap (λ (k : ℕ). jumpTo (a .count) (a .i .0 - k)) (sym (c .before .before .before .number-or2 .ensures))))
+    ((c .jump-to2 .ensures) value b l)
 
 refuse-requires : tie.Need-refuse-requires
 refuse-requires c κs = search needs
@@ -44,8 +44,8 @@ refuse-requires c κs = search needs
 returns-3 : tie.Need-returns-3
 returns-3 c =
     let a = (c .before .before .before .before .before .args) in
-    λ v first b l. performed-refused _ 6 (a .i .0) (c .refuse .ensures)
-    (λ on. jump-before v (a .spot .position) (a .spot .left) (a .d) (hand first (a .count) 0) (a .settings) (a .i .0) on (c .before .before .before .before .if1 .left) (c .before .before .if2 .taken) (omega (arith, (c .before .if3 .left), (c .before .before .before .number-or2 .ensures))))
+    λ value b l. performed-refused _ 6 (a .i .0) (c .refuse .ensures)
+    (λ on. ap (λ (u : Act). joined value (a .spot .position) (a .spot .left) u on) (jump-before (a .count) (a .d) (a .settings) (a .i .0) (c .before .before .before .before .if1 .left) (c .before .before .if2 .taken) (omega (arith, (c .before .if3 .left), (c .before .before .before .number-or2 .ensures)))))
     l ((c .before .before .before .before .before .pre .1 .0))
 
 add-jump-to : tie.Need-add-jump-to
@@ -57,10 +57,10 @@ jump-to-requires-3 c κs = search needs
 returns-4 : tie.Need-returns-4
 returns-4 c =
     let a = (c .before .before .before .before .args) in
-    λ v first b l. performed-as _
-    (λ on. jump-forth v (a .spot .position) (a .spot .left) (a .d) (hand first (a .count) 0) (a .settings) (a .i .0) on (c .before .before .before .if1 .left) (c .before .if2 .left)
-    ∙ ap (λ (k : ℕ). jumpTo v (a .spot .position) (a .spot .left) (hand first (a .count) 0) (a .i .0 + k) on) (sym (c .before .before .number-or2 .ensures)))
-    ((c .jump-to3 .ensures) v first b l)
+    λ value b l. performed-as _
+    (λ on. ap (λ (u : Act). joined value (a .spot .position) (a .spot .left) u on) (jump-forth (a .count) (a .d) (a .settings) (a .i .0) (c .before .before .before .if1 .left) (c .before .if2 .left)
+    ∙ ap (λ (k : ℕ). jumpTo (a .count) (a .i .0 + k)) (sym (c .before .before .number-or2 .ensures))))
+    ((c .jump-to3 .ensures) value b l)
 
 pub jump-spec : {M : Type 1} → statement M
 jump-spec =
