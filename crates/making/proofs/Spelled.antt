@@ -13,7 +13,7 @@ use mir.Syntax.{w64}
 use mir.Val.{SFits, ofZ}
 use Rattle.rules.specs.declared.Place.the-variants.{Number as NumberPlace}
 use Rattle.rules.specs.Number.{digitByte, digitsOf, magnitudeOf, signOf, padLeft}
-use Rattle.rules.specs.Piece.{orElse, nameOf, writtenOf, bareOf, paddingOf, objectOf, digitsIn, isOne, textOf}
+use Rattle.rules.specs.Piece.{orElse, nameOf, writtenOf, bareOf, paddingOf, around, digitsIn, isOne, textOf}
 use Rattle.rules.specs.Table.{Value, boolean, integer, character, string, list, meant}
 use Rattle.rules.specs.declared.Argument.{Argument}
 use Rattle.rules.specs.declared.Form.{Form}
@@ -98,14 +98,14 @@ pub left-is : {w p n size w′ p′ : ℕ} (text : List ℕ) → n ≡ w - size 
 unfolding padLeft
 left-is text en ew ep es = rw (append-nil text, en, ew, ep, es)
 
-module _ (quoted at : Bool) (s : Settings) (v : Value) {mw pi mp p n size : ℕ} (e₁ : mw ≡ orElse (s .first) 0)
+module _ (at : Bool) (s : Settings) (text : List ℕ) {mw pi mp p n size : ℕ} (e₁ : mw ≡ orElse (s .first) 0)
     (e₂ : pi ≡ orElse (s .second) 1) (e₃ : mp ≡ orElse (s .third) 0) (e₄ : p ≡ orElse (s .fourth) 32)
-    (es : size ≡ length (bareOf quoted v)) (en : n ≡ paddingOf mw pi mp size) where
-  pub object-left : at ≡ true → replicate n p ++ (bareOf quoted v ++ []) ≡ objectOf quoted at s v
-  object-left e = rw (append-nil (bareOf quoted v), en, e₁, e₂, e₃, e₄, es, e)
+    (es : size ≡ length text) (en : n ≡ paddingOf mw pi mp size) where
+  pub around-left : at ≡ true → replicate n p ++ (text ++ []) ≡ around at s text
+  around-left e = rw (append-nil text, en, e₁, e₂, e₃, e₄, es, e)
 
-  pub object-right : at ≡ false → bareOf quoted v ++ replicate n p ≡ objectOf quoted at s v
-  object-right e = rw (en, e₁, e₂, e₃, e₄, es, e)
+  pub around-right : at ≡ false → text ++ replicate n p ≡ around at s text
+  around-right e = rw (en, e₁, e₂, e₃, e₄, es, e)
 
 -- the text of an argument before padding
 module _ (quoted : Bool) (t : List ℕ) {a k : Argument} (e : a ≡ k) where

@@ -1,8 +1,8 @@
 // A piece from a directive, its worked-out parameters and its argument.
 use super::numerals::figure_body;
+use super::padding::around;
 use super::padding::byte_or;
 use super::padding::padded_piece;
-use super::padding::padding;
 use super::words::flag_body;
 use super::words::fold_body;
 use super::words::glyph_body;
@@ -82,20 +82,7 @@ fn make_object(
     requires { ⌜ Reachable (now table) argument ⌝ }
     ensures { λ r. ⌜ Gives (now (table .entry)) r (objectOf quoted at settings (meant (now (table .entry)) argument)) ⌝ }
 {
-    let first = settings.first;
-    let second = settings.second;
-    let third = settings.third;
-    let fourth = settings.fourth;
-    let body = bare_body(quoted, argument, table);
-    let minwidth = number_or(first, 0);
-    let padinc = number_or(second, 1);
-    let minpad = number_or(third, 0);
-    let pad = byte_or(fourth, b' ');
-    let count = padding(minwidth, padinc, minpad, body.size);
-    if at {
-        return padded_piece(body, count, 0, pad);
-    }
-    padded_piece(body, 0, count, pad)
+    around(at, settings, bare_body(quoted, argument, table))
 }
 
 // The text of ~d, ~x, ~o and ~b before padding.

@@ -44,6 +44,10 @@ onePlace y = record { count = 1; first = y; second = Empty; third = Empty; fourt
 abbrev pub fourPlaces : Place → Place → Place → Place → Places
 fourPlaces a b c d = record { count = 4; first = a; second = b; third = c; fourth = d; fifth = Empty }
 
+-- minwidth, padinc, minpad and padchar: padding round a text
+abbrev pub paddingPlaces : Places
+paddingPlaces = fourPlaces anyNumber countingNumber anyNumber CharacterPlace
+
 -- a directive that takes no argument by itself
 abbrev pub noArgument : Places → Modifiers → Plainness → Row
 noArgument ys ms p = record { places = ys; modifiers = ms; kinds = AnyKind; origin = Nowhere; plainness = p }
@@ -54,7 +58,7 @@ noArgument ys ms p = record { places = ys; modifiers = ms; kinds = AnyKind; orig
 -- "`:` first steps back one argument. Any kind." "`* ~ % _ | /`: n .. the others none." "Newline: none; : or @, not both."
 abbrev pub formRow : Form → Row
 formRow (Object q) = record {
-  places = fourPlaces anyNumber countingNumber anyNumber CharacterPlace;
+  places = paddingPlaces;
   modifiers = At;
   kinds = NoList;
   origin = NextArgument;
