@@ -12,7 +12,7 @@ use Rattle.rules.specs.declared.ArgumentPosition.{ArgumentPosition}
 use Rattle.rules.specs.declared.Directive.{Directive}
 use Rattle.rules.specs.declared.Settings.{Settings}
 use Rattle.rules.proofs.Rowed.{written-suits}
-use Rattle.vet.specs.Turns.{kindIn}
+use Rattle.vet.specs.Turns.{argument, kindIn}
 use Rattle.vet.specs.Use.{inHand, noEntries}
 use Rattle.vet.specs.Ways.{onOwn, numberedStart, unmodifiedPlaces, settledStart, startOf}
 use Rattle.vet.specs.declared.Turn.{Turn}
@@ -42,13 +42,13 @@ module _ (kinds : List ℕ) (next : ℕ) (go : Turn) where
     own-wrong n longest = rw (lt-ltb next (length kinds) h, ne-eqb (kindIn kinds next) wanted n)
 
 module _ (kinds : List ℕ) (d : Directive) (next : ℕ) where
-  pub start-colon : d .colon ≡ true → {r : Turn} → ((longest : ℕ) → r ≡ onOwn kinds longest next (Goes (next + 1) 0))
+  pub start-colon : d .colon ≡ true → {r : Turn} → ((longest : ℕ) → r ≡ onOwn kinds longest next (Goes (argument (next + 1)) 0))
       → (longest : ℕ) → r ≡ startOf kinds longest d next
   unfolding startOf
   start-colon c e longest = rw c (e longest)
 
   pub start-at : d .colon ≡ false → d .at ≡ true → {r : Turn}
-      → ((longest : ℕ) → r ≡ onOwn kinds longest next (cond (eqb (kindIn kinds next) 0) (Goes next 0) (Stops 11)))
+      → ((longest : ℕ) → r ≡ onOwn kinds longest next (cond (eqb (kindIn kinds next) 0) (Goes (argument next) 0) (Stops 11)))
       → (longest : ℕ) → r ≡ startOf kinds longest d next
   unfolding startOf
   start-at c a e longest = rw (c, a) (e longest)

@@ -28,7 +28,7 @@ use Rattle.rules.specs.declared.Settings.{Settings}
 use Rattle.rules.proofs.FormLaws.{takes-none, takes-number}
 use Rattle.rules.proofs.Tests.{both-true, not-both-ways}
 use Rattle.vet.specs.Plain.{isNext, noneNext}
-use Rattle.vet.specs.Turns.{kindIn, shownTurn, turnBy, turnOf}
+use Rattle.vet.specs.Turns.{argument, kindIn, shownTurn, turnBy, turnOf}
 use Rattle.vet.specs.Use.{inHand, noEntries}
 use Rattle.vet.specs.Worst.{worst}
 use Rattle.vet.specs.declared.Turn.{Turn}
@@ -72,7 +72,7 @@ settled-on {t} {count} {ys} {ps} {next} n s = record {
 -- a directive that shows an argument of a kind
 module _ (longest : ℕ) (f : Form) (d : Directive) (s : Settings) (kind after : ℕ) where
   pub shown-yes : accepts f kind ≡ true → {size : ℕ} → size ≡ worst longest f (d .colon) (d .at) s kind
-      → Goes after size ≡ shownTurn longest f d s kind after
+      → Goes (argument after) size ≡ shownTurn longest f d s kind after
   shown-yes a e = rw (a, e)
 
   pub shown-no : accepts f kind ≡ false → Stops 7 ≡ shownTurn longest f d s kind after
@@ -98,13 +98,13 @@ module _ (kinds : List ℕ) (longest : ℕ) (f : Form) (d : Directive) (s : Sett
   abbrev From : Source → Turn
   From x = turnBy kinds longest (useFrom (length kinds) f d s next x)
 
-  given-goes : (x : Value) → accepts f (kindOf x) ≡ true → Goes next (length (textOf f (d .colon) (d .at) s x)) ≡ From (given x)
+  given-goes : (x : Value) → accepts f (kindOf x) ≡ true → Goes (argument next) (length (textOf f (d .colon) (d .at) s x)) ≡ From (given x)
   given-goes x h = rw h
 
   pub numbered-given : formRow f .origin ≡ NextOrNumber → {n size : ℕ} → s .first ≡ Is n → size ≡ length (glyphOf (d .colon) (d .at) n)
-      → Goes next size ≡ From (glyphSource (s .first))
+      → Goes (argument next) size ≡ From (glyphSource (s .first))
   numbered-given o {n} e z =
-      ap (Goes next) (z ∙ ap (λ (t : List ℕ). length t) (sym (takes-number f o .text (d .colon) (d .at) s n)))
+      ap (Goes (argument next)) (z ∙ ap (λ (t : List ℕ). length t) (sym (takes-number f o .text (d .colon) (d .at) s n)))
       ∙ given-goes (character n) (takes-number f o .takes) ∙ sym (ap (λ (x : Setting). From (glyphSource x)) e)
 
   pub numbered-own : {r : Turn} → s .first ≡ Absent → r ≡ From own → r ≡ From (glyphSource (s .first))
@@ -127,10 +127,10 @@ module _ (kinds : List ℕ) (longest : ℕ) (f : Form) (d : Directive) (s : Sett
   by-number o h = by-origin NextOrNumber o h
 
   pub by-nowhere : formRow f .origin ≡ Nowhere → WellSet f s → longest ≤ 4096 → {size : ℕ}
-      → size ≡ worst longest f (d .colon) (d .at) s 0 → Goes next size ≡ From (sourceOf f (d .colon) s)
+      → size ≡ worst longest f (d .colon) (d .at) s 0 → Goes (argument next) size ≡ From (sourceOf f (d .colon) s)
   by-nowhere o w h e =
       by-origin Nowhere o
-      (ap (Goes next) (e ∙ none-fills longest h f (d .colon) (d .at) s w 0 (omega arith) o (boolean false))
+      (ap (Goes (argument next)) (e ∙ none-fills longest h f (d .colon) (d .at) s w 0 (omega arith) o (boolean false))
       ∙ given-goes (boolean false) (takes-none f o .takes 0))
 
 -- a directive of a form, from its worked-out parameters

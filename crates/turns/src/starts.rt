@@ -3,6 +3,7 @@ use crate::turns::NONE_LEFT;
 use crate::turns::WRONG_KIND;
 use crate::turns::settle_fixed;
 use fitting::rows::row_in;
+use rules::ArgumentPosition;
 use rules::Directive;
 use rules::Setting;
 use vet::Turn;
@@ -13,7 +14,7 @@ ghost use Prim.Native.Nat.{ℕ, _+_, _≤_};
 ghost use lib.Dec.{eqb};
 ghost use lib.ListN.{length};
 ghost use Rattle.rules.specs.declared.Setting.the-variants.{Absent};
-ghost use Rattle.vet.specs.Turns.{kindIn};
+ghost use Rattle.vet.specs.Turns.{argument, kindIn};
 ghost use Rattle.vet.specs.Ways.{onOwn, numberedStart, startOf};
 ghost use Rattle.vet.specs.declared.Turn.the-variants.{Goes, Stops};
 ghost use Rattle.vet.specs.Plain.{Opener};
@@ -27,28 +28,30 @@ const BOOLEAN: u8 = 0;
 const INTEGER: u8 = 1;
 
 // ~:[
-fn start_two(kinds: &[u8], next: usize) -> Turn
-    requires { ⌜ next ≤ length (now kinds) ⌝ }
-    ensures { λ r. ⌜ ((longest : ℕ) → r ≡ onOwn (now (kinds .entry)) longest next (Goes (next + 1) 0)) ⌝ }
+fn start_two(kinds: &[u8], next: ArgumentPosition) -> Turn
+    requires { ⌜ next .0 ≤ length (now kinds) ⌝ }
+    ensures { λ r. ⌜ ((longest : ℕ) → r ≡ onOwn (now (kinds .entry)) longest (next .0) (Goes (argument (next .0 + 1)) 0)) ⌝ }
 {
-    if kinds.len() <= next {
+    let i = next.0;
+    if kinds.len() <= i {
         return Turn::Stops(NONE_LEFT);
     }
     Turn::Goes {
-        next: next + 1,
+        next: ArgumentPosition(i + 1),
         size: 0,
     }
 }
 
 // ~@[
-fn start_one(kinds: &[u8], next: usize) -> Turn
-    requires { ⌜ next ≤ length (now kinds) ⌝ }
-    ensures { λ r. ⌜ ((longest : ℕ) → r ≡ onOwn (now (kinds .entry)) longest next (cond (eqb (kindIn (now (kinds .entry)) next) 0) (Goes next 0) (Stops 11))) ⌝ }
+fn start_one(kinds: &[u8], next: ArgumentPosition) -> Turn
+    requires { ⌜ next .0 ≤ length (now kinds) ⌝ }
+    ensures { λ r. ⌜ ((longest : ℕ) → r ≡ onOwn (now (kinds .entry)) longest (next .0) (cond (eqb (kindIn (now (kinds .entry)) (next .0)) 0) (Goes next 0) (Stops 11))) ⌝ }
 {
-    if kinds.len() <= next {
+    let i = next.0;
+    if kinds.len() <= i {
         return Turn::Stops(NONE_LEFT);
     }
-    let kind = kinds[next];
+    let kind = kinds[i];
     if kind == BOOLEAN {
         return Turn::Goes { next, size: 0 };
     }
@@ -56,17 +59,18 @@ fn start_one(kinds: &[u8], next: usize) -> Turn
 }
 
 // ~[ by an integer argument
-fn start_numbered(kinds: &[u8], next: usize) -> Turn
-    requires { ⌜ next ≤ length (now kinds) ⌝ }
-    ensures { λ r. ⌜ ((longest : ℕ) → r ≡ numberedStart (now (kinds .entry)) longest next Absent) ⌝ }
+fn start_numbered(kinds: &[u8], next: ArgumentPosition) -> Turn
+    requires { ⌜ next .0 ≤ length (now kinds) ⌝ }
+    ensures { λ r. ⌜ ((longest : ℕ) → r ≡ numberedStart (now (kinds .entry)) longest (next .0) Absent) ⌝ }
 {
-    if kinds.len() <= next {
+    let i = next.0;
+    if kinds.len() <= i {
         return Turn::Stops(NONE_LEFT);
     }
-    let kind = kinds[next];
+    let kind = kinds[i];
     if kind == INTEGER {
         return Turn::Goes {
-            next: next + 1,
+            next: ArgumentPosition(i + 1),
             size: 0,
         };
     }
@@ -74,9 +78,9 @@ fn start_numbered(kinds: &[u8], next: usize) -> Turn
 }
 
 // ~[ by its setting, which picks a clause without an argument.
-fn start_settled(kinds: &[u8], next: usize, setting: Setting) -> Turn
-    requires { ⌜ next ≤ length (now kinds) ⌝ }
-    ensures { λ r. ⌜ ((longest : ℕ) → r ≡ numberedStart (now (kinds .entry)) longest next setting) ⌝ }
+fn start_settled(kinds: &[u8], next: ArgumentPosition, setting: Setting) -> Turn
+    requires { ⌜ next .0 ≤ length (now kinds) ⌝ }
+    ensures { λ r. ⌜ ((longest : ℕ) → r ≡ numberedStart (now (kinds .entry)) longest (next .0) setting) ⌝ }
 {
     match setting {
         Setting::Is(_) => Turn::Goes { next, size: 0 },
@@ -85,11 +89,11 @@ fn start_settled(kinds: &[u8], next: usize, setting: Setting) -> Turn
 }
 
 // ~[ without a modifier
-fn start_plain(d: Directive, kinds: &[u8], next: usize) -> Turn
+fn start_plain(d: Directive, kinds: &[u8], next: ArgumentPosition) -> Turn
     requires { ⌜ Opener d ⌝ }
     requires { ⌜ (d .colon ≡ false) × (d .at ≡ false) ⌝ }
-    requires { ⌜ next ≤ length (now kinds) ⌝ }
-    ensures { λ r. ⌜ ((longest : ℕ) → r ≡ startOf (now (kinds .entry)) longest d next) ⌝ }
+    requires { ⌜ next .0 ≤ length (now kinds) ⌝ }
+    ensures { λ r. ⌜ ((longest : ℕ) → r ≡ startOf (now (kinds .entry)) longest d (next .0)) ⌝ }
 {
     let row = row_in(d);
     let places = row.places;
@@ -104,10 +108,10 @@ fn start_plain(d: Directive, kinds: &[u8], next: usize) -> Turn
     }
 }
 
-pub fn start_of(d: Directive, kinds: &[u8], next: usize) -> Turn
+pub fn start_of(d: Directive, kinds: &[u8], next: ArgumentPosition) -> Turn
     requires { ⌜ Opener d ⌝ }
-    requires { ⌜ next ≤ length (now kinds) ⌝ }
-    ensures { λ r. ⌜ ((longest : ℕ) → r ≡ startOf (now (kinds .entry)) longest d next) ⌝ }
+    requires { ⌜ next .0 ≤ length (now kinds) ⌝ }
+    ensures { λ r. ⌜ ((longest : ℕ) → r ≡ startOf (now (kinds .entry)) longest d (next .0)) ⌝ }
 {
     if d.colon {
         return start_two(kinds, next);

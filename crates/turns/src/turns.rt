@@ -38,16 +38,21 @@ pub const NONE_LEFT: u32 = 6;
 pub const WRONG_KIND: u32 = 7;
 
 // The parameters of a directive without `v`: there is no table, and none is read.
-pub fn settle_fixed(places: Places, ps: Parameters, kinds: &[u8], next: usize) -> SettledOut
+pub fn settle_fixed(
+    places: Places,
+    ps: Parameters,
+    kinds: &[u8],
+    next: ArgumentPosition,
+) -> SettledOut
     requires { ⌜ noneNext (inOrder ps) ≡ true ⌝ }
-    requires { ⌜ next ≤ length (now kinds) ⌝ }
-    ensures { λ r. ⌜ SettledOn (length (now (kinds .entry))) places ps next r ⌝ }
+    requires { ⌜ next .0 ≤ length (now kinds) ⌝ }
+    ensures { λ r. ⌜ SettledOn (length (now (kinds .entry))) places ps (next .0) r ⌝ }
 {
     let hand = Hand {
         first: EntryIndex(0),
         count: kinds.len(),
     };
-    settle(&kinds[0..0], hand, places, ps, ArgumentPosition(next))
+    settle(&kinds[0..0], hand, places, ps, next)
 }
 
 // Argument i, after which `after` is the next.
@@ -56,12 +61,12 @@ fn turn_shown(
     d: Directive,
     settings: Settings,
     kind: u8,
-    after: usize,
+    after: ArgumentPosition,
     longest: usize,
 ) -> Turn
     requires { ⌜ WellSet form settings ⌝ }
     requires { ⌜ (kind ≤ 4) × (longest ≤ 4096) ⌝ }
-    ensures { λ r. ⌜ r ≡ shownTurn longest form d settings kind after ⌝ }
+    ensures { λ r. ⌜ r ≡ shownTurn longest form d settings kind (after .0) ⌝ }
 {
     if takes_kind(form, wide(kind)) {
         return Turn::Goes {
@@ -78,18 +83,26 @@ fn turn_own(
     d: Directive,
     settings: Settings,
     kinds: &[u8],
-    next: usize,
+    next: ArgumentPosition,
     longest: usize,
 ) -> Turn
     requires { ⌜ WellSet form settings ⌝ }
     requires { ⌜ Asked (now kinds) longest ⌝ }
-    requires { ⌜ next ≤ length (now kinds) ⌝ }
-    ensures { λ r. ⌜ r ≡ turnBy (now (kinds .entry)) longest (useFrom (length (now (kinds .entry))) form d settings next own) ⌝ }
+    requires { ⌜ next .0 ≤ length (now kinds) ⌝ }
+    ensures { λ r. ⌜ r ≡ turnBy (now (kinds .entry)) longest (useFrom (length (now (kinds .entry))) form d settings (next .0) own) ⌝ }
 {
-    if kinds.len() <= next {
+    let i = next.0;
+    if kinds.len() <= i {
         return Turn::Stops(NONE_LEFT);
     }
-    turn_shown(form, d, settings, kinds[next], next + 1, longest)
+    turn_shown(
+        form,
+        d,
+        settings,
+        kinds[i],
+        ArgumentPosition(i + 1),
+        longest,
+    )
 }
 
 // The argument before the next one.
@@ -98,18 +111,19 @@ fn turn_back(
     d: Directive,
     settings: Settings,
     kinds: &[u8],
-    next: usize,
+    next: ArgumentPosition,
     longest: usize,
 ) -> Turn
     requires { ⌜ WellSet form settings ⌝ }
     requires { ⌜ Asked (now kinds) longest ⌝ }
-    requires { ⌜ next ≤ length (now kinds) ⌝ }
-    ensures { λ r. ⌜ r ≡ turnBy (now (kinds .entry)) longest (useFrom (length (now (kinds .entry))) form d settings next back) ⌝ }
+    requires { ⌜ next .0 ≤ length (now kinds) ⌝ }
+    ensures { λ r. ⌜ r ≡ turnBy (now (kinds .entry)) longest (useFrom (length (now (kinds .entry))) form d settings (next .0) back) ⌝ }
 {
-    if next == 0 {
+    let i = next.0;
+    if i == 0 {
         return Turn::Stops(NONE_LEFT);
     }
-    turn_shown(form, d, settings, kinds[next - 1], next, longest)
+    turn_shown(form, d, settings, kinds[i - 1], next, longest)
 }
 
 // The next argument, unless the first parameter is the number of a character.
@@ -118,14 +132,14 @@ fn turn_numbered(
     d: Directive,
     settings: Settings,
     kinds: &[u8],
-    next: usize,
+    next: ArgumentPosition,
     longest: usize,
 ) -> Turn
     requires { ⌜ formRow form .origin ≡ NextOrNumber ⌝ }
     requires { ⌜ WellSet form settings ⌝ }
     requires { ⌜ Asked (now kinds) longest ⌝ }
-    requires { ⌜ next ≤ length (now kinds) ⌝ }
-    ensures { λ r. ⌜ r ≡ turnBy (now (kinds .entry)) longest (useFrom (length (now (kinds .entry))) form d settings next (glyphSource (settings .first))) ⌝ }
+    requires { ⌜ next .0 ≤ length (now kinds) ⌝ }
+    ensures { λ r. ⌜ r ≡ turnBy (now (kinds .entry)) longest (useFrom (length (now (kinds .entry))) form d settings (next .0) (glyphSource (settings .first))) ⌝ }
 {
     let first = settings.first;
     match first {
@@ -143,13 +157,13 @@ fn turn_settled(
     d: Directive,
     settings: Settings,
     kinds: &[u8],
-    next: usize,
+    next: ArgumentPosition,
     longest: usize,
 ) -> Turn
     requires { ⌜ WellSet form settings ⌝ }
     requires { ⌜ Asked (now kinds) longest ⌝ }
-    requires { ⌜ next ≤ length (now kinds) ⌝ }
-    ensures { λ r. ⌜ r ≡ turnBy (now (kinds .entry)) longest (useFrom (length (now (kinds .entry))) form d settings next (sourceOf form (d .colon) settings)) ⌝ }
+    requires { ⌜ next .0 ≤ length (now kinds) ⌝ }
+    ensures { λ r. ⌜ r ≡ turnBy (now (kinds .entry)) longest (useFrom (length (now (kinds .entry))) form d settings (next .0) (sourceOf form (d .colon) settings)) ⌝ }
 {
     let row = form_row(form);
     let origin = row.origin;
@@ -170,11 +184,17 @@ fn turn_settled(
 }
 
 // The turn of a directive of a form.
-pub fn turn_form(d: Directive, form: Form, kinds: &[u8], next: usize, longest: usize) -> Turn
+pub fn turn_form(
+    d: Directive,
+    form: Form,
+    kinds: &[u8],
+    next: ArgumentPosition,
+    longest: usize,
+) -> Turn
     requires { ⌜ Writing form d ⌝ }
     requires { ⌜ Asked (now kinds) longest ⌝ }
-    requires { ⌜ next ≤ length (now kinds) ⌝ }
-    ensures { λ r. ⌜ r ≡ turnOf (now (kinds .entry)) longest (Written d) next ⌝ }
+    requires { ⌜ next .0 ≤ length (now kinds) ⌝ }
+    ensures { λ r. ⌜ r ≡ turnOf (now (kinds .entry)) longest (Written d) (next .0) ⌝ }
 {
     let row = form_row(form);
     let places = row.places;

@@ -33,7 +33,7 @@ module _ (t : List ℕ) where
   -- an item stops with 6 to 8
   by-item : (p : ℕ) (x : Turn) → Low x → (sum : ℕ) (on : ℕ → ℕ → Way) → ((n s : ℕ) → Blocked (on n s))
       → Blocked (onTurn p x sum on)
-  by-item p (Goes n s) l sum on h = h n (sum + s)
+  by-item p (Goes n s) l sum on h = h (n .0) (sum + s)
   by-item p (Stops code) l sum on h = λ e. absurd (omega arith)
 
   by-way : (w : Way) (on : ℕ → ℕ → Ways) → Blocked w → ((n s : ℕ) → AllBlocked (on n s)) → AllBlocked (onWay w on)
@@ -44,7 +44,7 @@ module _ (t : List ℕ) where
   module _ (p : ℕ) (here : OpensAt t p) (on : ℕ → ℕ → Way) (h : (n s : ℕ) → Blocked (on n s)) where
     by-ends : (e : Ends) → Blocked (onEnds p e on)
     by-ends Nowhere = λ _. here
-    by-ends (Equal n s) = h n s
+    by-ends (Equal n s) = h (n .0) s
     by-ends Unequal = λ _. here
 
     by-ways : (closing : Ends → Ends) (w : Ways) → AllBlocked w → Blocked (onWays p closing w on)
@@ -53,7 +53,7 @@ module _ (t : List ℕ) where
 
   by-start : (p : ℕ) → OpensAt t p → (x : Turn) (sum : ℕ) (on : ℕ → ℕ → Way) → ((n s : ℕ) → Blocked (on n s))
       → Blocked (onTurn p x sum on)
-  by-start p here (Goes n s) sum on h = h n (sum + s)
+  by-start p here (Goes n s) sum on h = h (n .0) (sum + s)
   by-start p here (Stops code) sum on h = λ _. here
 
   module _ (kinds : List ℕ) (longest : ℕ) where

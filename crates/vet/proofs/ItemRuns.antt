@@ -14,7 +14,7 @@ use Rattle.rules.specs.Table.{Value, View}
 use Rattle.rules.specs.Text.{Sequence, acts}
 use Rattle.rules.specs.declared.Item.{Item}
 use Rattle.rules.proofs.RunLaws.{begin-yes, run-acts}
-use Rattle.vet.specs.Turns.{kindIn, turnBy, turnOf}
+use Rattle.vet.specs.Turns.{argument, kindIn, turnBy, turnOf}
 use Rattle.vet.specs.Use.{inHand, useOf}
 use Rattle.vet.specs.Ways.{Way, onTurn, wayOf}
 use Rattle.vet.specs.Worst.{worst}
@@ -78,7 +78,7 @@ module _ (kinds : List ℕ) (longest : ℕ) (v : View)
 
         by : (b : Bool) → Gives (λ m on. choose b (λ _. put p m text (on after)) (λ _. refused 7 p m))
             → (b ≡ true → length text ≤ most)
-            → Goal sum (onTurn p (cond b (Goes after most) (Stops 7)) sum (λ n s. wayOf kinds longest rest n s))
+            → Goal sum (onTurn p (cond b (Goes (argument after) most) (Stops 7)) sum (λ n s. wayOf kinds longest rest n s))
         by true is l = piece-walks text after most sum (l refl) is
         by false is l = tt
 

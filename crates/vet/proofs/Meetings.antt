@@ -28,7 +28,7 @@ Led P (fails code p) = Unit {0}
 -- a fact of the argument at which all ways so far end, and of the bytes of the longest
 abbrev pub Met : Fact → Ends → Type 0
 Met P Nowhere = (n s : ℕ) → P n s
-Met P (Equal n s) = P n s
+Met P (Equal n s) = P (n .0) s
 Met P Unequal = Unit {0}
 
 abbrev pub AllMet : Fact → Ways → Type 0
@@ -47,7 +47,7 @@ module _ (P Q : Fact) (on : (n s : ℕ) → P n s → Q n s) where
 
   met-on : (e : Ends) → Met P e → Met Q e
   met-on Nowhere h = λ n s. on n s (h n s)
-  met-on (Equal n s) h = on n s h
+  met-on (Equal n s) h = on (n .0) s h
   met-on Unequal h = tt
 
   all-on : (w : Ways) → AllMet P w → AllMet Q w
@@ -60,10 +60,10 @@ meeting-met : (P Q : Fact) → Grows P → Grows Q → (e : Ends) (n s : ℕ) �
 unfolding meeting
 meeting-met P Q p q Nowhere n s h k = (h n s, k)
 meeting-met P Q p q (Equal a b) n s h k =
-    by-test (Met (λ a b. P a b × Q a b)) (eqb a n) _ _
+    by-test (Met (λ a b. P a b × Q a b)) (eqb (a .0) n) _ _
     (λ t. (
-      p a b (larger b s) (larger-left b s) h,
-      q a s (larger b s) (larger-right b s) (subst⁻¹ (λ (i : ℕ). Q i s) (eqb-true a n t) k),
+      p (a .0) b (larger b s) (larger-left b s) h,
+      q (a .0) s (larger b s) (larger-right b s) (subst⁻¹ (λ (i : ℕ). Q i s) (eqb-true (a .0) n t) k),
     ))
     (λ _. tt)
 meeting-met P Q p q Unequal n s h k = tt

@@ -21,7 +21,7 @@ use Rattle.rules.specs.declared.Directive.{Directive}
 use Rattle.rules.specs.declared.Setting.{Setting}
 use Rattle.rules.specs.declared.Setting.the-variants.{Absent, Is}
 use Rattle.rules.proofs.Rowed.{written-suits, none-settled}
-use Rattle.vet.specs.Turns.{kindIn}
+use Rattle.vet.specs.Turns.{argument, kindIn}
 use Rattle.vet.specs.Use.{inHand}
 use Rattle.vet.specs.Ways.{hasFallback, onOwn, numberedStart, unmodifiedPlaces, settledStart, startOf}
 use Rattle.vet.specs.declared.Turn.{Turn}
@@ -76,9 +76,9 @@ module _ (kinds : List ℕ) (longest : ℕ) (v : View)
       rw (o .written, o .code, e, none-settled v here (d .parameters) next s)
 
   -- `~:[`
-  two-picks : d .colon ≡ true → Picks (onOwn kinds longest next (Goes (next + 1) 0))
+  two-picks : d .colon ≡ true → Picks (onOwn kinds longest next (Goes (argument (next + 1)) 0))
   two-picks e =
-      own-picks next (Goes (next + 1) 0)
+      own-picks next (Goes (argument (next + 1)) 0)
       (λ t a. rw (modified (rw e), e, t) (by (isFalse (valueIn v count next)) a))
     where
       by : (f : Bool) → AnyRun (next + 1) → P (on (clauseAt cs (cond f 0 1) end) (next + 1))
@@ -87,10 +87,10 @@ module _ (kinds : List ℕ) (longest : ℕ) (v : View)
 
   -- `~@[`
   one-picks : d .colon ≡ false → d .at ≡ true
-      → Picks (onOwn kinds longest next (cond (eqb (kindIn kinds next) 0) (Goes next 0) (Stops 11)))
+      → Picks (onOwn kinds longest next (cond (eqb (kindIn kinds next) 0) (Goes (argument next) 0) (Stops 11)))
   one-picks e f =
       own-picks next _
-      (λ t. by-test Picks (eqb (kindIn kinds next) 0) (Goes next 0) (Stops 11)
+      (λ t. by-test Picks (eqb (kindIn kinds next) 0) (Goes (argument next) 0) (Stops 11)
       (λ _ a. rw (modified (rw (e, f)), e, f, t) (by (isFalse (valueIn v count next)) a)) (λ _. tt))
     where
       by : (y : Bool) → AnyRun next → P (on (cond y end (clauseAt cs 0 end)) (cond y (next + 1) next))
@@ -110,7 +110,7 @@ module _ (kinds : List ℕ) (longest : ℕ) (v : View)
         → Begun (λ start. AnyRun start → P (pickNumbered v p m cs here i on s)) (numberedStart kinds longest i s)
     by-number i Absent =
         by-test Goal (ltb i count) _ (Stops 6)
-        (λ t. by-test Goal (eqb (kindIn kinds i) 1) (Goes (i + 1) 0) (Stops 7)
+        (λ t. by-test Goal (eqb (kindIn kinds i) 1) (Goes (argument (i + 1)) 0) (Stops 7)
         (λ k a. rw t (by-value i (valueIn v count i) (agree i (ltb-true i count t) ∙ eqb-true (kindIn kinds i) 1 k) a))
         (λ _. tt))
         (λ _. tt)

@@ -15,7 +15,7 @@ use Rattle.vet.specs.declared.Turn.the-variants.{Goes, Stops}
 use Rattle.vet.specs.declared.Vetted.{Vetted}
 use Rattle.vet.specs.Use.{useOf}
 use Rattle.vet.specs.Worst.{worst}
-use Rattle.vet.specs.Turns.{kindIn, turnBy, turnOf}
+use Rattle.vet.specs.Turns.{argument, kindIn, turnBy, turnOf}
 use Rattle.vet.proofs.Ordinary.{AllOrdinary}
 use Rattle.vet.proofs.PlainRun.{valueIn, flowFrom}
 use Rattle.vet.proofs.PlainVet.{onTurn, vetFrom}
@@ -50,7 +50,7 @@ module _ (kinds : List ℕ) (longest : ℕ) (v : View)
 
       pick : (b : Bool)
           → Ended (choose b (λ _. put p m text (on after)) (λ _. refused 7 p m))
-          (onTurn p (cond b (Goes after most) (Stops 7)) sum rest)
+          (onTurn p (cond b (Goes (argument after) most) (Stops 7)) sum rest)
       pick true = let e = h after (sum + most) in record { code = e .code; position = e .position }
       pick false = record { code = refl; position = refl }
 

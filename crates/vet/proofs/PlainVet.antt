@@ -11,7 +11,7 @@ use Rattle.vet.specs.Turns.{turnOf}
 use Rattle.vet.specs.Vet.{askedVerdict, declined, counted, unlessDeclined}
 
 abbrev pub onTurn : ℕ → Turn → ℕ → (ℕ → ℕ → Vetted) → Vetted
-onTurn p (Goes next size) sum on = on next (sum + size)
+onTurn p (Goes next size) sum on = on (next .0) (sum + size)
 onTurn p (Stops code) sum on = declined code p
 
 -- the items in order, from an argument on, where the pieces before them are `sum` bytes at the most

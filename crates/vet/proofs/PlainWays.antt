@@ -56,7 +56,7 @@ module _ (kinds : List ℕ) (longest : ℕ) where
   same-turn : (p : ℕ) (t : Turn) (sum : ℕ) (on : ℕ → ℕ → Way) (rest : ℕ → ℕ → Vetted)
       → ((n s : ℕ) → answerBy (on n s) ≡ rest n s)
       → answerBy (onTurn p t sum on) ≡ onItem p t sum rest
-  same-turn p (Goes next size) sum on rest h = h next (sum + size)
+  same-turn p (Goes next size) sum on rest h = h (next .0) (sum + size)
   same-turn p (Stops code) sum on rest h = refl
 
   items-way : (xs : List Token) → AllOrdinary xs → (next sum : ℕ)
@@ -72,7 +72,7 @@ module _ (kinds : List ℕ) (longest : ℕ) where
   -- and its codes are those of items
   low-code : (p : ℕ) (t : Turn) → Low t → (sum : ℕ) (rest : ℕ → ℕ → Vetted) → ((n s : ℕ) → rest n s .code ≤ 8)
       → onItem p t sum rest .code ≤ 8
-  low-code p (Goes n s) l sum rest h = h n (sum + s)
+  low-code p (Goes n s) l sum rest h = h (n .0) (sum + s)
   low-code p (Stops code) l sum rest h = l
 
   items-code : (xs : List Token) → AllOrdinary xs → (next sum : ℕ) → vetFrom kinds longest xs next sum .code ≤ 8

@@ -15,7 +15,7 @@ use Rattle.rules.specs.declared.Setting.{Setting}
 use Rattle.rules.specs.declared.Setting.the-variants.{Absent, Is}
 use Rattle.rules.proofs.Rowed.{written-suits}
 use Rattle.vet.specs.Plain.{Opener}
-use Rattle.vet.specs.Turns.{kindIn}
+use Rattle.vet.specs.Turns.{argument, kindIn}
 use Rattle.vet.specs.Use.{inHand, noEntries}
 use Rattle.vet.specs.Ways.{onOwn, numberedStart, unmodifiedPlaces, settledStart, startOf}
 use Rattle.vet.specs.declared.Turn.{Turn}
@@ -33,11 +33,11 @@ reason-range (inr e) = (omega arith, omega arith)
 
 -- a fact of where the clauses start, if they do
 abbrev pub Begun : (ℕ → Type 0) → Turn → Type 0
-Begun P (Goes start size) = P start
+Begun P (Goes start size) = P (start .0)
 Begun P (Stops code) = Unit {0}
 
 abbrev pub Started : ℕ → Turn → Type 0
-Started count (Goes start size) = (start ≤ count) × (size ≡ 0)
+Started count (Goes start size) = (start .0 ≤ count) × (size ≡ 0)
 Started count (Stops code) = Reason code
 
 module _ (kinds : List ℕ) (longest : ℕ) where
@@ -74,10 +74,10 @@ module _ (kinds : List ℕ) (longest : ℕ) where
   pub start-turned : (d : Directive) (next : ℕ) → next ≤ count → Opener d → Started count (startOf kinds longest d next)
   unfolding startOf
   start-turned d next h o =
-      by-test (Started count) (d .colon) _ _ (λ _. own-started next (Goes (next + 1) 0) (λ b. (b, refl)))
+      by-test (Started count) (d .colon) _ _ (λ _. own-started next (Goes (argument (next + 1)) 0) (λ b. (b, refl)))
       (λ e. by-test (Started count) (d .at) _ _
       (λ _. own-started next _
-      (λ _. by-test (Started count) (eqb (kindIn kinds next) 0) (Goes next 0) (Stops 11) (λ _. (h, refl)) (λ _. inr refl)))
+      (λ _. by-test (Started count) (eqb (kindIn kinds next) 0) (Goes (argument next) 0) (Stops 11) (λ _. (h, refl)) (λ _. inr refl)))
       (λ f. settled-started next (workedNumber d next) h (number-settles d next o (rw (e, f)))))
 
   -- "`~@[` is accepted only for a boolean"

@@ -95,9 +95,9 @@ module _ (kinds : List ℕ) (longest : ℕ) (v : View) where
     unfolding weight
     by-ends start z begins Nowhere h = tt
     by-ends start z begins (Equal a c) h =
-        led-on (Runs v count (suc k) (weight rest) rest a (sum + z + c))
-        (Runs v count (suc k) (suc (most + weight rest)) (chooses p d cs rest) next sum) (met-runs start z a c begins h)
-        (wayOf kinds longest rest a (sum + z + c)) (walk a (sum + z + c))
+        led-on (Runs v count (suc k) (weight rest) rest (a .0) (sum + z + c))
+        (Runs v count (suc k) (suc (most + weight rest)) (chooses p d cs rest) next sum) (met-runs start z (a .0) c begins h)
+        (wayOf kinds longest rest (a .0) (sum + z + c)) (walk (a .0) (sum + z + c))
     by-ends start z begins Unequal h = tt
 
     by-ways : (start z : ℕ) → Begins start → (w : Ways) → AllMet (Together start) w
@@ -115,9 +115,10 @@ module _ (kinds : List ℕ) (longest : ℕ) (v : View) where
         (λ start sum₂. onWays p (withNone d (hasFallback cs) start) (waysOf kinds longest cs start Nowhere)
         (λ n size. wayOf kinds longest rest n (sum₂ + size))))
     by-start walks (Goes start z) begins =
-        by-ways start z begins (waysOf kinds longest cs start Nowhere)
-        (clauses-met kinds longest start (λ x. Runs v count k most x start 0) (λ x. runs-grow v count k most x start 0) cs
-        (clauses-walk k most start cs (omega arith) walks))
+        let i = start .0 in
+        by-ways i z begins (waysOf kinds longest cs i Nowhere)
+        (clauses-met kinds longest i (λ x. Runs v count k most x i 0) (λ x. runs-grow v count k most x i 0) cs
+        (clauses-walk k most i cs (omega arith) walks))
     by-start walks (Stops code) begins = tt
 
 module _ (kinds : List ℕ) (longest : ℕ) (v : View)

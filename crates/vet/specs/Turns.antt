@@ -6,6 +6,7 @@ use mathlib.Core.List.{List}
 use lib.ListN.{length, getD}
 use Rattle.rules.specs.Act.{Act, writes, shows, moves, refuses}
 use Rattle.rules.specs.Rows.{accepts}
+use Rattle.rules.specs.declared.ArgumentPosition.{ArgumentPosition}
 use Rattle.rules.specs.declared.Directive.{Directive}
 use Rattle.rules.specs.declared.Form.{Form}
 use Rattle.rules.specs.declared.Item.{Item}
@@ -15,20 +16,24 @@ use Rattle.vet.specs.Worst.{worst}
 use Rattle.vet.specs.declared.Turn.{Turn}
 use Rattle.vet.specs.declared.Turn.the-variants.{Goes, Stops}
 
--- the kind of argument i
+-- the number i of an argument
+abbrev pub argument : ℕ → ArgumentPosition
+argument i = record { 0 = i }
+
+-- its kind
 abbrev pub kindIn : List ℕ → ℕ → ℕ
 kindIn kinds i = getD kinds i 0
 
 -- a directive that shows an argument of a kind, after which `next` is the next one: "kind 7", and else the piece's
 -- greatest length
 abbrev pub shownTurn : ℕ → Form → Directive → Settings → ℕ → ℕ → Turn
-shownTurn longest f d s kind next = cond (accepts f kind) (Goes next (worst longest f (d .colon) (d .at) s kind)) (Stops 7)
+shownTurn longest f d s kind next = cond (accepts f kind) (Goes (argument next) (worst longest f (d .colon) (d .at) s kind)) (Stops 7)
 
 module _ (kinds : List ℕ) (longest : ℕ) where
   abbrev pub turnBy : Act → Turn
-  turnBy (writes text next) = Goes next (length text)
+  turnBy (writes text next) = Goes (argument next) (length text)
   turnBy (shows f d s i next) = shownTurn longest f d s (kindIn kinds i) next
-  turnBy (moves next) = Goes next 0
+  turnBy (moves next) = Goes (argument next) 0
   turnBy (refuses code) = Stops code
 
   unfoldable pub turnOf : Item → ℕ → Turn

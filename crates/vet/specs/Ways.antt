@@ -14,7 +14,7 @@ use Rattle.rules.specs.declared.Directive.{Directive}
 use Rattle.rules.specs.declared.Places.{Places}
 use Rattle.rules.specs.declared.Setting.{Setting}
 use Rattle.rules.specs.declared.Setting.the-variants.{Absent, Is}
-use Rattle.vet.specs.Turns.{kindIn, turnOf}
+use Rattle.vet.specs.Turns.{argument, kindIn, turnOf}
 use Rattle.vet.specs.Use.{inHand, noEntries}
 use Rattle.vet.specs.Worst.{larger}
 use Rattle.vet.specs.declared.Ends.{Ends}
@@ -36,8 +36,8 @@ pub data Ways : Type 0 where
 -- "all ways through each block end at the same argument" and "a conditional counts as its longest clause": one way more,
 -- which ends at `next` with `size` bytes
 unfoldable pub meeting : Ends → ℕ → ℕ → Ends
-meeting Nowhere next size = Equal next size
-meeting (Equal n s) next size = cond (eqb n next) (Equal n (larger s size)) Unequal
+meeting Nowhere next size = Equal (argument next) size
+meeting (Equal n s) next size = cond (eqb (n .0) next) (Equal n (larger s size)) Unequal
 meeting Unequal next size = Unequal
 
 -- a `~:;` stands before the last clause
@@ -55,7 +55,7 @@ withNone d fallback start e =
 
 -- "pieces add": an item at p after `sum` bytes goes on, or fails there
 abbrev pub onTurn : ℕ → Turn → ℕ → (ℕ → ℕ → Way) → Way
-onTurn p (Goes next size) sum on = on next (sum + size)
+onTurn p (Goes next size) sum on = on (next .0) (sum + size)
 onTurn p (Stops code) sum on = fails code p
 
 -- "6 to 8 for a clause that fails, the first met", or the 11 of a block in it
@@ -66,7 +66,7 @@ onWay (fails code p) on = failing code p
 -- "code 11 at the block's tilde .. for unequal ends". Every block has a clause, so that its ways end somewhere
 abbrev pub onEnds : ℕ → Ends → (ℕ → ℕ → Way) → Way
 onEnds p Nowhere on = fails 11 p
-onEnds p (Equal next size) on = on next size
+onEnds p (Equal next size) on = on (next .0) size
 onEnds p Unequal on = fails 11 p
 
 -- "(ends at the closer)": when every clause was met, and the way by which none runs with them
@@ -88,8 +88,8 @@ module _ (kinds : List ℕ) (longest : ℕ) where
 
   -- `~[`: "n, or an integer argument, picks a clause"
   abbrev pub numberedStart : ℕ → Setting → Turn
-  numberedStart next Absent = onOwn next (cond (eqb (kindIn kinds next) 1) (Goes (next + 1) 0) (Stops 7))
-  numberedStart next (Is n) = Goes next 0
+  numberedStart next Absent = onOwn next (cond (eqb (kindIn kinds next) 1) (Goes (argument (next + 1)) 0) (Stops 7))
+  numberedStart next (Is n) = Goes (argument next) 0
 
   abbrev pub settledStart : Settled → Turn
   settledStart (settled ss next) = numberedStart next (settingsOf ss .first)
@@ -99,8 +99,8 @@ module _ (kinds : List ℕ) (longest : ℕ) where
   -- boolean", "otherwise code 11 at the block's tilde for it", and leaves it to its clause
   unfoldable pub startOf : Directive → ℕ → Turn
   startOf d next =
-      cond (d .colon) (onOwn next (Goes (next + 1) 0))
-      (cond (d .at) (onOwn next (cond (eqb (kindIn kinds next) 0) (Goes next 0) (Stops 11)))
+      cond (d .colon) (onOwn next (Goes (argument (next + 1)) 0))
+      (cond (d .at) (onOwn next (cond (eqb (kindIn kinds next) 0) (Goes (argument next) 0) (Stops 11)))
       (settledStart (settleAll noEntries (inHand count next) unmodifiedPlaces (d .parameters) next)))
 
   unfoldable mutual

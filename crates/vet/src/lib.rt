@@ -1,4 +1,5 @@
 // The types of a vet. What they mean, and what a vet promises, is in specs/.
+use rules::ArgumentPosition;
 
 // The answer of a vet: 01's code and position, and the byte count, which is 0 with every code but 0.
 pub struct Vetted {
@@ -10,7 +11,7 @@ pub struct Vetted {
 // What an item of a plain format does to a vet: it goes on at the argument `next` with a piece of at most `size` bytes,
 // or stops with a code.
 pub enum Turn {
-    Goes { next: usize, size: usize },
+    Goes { next: ArgumentPosition, size: usize },
     Stops(u32),
 }
 
@@ -18,6 +19,6 @@ pub enum Turn {
 // or at more than one argument.
 pub enum Ends {
     Nowhere,
-    Equal { next: usize, size: usize },
+    Equal { next: ArgumentPosition, size: usize },
     Unequal,
 }

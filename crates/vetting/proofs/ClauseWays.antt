@@ -8,6 +8,7 @@ use native.Mathlib.Omega.{arith}
 use lib.ListN.{length}
 use Rattle.rules.specs.Directive.{itemAt}
 use Rattle.rules.specs.Text.{chooses, Clauses, clause, Level, innermost, outer, before, asClauses, levelsAt}
+use Rattle.rules.specs.declared.ArgumentPosition.{ArgumentPosition}
 use Rattle.rules.specs.declared.Bracket.the-variants.{Conditional}
 use Rattle.rules.specs.declared.Code.the-variants.{Opens}
 use Rattle.rules.specs.declared.Directive.{Directive}
@@ -36,10 +37,10 @@ clausesAt t p = asClauses false (levelsAt t p)
 
 -- what is said of a sequence that was counted, in other words
 pub walked-by : (t kinds : List ℕ) (longest start first : ℕ) (r : Counted) → SequenceIs t kinds longest start first r
-    → {next size : ℕ} {end same : ClauseEnd} → r ≡ LeadsAll next size end → end ≡ same
-    → Walked t kinds longest start first next size same
+    → {next : ArgumentPosition} {size : ℕ} {end same : ClauseEnd} → r ≡ LeadsAll next size end → end ≡ same
+    → Walked t kinds longest start first (next .0) size same
 walked-by t kinds longest start first r s {next} {size} e f =
-    subst (Walked t kinds longest start first next size) f (subst (SequenceIs t kinds longest start first) e s)
+    subst (Walked t kinds longest start first (next .0) size) f (subst (SequenceIs t kinds longest start first) e s)
 
 -- The clauses before z are counted, with these ends; the one at z stands after a `~:;` or not
 pub record Gathering (t kinds : List ℕ) (longest : ℕ) (d : Directive) (start z : ℕ) (colon : Bool) (e : Ends) : Type 0 where
@@ -169,25 +170,25 @@ module _ (t kinds : List ℕ) (longest p next : ℕ) (d : Directive) (e : itemAt
       → (sum : ℕ) → wayAt t kinds longest p next sum ≡ fails code p
   block-stops code is = block-way (Stops code) is
 
-  module _ (h : next ≤ length kinds) (start size : ℕ) (is : startOf kinds longest d next ≡ Goes start size) where
+  module _ (h : next ≤ length kinds) (start : ArgumentPosition) (size : ℕ) (is : startOf kinds longest d next ≡ Goes start size) where
     begun : Started (length kinds) (Goes start size)
     begun = subst (Started (length kinds)) is (start-turned kinds longest d next h o)
 
-    pub start-inside : start ≤ length kinds
+    pub start-inside : start .0 ≤ length kinds
     start-inside = begun .0
 
     -- an opener writes nothing
-    on : (sum : ℕ) → wayAt t kinds longest p next sum ≡ clausesWay t kinds longest d start p (follows sum)
+    on : (sum : ℕ) → wayAt t kinds longest p next sum ≡ clausesWay t kinds longest d (start .0) p (follows sum)
     on sum =
         let z : sum + size ≡ sum = omega (arith, begun .1) in
-        block-way (Goes start size) is sum ∙ ap (λ (n : ℕ). clausesWay t kinds longest d start p (follows n)) z
+        block-way (Goes start size) is sum ∙ ap (λ (n : ℕ). clausesWay t kinds longest d (start .0) p (follows n)) z
 
     pub block-fails : {code position : ℕ}
-        → ((p : ℕ) (on : ℕ → ℕ → Way) → clausesWay t kinds longest d start p on ≡ fails code position)
+        → ((p : ℕ) (on : ℕ → ℕ → Way) → clausesWay t kinds longest d (start .0) p on ≡ fails code position)
         → (sum : ℕ) → wayAt t kinds longest p next sum ≡ fails code position
     block-fails c sum = on sum ∙ c p (follows sum)
 
-    pub block-closes : (f : Ends) (q : ℕ) → Through t kinds longest d start f q → (r : Element) → r ≡ closedBy f p q
+    pub block-closes : (f : Ends) (q : ℕ) → Through t kinds longest d (start .0) f q → (r : Element) → r ≡ closedBy f p q
         → ElementIs t kinds longest p next r
     unfolding follows
     block-closes f q c r same = subst (ElementIs t kinds longest p next) (sym same) (by f (c .way p) (c .within))
@@ -195,13 +196,13 @@ module _ (t kinds : List ℕ) (longest p next : ℕ) (d : Directive) (e : itemAt
         place : Within (p + 1) (length t) (d .next)
         place = next-inside t p d e
 
-        by : (f : Ends) → ((on : ℕ → ℕ → Way) → clausesWay t kinds longest d start p on ≡ onEnds p f on)
+        by : (f : Ends) → ((on : ℕ → ℕ → Way) → clausesWay t kinds longest d (start .0) p on ≡ onEnds p f on)
             → EndsIn (length kinds) (mostPiece * (q - d .next)) f → ElementIs t kinds longest p next (closedBy f p q)
         by Nowhere w i = λ sum. on sum ∙ w (follows sum)
         by (Equal n s) w i = record {
           way = λ sum.
               on sum ∙ w (follows sum)
-              ∙ ap (λ (ys : List Level). wayOf kinds longest (innermost ys .rest) n (sum + s)) (sym (c .behind .is));
+              ∙ ap (λ (ys : List Level). wayOf kinds longest (innermost ys .rest) (n .0) (sum + s)) (sym (c .behind .is));
           more =
               ap (λ (ys : List Level). innermost ys .more) opens
               ∙ ap (λ (ys : List Level). innermost ys .more) (sym (c .behind .is));

@@ -20,7 +20,7 @@ use Rattle.rules.proofs.TextLaws.{Within, next-inside, levels-end, levels-liter
 use Rattle.checking.specs.declared.ends.ClauseEnd.the-variants.{Last, Another}
 use Rattle.checking.proofs.EndLaws.{Split, Finished, clause-start, clause-splits, clause-finishes, clause-stops}
 use Rattle.vet.specs.Vet.{Asked}
-use Rattle.vet.specs.Turns.{turnOf}
+use Rattle.vet.specs.Turns.{argument, turnOf}
 use Rattle.vet.specs.Ways.{onTurn, wayOf}
 use Rattle.vet.specs.declared.Turn.{Turn}
 use Rattle.vet.specs.declared.Turn.the-variants.{Goes, Stops}
@@ -58,9 +58,9 @@ module _ (t kinds : List ℕ) (longest p next : ℕ) where
     acts-is (Stops code) e b l k = acts-way (Stops code) e
 
   module _ (k : VettableAt t p) (a : Asked kinds longest) (h : next ≤ length kinds) where
-    pub literal-is : (b : ℕ) → itemAt t p ≡ Literal b → ElementIs t kinds longest p next (Leads next 1 (p + 1))
+    pub literal-is : (b : ℕ) → itemAt t p ≡ Literal b → ElementIs t kinds longest p next (Leads (argument next) 1 (p + 1))
     literal-is b e =
-        acts-is (Literal b) (p + 1) (levels-literal t p b e) (Goes next 1) (turn-literal kinds longest b next)
+        acts-is (Literal b) (p + 1) (levels-literal t p b e) (Goes (argument next) 1) (turn-literal kinds longest b next)
         (h, omega arith) (omega arith) (literal-vettable k b e)
 
     module _ (d : Directive) (e : itemAt t p ≡ Written d) where

@@ -6,6 +6,7 @@ use mathlib.Core.List.{List, [], _∷_}
 use borrow.Author.Tests.{eq-eqb, ne-eqb}
 use denote.Enum.Declared.{tagOf}
 use types.Run.{OneOf, miss}
+use Rattle.rules.specs.declared.ArgumentPosition.{ArgumentPosition}
 use Rattle.rules.specs.declared.Directive.{Directive}
 use Rattle.vet.proofs.Ends as ends-declared
 use Rattle.vet.proofs.Sizes.{EndsSized, meeting-sized}
@@ -17,14 +18,14 @@ use Rattle.vetting.specs.Counting.{closedBy, EndsIn}
 use Rattle.vetting.specs.declared.counting.Element.the-variants.{Fails}
 
 -- one way more, at the same argument or at another
-module _ (e : Ends) (next size n s : ℕ) (is : e ≡ Equal n s) where
-  pub meet-same : n ≡ next → (most : ℕ) → most ≡ larger s size → Equal n most ≡ meeting e next size
+module _ (e : Ends) (next size : ℕ) (n : ArgumentPosition) (s : ℕ) (is : e ≡ Equal n s) where
+  pub meet-same : n .0 ≡ next → (most : ℕ) → most ≡ larger s size → Equal n most ≡ meeting e next size
   unfolding meeting
-  meet-same h most k = rw (is, meeting, eq-eqb n next h, k)
+  meet-same h most k = rw (is, meeting, eq-eqb (n .0) next h, k)
 
-  pub meet-other : (n ≡ next → ⊥) → Unequal ≡ meeting e next size
+  pub meet-other : (n .0 ≡ next → ⊥) → Unequal ≡ meeting e next size
   unfolding meeting
-  meet-other h = rw (is, meeting, ne-eqb n next h)
+  meet-other h = rw (is, meeting, ne-eqb (n .0) next h)
 
 -- the way by which none runs, of `~@[` and of `~[`
 module _ (d : Directive) (fallback : Bool) (start : ℕ) (e : Ends) where

@@ -4,6 +4,7 @@ use mathlib.Core.Path.{_≡_, refl, sym, ap, subst, _∙_}
 use mathlib.Core.List.{List}
 use native.Mathlib.Omega.{arith}
 use lib.ListN.{length}
+use Rattle.rules.specs.declared.ArgumentPosition.{ArgumentPosition}
 use Rattle.rules.specs.Text.{Sequence, innermost, outer, levelsAt}
 use Rattle.checking.specs.Ends.{ClauseAt, EndsClause}
 use Rattle.checking.specs.declared.ends.ClauseEnd.{ClauseEnd}
@@ -84,5 +85,5 @@ module _ (t kinds : List ℕ) (longest : ℕ) (r : Counted) (s : SequenceIs t ki
   pub answer-fails : {code position : ℕ} → r ≡ Fails code position → declined code position ≡ runAnswer t kinds longest
   answer-fails e = sym (ap answerBy (subst (SequenceIs t kinds longest 0 0) e s))
 
-  pub answer-leads : {next size : ℕ} {end : ClauseEnd} → r ≡ Leads next size end → counted size ≡ runAnswer t kinds longest
+  pub answer-leads : {next : ArgumentPosition} {size : ℕ} {end : ClauseEnd} → r ≡ Leads next size end → counted size ≡ runAnswer t kinds longest
   answer-leads e = sym (ap answerBy (subst (SequenceIs t kinds longest 0 0) e s .way))

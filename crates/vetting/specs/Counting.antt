@@ -46,7 +46,7 @@ closedBy Unequal p place = elementFails 11 p
 -- what the ways through a block come to: an argument that there is, and no more bytes than that
 abbrev pub EndsIn : ℕ → ℕ → Ends → Type 0
 EndsIn count most Nowhere = Unit {0}
-EndsIn count most (Equal n s) = (n ≤ count) × (s ≤ most)
+EndsIn count most (Equal n s) = (n .0 ≤ count) × (s ≤ most)
 EndsIn count most Unequal = Unit {0}
 
 -- where a clause stops, and where the text goes on after its end
@@ -86,7 +86,7 @@ module _ (t kinds : List ℕ) (longest : ℕ) where
     pub reaches : Reaches p q after size
 
   abbrev pub ElementIs : ℕ → ℕ → Element → Type 0
-  ElementIs p next (elementLeads after size q) = Onward p next after size q
+  ElementIs p next (elementLeads after size q) = Onward p next (after .0) size q
   ElementIs p next (elementFails code position) = (sum : ℕ) → wayAt p next sum ≡ fails code position
   ElementIs p next (elementEnds e) = AtEnd t p e
 
@@ -100,7 +100,7 @@ module _ (t kinds : List ℕ) (longest : ℕ) where
     pub vettable : VettableAt t (afterOf e)
 
   abbrev pub SequenceIs : ℕ → ℕ → Counted → Type 0
-  SequenceIs start first (Leads next size e) = Walked start first next size e
+  SequenceIs start first (Leads next size e) = Walked start first (next .0) size e
   SequenceIs start first (Fails code position) = wayAt start first 0 ≡ fails code position
 
   -- the clauses of the conditional d, whose inside is at its next place, from the argument `start`: where their ways end,

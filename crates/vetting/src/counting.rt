@@ -4,6 +4,7 @@ use crate::ends::meet;
 use crate::ends::with_none;
 use checking::ends::ClauseEnd;
 use reader::directive::item_at;
+use rules::ArgumentPosition;
 use rules::Code;
 use rules::Directive;
 use rules::Item;
@@ -28,7 +29,7 @@ ghost use Rattle.vetting.specs.Counting.{VettableAt, elementBy, closedBy
 // it fails; or the sequence ends here.
 pub enum Element {
     Leads {
-        next: usize,
+        next: ArgumentPosition,
         size: usize,
         place: usize,
     },
@@ -42,7 +43,7 @@ pub enum Element {
 // A whole sequence: it leads to the argument `next` with at most `size` bytes, and so it ends; or it fails.
 pub enum Counted {
     Leads {
-        next: usize,
+        next: ArgumentPosition,
         size: usize,
         end: ClauseEnd,
     },
@@ -82,11 +83,17 @@ fn close_block(ends: Ends, p: usize, place: usize) -> Element
 }
 
 // The clauses of the conditional d, each from the argument `start`.
-fn count_clauses(format: &[u8], kinds: &[u8], longest: usize, d: Directive, start: usize) -> Clauses
+fn count_clauses(
+    format: &[u8],
+    kinds: &[u8],
+    longest: usize,
+    d: Directive,
+    start: ArgumentPosition,
+) -> Clauses
     requires { ⌜ Asked (now kinds) longest ⌝ }
     requires { ⌜ VettableAt (now format) (d .next) ⌝ }
-    requires { ⌜ start ≤ length (now kinds) ⌝ }
-    ensures { λ r. ⌜ ClausesAre (now (format .entry)) (now (kinds .entry)) longest d start r ⌝ }
+    requires { ⌜ start .0 ≤ length (now kinds) ⌝ }
+    ensures { λ r. ⌜ ClausesAre (now (format .entry)) (now (kinds .entry)) longest d (start .0) r ⌝ }
 {
     let mut z = d.next;
     let mut fallback = false;
@@ -125,14 +132,14 @@ fn count_block(
     longest: usize,
     p: usize,
     d: Directive,
-    next: usize,
+    next: ArgumentPosition,
 ) -> Element
     requires { ⌜ Asked (now kinds) longest ⌝ }
     requires { ⌜ VettableAt (now format) p ⌝ }
     requires { ⌜ itemAt (now format) p ≡ Written d ⌝ }
     requires { ⌜ Opener d ⌝ }
-    requires { ⌜ next ≤ length (now kinds) ⌝ }
-    ensures { λ r. ⌜ ElementIs (now (format .entry)) (now (kinds .entry)) longest p next r ⌝ }
+    requires { ⌜ next .0 ≤ length (now kinds) ⌝ }
+    ensures { λ r. ⌜ ElementIs (now (format .entry)) (now (kinds .entry)) longest p (next .0) r ⌝ }
 {
     let turn = start_of(d, kinds, next);
     match turn {
@@ -152,11 +159,17 @@ fn count_block(
 
 // The item at p, where `next` is the next argument. The last arms are closers and the end of the text: a text that is
 // accepted and vettable has nothing else there.
-fn count_element(format: &[u8], kinds: &[u8], longest: usize, p: usize, next: usize) -> Element
+fn count_element(
+    format: &[u8],
+    kinds: &[u8],
+    longest: usize,
+    p: usize,
+    next: ArgumentPosition,
+) -> Element
     requires { ⌜ Asked (now kinds) longest ⌝ }
     requires { ⌜ VettableAt (now format) p ⌝ }
-    requires { ⌜ next ≤ length (now kinds) ⌝ }
-    ensures { λ r. ⌜ ElementIs (now (format .entry)) (now (kinds .entry)) longest p next r ⌝ }
+    requires { ⌜ next .0 ≤ length (now kinds) ⌝ }
+    ensures { λ r. ⌜ ElementIs (now (format .entry)) (now (kinds .entry)) longest p (next .0) r ⌝ }
 {
     let item = item_at(format, p);
     match item {
@@ -195,12 +208,12 @@ fn count_sequence(
     kinds: &[u8],
     longest: usize,
     start: usize,
-    first: usize,
+    first: ArgumentPosition,
 ) -> Counted
     requires { ⌜ Asked (now kinds) longest ⌝ }
     requires { ⌜ VettableAt (now format) start ⌝ }
-    requires { ⌜ first ≤ length (now kinds) ⌝ }
-    ensures { λ r. ⌜ SequenceIs (now (format .entry)) (now (kinds .entry)) longest start first r ⌝ }
+    requires { ⌜ first .0 ≤ length (now kinds) ⌝ }
+    ensures { λ r. ⌜ SequenceIs (now (format .entry)) (now (kinds .entry)) longest start (first .0) r ⌝ }
 {
     let mut p = start;
     let mut next = first;
@@ -236,7 +249,7 @@ pub fn count_format(format: &[u8], kinds: &[u8], longest: usize) -> Vetted
     requires { ⌜ vettableVerdict (now format) ≡ Accepted ⌝ }
     ensures { λ r. ⌜ r ≡ runAnswer (now (format .entry)) (now (kinds .entry)) longest ⌝ }
 {
-    let counted = count_sequence(format, kinds, longest, 0, 0);
+    let counted = count_sequence(format, kinds, longest, 0, ArgumentPosition(0));
     match counted {
         Counted::Fails { code, position } => Vetted {
             code,

@@ -1,4 +1,5 @@
 // Where the ways through a conditional end.
+use rules::ArgumentPosition;
 use rules::Directive;
 use turns::lengths::larger;
 use vet::Ends;
@@ -7,13 +8,13 @@ ghost use Prim.Native.Nat.{_≤_};
 ghost use Rattle.vet.specs.Ways.{meeting, withNone};
 
 // One way more, which ends at the argument `next` with `size` bytes.
-pub fn meet(ends: Ends, next: usize, size: usize) -> Ends
-    ensures { λ r. ⌜ r ≡ meeting ends next size ⌝ }
+pub fn meet(ends: Ends, next: ArgumentPosition, size: usize) -> Ends
+    ensures { λ r. ⌜ r ≡ meeting ends (next .0) size ⌝ }
 {
     match ends {
         Ends::Nowhere => Ends::Equal { next, size },
         Ends::Equal { next: n, size: s } => {
-            if n == next {
+            if n.0 == next.0 {
                 return Ends::Equal {
                     next: n,
                     size: larger(s, size),
@@ -26,15 +27,15 @@ pub fn meet(ends: Ends, next: usize, size: usize) -> Ends
 }
 
 // The way by which the block d runs none of its clauses, the last of which stands after a ~:; with true.
-pub fn with_none(d: Directive, fallback: bool, start: usize, ends: Ends) -> Ends
-    requires { ⌜ start ≤ 1024 ⌝ }
-    ensures { λ r. ⌜ r ≡ withNone d fallback start ends ⌝ }
+pub fn with_none(d: Directive, fallback: bool, start: ArgumentPosition, ends: Ends) -> Ends
+    requires { ⌜ start .0 ≤ 1024 ⌝ }
+    ensures { λ r. ⌜ r ≡ withNone d fallback (start .0) ends ⌝ }
 {
     if d.colon {
         return ends;
     }
     if d.at {
-        return meet(ends, start + 1, 0);
+        return meet(ends, ArgumentPosition(start.0 + 1), 0);
     }
     if fallback {
         return ends;

@@ -1,6 +1,7 @@
 -- `start_numbered` meets its contract: an integer is taken. Assumes nothing.
 use Prim.Native.Nat.{_+_}
 use Rattle.turns.proofs.StartBy.{own-none, own-right, own-wrong}
+use Rattle.vet.specs.Turns.{argument}
 use Rattle.vet.specs.declared.Turn.the-variants.{Goes, Stops}
 use borrow.Author.Needs.{needs}
 use Rattle.turns.proofs.starts.start_numbered.Statement.{statement}
@@ -8,22 +9,22 @@ use Rattle.turns.proofs.starts.start_numbered.Tie as tie
 
 returns : tie.Need-returns
 returns c =
-    own-none (c .before .args .kinds .now) (c .before .args .next) _ (c .if1 .taken)
+    own-none (c .before .args .kinds .now) (c .before .args .next .0) _ (c .if1 .taken)
 
 shared-slice-read-kind : tie.Need-shared-slice-read-kind
 shared-slice-read-kind c = search needs
 
-add-t8 : tie.Need-add-t8
-add-t8 c = search needs
+add-t9 : tie.Need-add-t9
+add-t9 c = search needs
 
 returns-2 : tie.Need-returns-2
 returns-2 c =
-    own-right (c .before .before .before .args .kinds .now) (c .before .before .before .args .next) _ (Stops 7) 1 (c .before .before .if1 .left) (c .if2 .taken)
+    own-right (c .before .before .before .args .kinds .now) (c .before .before .before .args .next .0) _ (Stops 7) 1 (c .before .before .if1 .left) (c .if2 .taken)
 
 returns-3 : tie.Need-returns-3
 returns-3 c =
-    own-wrong (c .before .before .before .args .kinds .now) (c .before .before .before .args .next) (Goes (c .before .before .before .args .next + 1) 0) _ 1 (c .before .before .if1 .left) (c .if2 .left)
+    own-wrong (c .before .before .before .args .kinds .now) (c .before .before .before .args .next .0) (Goes (argument (c .before .before .before .args .next .0 + 1)) 0) _ 1 (c .before .before .if1 .left) (c .if2 .left)
 
 pub start-numbered-spec : {M : Type 1} → statement M
 start-numbered-spec =
-    tie.close (tie.spec returns shared-slice-read-kind add-t8 returns-2 returns-3)
+    tie.close (tie.spec returns shared-slice-read-kind add-t9 returns-2 returns-3)

@@ -10,7 +10,7 @@ start-two-requires c κs = search needs
 returns : tie.Need-returns
 returns c =
     let a = c .before .before .before .args in
-    start-colon (a .kinds .now) (a .d) (a .next) (c .before .if1 .taken) (c .start-two .ensures)
+    start-colon (a .kinds .now) (a .d) (a .next .0) (c .before .if1 .taken) (c .start-two .ensures)
 
 start-one-requires : tie.Need-start-one-requires
 start-one-requires c κs = search needs
@@ -18,7 +18,7 @@ start-one-requires c κs = search needs
 returns-2 : tie.Need-returns-2
 returns-2 c =
     let a = c .before .before .before .before .args in
-    start-at (a .kinds .now) (a .d) (a .next) (c .before .before .if1 .left) (c .before .if2 .taken) (c .start-one .ensures)
+    start-at (a .kinds .now) (a .d) (a .next .0) (c .before .before .if1 .left) (c .before .if2 .taken) (c .start-one .ensures)
 
 start-plain-requires : tie.Need-start-plain-requires
 start-plain-requires c κs = search needs

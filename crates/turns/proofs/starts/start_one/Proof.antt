@@ -7,18 +7,18 @@ use Rattle.turns.proofs.starts.start_one.Tie as tie
 
 returns : tie.Need-returns
 returns c =
-    own-none (c .before .args .kinds .now) (c .before .args .next) _ (c .if1 .taken)
+    own-none (c .before .args .kinds .now) (c .before .args .next .0) _ (c .if1 .taken)
 
 shared-slice-read-kind : tie.Need-shared-slice-read-kind
 shared-slice-read-kind c = search needs
 
 returns-2 : tie.Need-returns-2
 returns-2 c =
-    own-right (c .before .before .before .args .kinds .now) (c .before .before .before .args .next) _ (Stops 11) 0 (c .before .before .if1 .left) (c .if2 .taken)
+    own-right (c .before .before .before .args .kinds .now) (c .before .before .before .args .next .0) _ (Stops 11) 0 (c .before .before .if1 .left) (c .if2 .taken)
 
 returns-3 : tie.Need-returns-3
 returns-3 c =
-    own-wrong (c .before .before .before .args .kinds .now) (c .before .before .before .args .next) (Goes (c .before .before .before .args .next) 0) _ 0 (c .before .before .if1 .left) (c .if2 .left)
+    own-wrong (c .before .before .before .args .kinds .now) (c .before .before .before .args .next .0) (Goes (c .before .before .before .args .next) 0) _ 0 (c .before .before .if1 .left) (c .if2 .left)
 
 pub start-one-spec : {M : Type 1} → statement M
 start-one-spec = tie.close (tie.spec returns shared-slice-read-kind returns-2 returns-3)

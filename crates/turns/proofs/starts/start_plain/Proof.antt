@@ -22,12 +22,12 @@ enum-known-settled-2 c = search needs
 returns : tie.Need-returns
 returns c =
     let a = c .before .before .before .before .before .before .before .before .before .args in
-    start-by (a .kinds .now) (a .d) (a .next) (c .before .before .before .before .before .before .before .before .before .pre .0) (c .before .before .before .before .before .before .before .before .before .pre .1 .0 .0) (c .before .before .before .before .before .before .before .before .before .pre .1 .0 .1) (rw (c .before .before .before .before .before .before .before .row-in .ensures) at (c .before .before .before .before .settle-fixed .ensures)) (c .before .before .settled .given .1) (c .start-settled .ensures)
+    start-by (a .kinds .now) (a .d) (a .next .0) (c .before .before .before .before .before .before .before .before .before .pre .0) (c .before .before .before .before .before .before .before .before .before .pre .1 .0 .0) (c .before .before .before .before .before .before .before .before .before .pre .1 .0 .1) (rw (c .before .before .before .before .before .before .before .row-in .ensures) at (c .before .before .before .before .settle-fixed .ensures)) (c .before .before .settled .given .1) (c .start-settled .ensures)
 
 returns-2 : tie.Need-returns-2
 returns-2 c =
     let a = c .before .before .before .before .before .before .before .before .args in
-    start-refused (a .kinds .now) (a .d) (a .next) (c .before .before .before .before .before .before .before .before .pre .0) (c .before .before .before .before .before .before .before .before .pre .1 .0 .0) (c .before .before .before .before .before .before .before .before .pre .1 .0 .1) (rw (c .before .before .before .before .before .before .row-in .ensures) at (c .before .before .before .settle-fixed .ensures)) (c .before .settled2 .given .1)
+    start-refused (a .kinds .now) (a .d) (a .next .0) (c .before .before .before .before .before .before .before .before .pre .0) (c .before .before .before .before .before .before .before .before .pre .1 .0 .0) (c .before .before .before .before .before .before .before .before .pre .1 .0 .1) (rw (c .before .before .before .before .before .before .row-in .ensures) at (c .before .before .before .settle-fixed .ensures)) (c .before .settled2 .given .1)
 
 pub start-plain-spec : {M : Type 1} → statement M
 start-plain-spec =

@@ -6,14 +6,14 @@ use Rattle.turns.proofs.starts.start_two.Tie as tie
 
 returns : tie.Need-returns
 returns c =
-    own-none (c .before .args .kinds .now) (c .before .args .next) _ (c .if1 .taken)
+    own-none (c .before .args .kinds .now) (c .before .args .next .0) _ (c .if1 .taken)
 
-add-t3 : tie.Need-add-t3
-add-t3 c = search needs
+add-t4 : tie.Need-add-t4
+add-t4 c = search needs
 
 returns-2 : tie.Need-returns-2
 returns-2 c =
-    own-any (c .before .args .kinds .now) (c .before .args .next) _ (c .if1 .left)
+    own-any (c .before .args .kinds .now) (c .before .args .next .0) _ (c .if1 .left)
 
 pub start-two-spec : {M : Type 1} → statement M
-start-two-spec = tie.close (tie.spec returns add-t3 returns-2)
+start-two-spec = tie.close (tie.spec returns add-t4 returns-2)

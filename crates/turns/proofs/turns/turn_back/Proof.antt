@@ -10,7 +10,7 @@ use Rattle.turns.proofs.turns.turn_back.Tie as tie
 returns : tie.Need-returns
 returns c =
     let a = c .before .before .args in
-    back-none (a .kinds .now) (a .longest) (a .form) (a .d) (a .settings) (a .next) (c .if1 .taken)
+    back-none (a .kinds .now) (a .longest) (a .form) (a .d) (a .settings) (a .next .0) (c .if1 .taken)
 
 sub-turn-shown : tie.Need-sub-turn-shown
 sub-turn-shown c = search needs
@@ -21,12 +21,12 @@ shared-slice-read-turn-shown c = search needs
 turn-shown-requires : tie.Need-turn-shown-requires
 turn-shown-requires c κs =
     let a = c .before .before .before .args in
-    (c .before .before .before .pre .0, (c .before .before .before .pre .1 .0 .tags (a .next - 1) (omega (arith, c .before .if1 .left, c .before .before .before .pre .1 .1)), c .before .before .before .pre .1 .0 .long))
+    (c .before .before .before .pre .0, (c .before .before .before .pre .1 .0 .tags (a .next .0 - 1) (omega (arith, c .before .if1 .left, c .before .before .before .pre .1 .1)), c .before .before .before .pre .1 .0 .long))
 
 returns-2 : tie.Need-returns-2
 returns-2 c =
     let a = c .before .before .before .before .args in
-    back-shown (a .kinds .now) (a .longest) (a .form) (a .d) (a .settings) (a .next) (c .before .before .if1 .left) (c .before .before .before .before .pre .1 .1) refl (c .turn-shown .ensures)
+    back-shown (a .kinds .now) (a .longest) (a .form) (a .d) (a .settings) (a .next .0) (c .before .before .if1 .left) (c .before .before .before .before .pre .1 .1) refl (c .turn-shown .ensures)
 
 pub turn-back-spec : {M : Type 1} → statement M
 turn-back-spec =

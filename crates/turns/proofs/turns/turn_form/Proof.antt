@@ -16,7 +16,7 @@ enum-known-settled c = search needs
 turn-settled-requires : tie.Need-turn-settled-requires
 turn-settled-requires c κs =
     let a = c .before .before .before .before .before .before .before .before .args in
-    (settled-well (a .kinds .now) (a .longest) (a .form) (a .d) (a .next) (c .before .before .before .before .before .before .before .before .pre .0) (rw (c .before .before .before .before .before .before .form-row .ensures) at (c .before .before .before .settle-fixed .ensures)) (c .before .settled .given .1), c .before .before .before .before .before .before .before .before .pre .1)
+    (settled-well (a .kinds .now) (a .longest) (a .form) (a .d) (a .next .0) (c .before .before .before .before .before .before .before .before .pre .0) (rw (c .before .before .before .before .before .before .form-row .ensures) at (c .before .before .before .settle-fixed .ensures)) (c .before .settled .given .1), c .before .before .before .before .before .before .before .before .pre .1)
 
 enum-known-settled-2 : tie.Need-enum-known-settled-2
 enum-known-settled-2 c = search needs
@@ -24,12 +24,12 @@ enum-known-settled-2 c = search needs
 returns : tie.Need-returns
 returns c =
     let a = c .before .before .before .before .before .before .before .before .before .args in
-    turn-worked (a .kinds .now) (a .longest) (a .form) (a .d) (a .next) (c .before .before .before .before .before .before .before .before .before .pre .0) (rw (c .before .before .before .before .before .before .before .form-row .ensures) at (c .before .before .before .before .settle-fixed .ensures)) (c .before .before .settled .given .1) (c .turn-settled .ensures)
+    turn-worked (a .kinds .now) (a .longest) (a .form) (a .d) (a .next .0) (c .before .before .before .before .before .before .before .before .before .pre .0) (rw (c .before .before .before .before .before .before .before .form-row .ensures) at (c .before .before .before .before .settle-fixed .ensures)) (c .before .before .settled .given .1) (c .turn-settled .ensures)
 
 returns-2 : tie.Need-returns-2
 returns-2 c =
     let a = c .before .before .before .before .before .before .before .before .args in
-    turn-refused (a .kinds .now) (a .longest) (a .form) (a .d) (a .next) (c .before .before .before .before .before .before .before .before .pre .0) (rw (c .before .before .before .before .before .before .form-row .ensures) at (c .before .before .before .settle-fixed .ensures)) (c .before .settled2 .given .1)
+    turn-refused (a .kinds .now) (a .longest) (a .form) (a .d) (a .next .0) (c .before .before .before .before .before .before .before .before .pre .0) (rw (c .before .before .before .before .before .before .form-row .ensures) at (c .before .before .before .settle-fixed .ensures)) (c .before .settled2 .given .1)
 
 pub turn-form-spec : {M : Type 1} → statement M
 turn-form-spec =

@@ -19,12 +19,12 @@ turn-own-requires c κs = search needs
 returns : tie.Need-returns
 returns c =
     let a = c .before .before .before .before .before .args in
-    numbered-given (a .kinds .now) (a .longest) (a .form) (a .d) (a .settings) (a .next) (c .before .before .before .before .before .pre .0) (c .before .before .first .given .1) (c .glyph-size .ensures)
+    numbered-given (a .kinds .now) (a .longest) (a .form) (a .d) (a .settings) (a .next .0) (c .before .before .before .before .before .pre .0) (c .before .before .first .given .1) (c .glyph-size .ensures)
 
 returns-2 : tie.Need-returns-2
 returns-2 c =
     let a = c .before .before .before .before .args in
-    numbered-own (a .kinds .now) (a .longest) (a .form) (a .d) (a .settings) (a .next) (c .before .enum-told .given .1) (c .turn-own .ensures)
+    numbered-own (a .kinds .now) (a .longest) (a .form) (a .d) (a .settings) (a .next .0) (c .before .enum-told .given .1) (c .turn-own .ensures)
 
 pub turn-numbered-spec : {M : Type 1} → statement M
 turn-numbered-spec =

@@ -8,25 +8,25 @@ use Rattle.turns.proofs.turns.turn_own.Tie as tie
 returns : tie.Need-returns
 returns c =
     let a = c .before .before .args in
-    own-none (a .kinds .now) (a .longest) (a .form) (a .d) (a .settings) (a .next) (c .if1 .taken)
+    own-none (a .kinds .now) (a .longest) (a .form) (a .d) (a .settings) (a .next .0) (c .if1 .taken)
 
 shared-slice-read-turn-shown : tie.Need-shared-slice-read-turn-shown
 shared-slice-read-turn-shown c = search needs
 
-add-turn-shown : tie.Need-add-turn-shown
-add-turn-shown c = search needs
+add-t8 : tie.Need-add-t8
+add-t8 c = search needs
 
 turn-shown-requires : tie.Need-turn-shown-requires
 turn-shown-requires c κs =
     let a = c .before .before .before .args in
-    (c .before .before .before .pre .0, (c .before .before .before .pre .1 .0 .tags (a .next) (c .before .if1 .left), c .before .before .before .pre .1 .0 .long))
+    (c .before .before .before .pre .0, (c .before .before .before .pre .1 .0 .tags (a .next .0) (c .before .if1 .left), c .before .before .before .pre .1 .0 .long))
 
 returns-2 : tie.Need-returns-2
 returns-2 c =
     let a = c .before .before .before .before .args in
-    own-shown (a .kinds .now) (a .longest) (a .form) (a .d) (a .settings) (a .next) (c .before .before .if1 .left) refl (c .turn-shown .ensures)
+    own-shown (a .kinds .now) (a .longest) (a .form) (a .d) (a .settings) (a .next .0) (c .before .before .if1 .left) refl (c .turn-shown .ensures)
 
 pub turn-own-spec : {M : Type 1} → statement M
 turn-own-spec =
     tie.close
-    (tie.spec returns shared-slice-read-turn-shown add-turn-shown turn-shown-requires returns-2)
+    (tie.spec returns shared-slice-read-turn-shown add-t8 turn-shown-requires returns-2)

@@ -31,7 +31,7 @@ turn-back-requires c κs = search needs
 returns : tie.Need-returns
 returns c =
     let a = c .before .before .before .before .before .before .args in
-    by-back (a .kinds .now) (a .longest) (a .form) (a .d) (a .settings) (a .next) (rw (c .before .before .before .before .form-row .ensures) at (c .before .before .enum-told3 .given .1)) (c .before .if1 .taken) (c .turn-back .ensures)
+    by-back (a .kinds .now) (a .longest) (a .form) (a .d) (a .settings) (a .next .0) (rw (c .before .before .before .before .form-row .ensures) at (c .before .before .enum-told3 .given .1)) (c .before .if1 .taken) (c .turn-back .ensures)
 
 turn-own-requires-2 : tie.Need-turn-own-requires-2
 turn-own-requires-2 c κs = search needs
@@ -45,22 +45,22 @@ turn-numbered-requires c κs = search needs
 returns-2 : tie.Need-returns-2
 returns-2 c =
     let a = c .before .before .before .before .before .args in
-    by-nowhere (a .kinds .now) (a .longest) (a .form) (a .d) (a .settings) (a .next) (rw (c .before .before .before .form-row .ensures) at (c .before .enum-told .given .1)) (c .before .before .before .before .before .pre .0) (c .before .before .before .before .before .pre .1 .0 .long) (c .worst-of .ensures)
+    by-nowhere (a .kinds .now) (a .longest) (a .form) (a .d) (a .settings) (a .next .0) (rw (c .before .before .before .form-row .ensures) at (c .before .enum-told .given .1)) (c .before .before .before .before .before .pre .0) (c .before .before .before .before .before .pre .1 .0 .long) (c .worst-of .ensures)
 
 returns-3 : tie.Need-returns-3
 returns-3 c =
     let a = c .before .before .before .before .before .args in
-    by-next (a .kinds .now) (a .longest) (a .form) (a .d) (a .settings) (a .next) (rw (c .before .before .before .form-row .ensures) at (c .before .enum-told2 .given .1)) (c .turn-own .ensures)
+    by-next (a .kinds .now) (a .longest) (a .form) (a .d) (a .settings) (a .next .0) (rw (c .before .before .before .form-row .ensures) at (c .before .enum-told2 .given .1)) (c .turn-own .ensures)
 
 returns-4 : tie.Need-returns-4
 returns-4 c =
     let a = c .before .before .before .before .before .before .args in
-    by-no-back (a .kinds .now) (a .longest) (a .form) (a .d) (a .settings) (a .next) (rw (c .before .before .before .before .form-row .ensures) at (c .before .before .enum-told3 .given .1)) (c .before .if1 .left) (c .turn-own2 .ensures)
+    by-no-back (a .kinds .now) (a .longest) (a .form) (a .d) (a .settings) (a .next .0) (rw (c .before .before .before .before .form-row .ensures) at (c .before .before .enum-told3 .given .1)) (c .before .if1 .left) (c .turn-own2 .ensures)
 
 returns-5 : tie.Need-returns-5
 returns-5 c =
     let a = c .before .before .before .before .before .args in
-    by-number (a .kinds .now) (a .longest) (a .form) (a .d) (a .settings) (a .next) (rw (c .before .before .before .form-row .ensures) at (c .before .enum-told4 .given .1)) (c .turn-numbered .ensures)
+    by-number (a .kinds .now) (a .longest) (a .form) (a .d) (a .settings) (a .next .0) (rw (c .before .before .before .form-row .ensures) at (c .before .enum-told4 .given .1)) (c .turn-numbered .ensures)
 
 pub turn-settled-spec : {M : Type 1} → statement M
 turn-settled-spec =

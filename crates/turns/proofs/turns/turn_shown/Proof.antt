@@ -18,12 +18,12 @@ worst-of-requires c κs =
 returns : tie.Need-returns
 returns c =
     let a = c .before .before .before .before .args in
-    shown-yes (a .longest) (a .form) (a .d) (a .settings) (a .kind) (a .after) (rw (c .before .before .before .wide .ensures .0) at (sym (c .before .before .takes-kind .ensures) ∙ c .before .if1 .taken)) (c .worst-of .ensures)
+    shown-yes (a .longest) (a .form) (a .d) (a .settings) (a .kind) (a .after .0) (rw (c .before .before .before .wide .ensures .0) at (sym (c .before .before .takes-kind .ensures) ∙ c .before .if1 .taken)) (c .worst-of .ensures)
 
 returns-2 : tie.Need-returns-2
 returns-2 c =
     let a = c .before .before .before .args in
-    shown-no (a .longest) (a .form) (a .d) (a .settings) (a .kind) (a .after) (rw (c .before .before .wide .ensures .0) at (sym (c .before .takes-kind .ensures) ∙ c .if1 .left))
+    shown-no (a .longest) (a .form) (a .d) (a .settings) (a .kind) (a .after .0) (rw (c .before .before .wide .ensures .0) at (sym (c .before .takes-kind .ensures) ∙ c .if1 .left))
 
 pub turn-shown-spec : {M : Type 1} → statement M
 turn-shown-spec =

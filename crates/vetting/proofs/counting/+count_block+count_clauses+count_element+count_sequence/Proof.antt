@@ -139,7 +139,7 @@ count-block-count-clauses-requires t c κs =
     let pre = c .before .before .before .before .before .before .pre .1 in
     let begun = sym (c .before .before .before .start-of .ensures (args .longest)) ∙ c .before .turn2 .given .1 in (
       omega (arith, c .before .before .before .before .before .before .pre .0),
-      (pre .0, (next-vettable (pre .1 .0) (args .d) (pre .1 .1 .0), start-inside (args .format .now) (args .kinds .now) (args .longest) (args .p) (args .next) (args .d) (pre .1 .1 .0) (pre .1 .1 .1 .0) (pre .1 .1 .1 .1) _ _ begun)),
+      (pre .0, (next-vettable (pre .1 .0) (args .d) (pre .1 .1 .0), start-inside (args .format .now) (args .kinds .now) (args .longest) (args .p) (args .next .0) (args .d) (pre .1 .1 .0) (pre .1 .1 .1 .0) (pre .1 .1 .1 .1) _ _ begun)),
     )
 
 count-block-enum-known-clauses : (t : ℕ) → count-block-lts.Need-enum-known-clauses (count-block-claims t) (count-block-at t) count-block.Post
@@ -156,7 +156,7 @@ count-block-returns t c =
     let args = c .before .before .before .before .before .before .args in
     let pre = c .before .before .before .before .before .before .pre .1 in
     let begun = sym (c .before .before .before .start-of .ensures (args .longest)) ∙ c .before .turn .given .1 in
-    block-stops (args .format .now) (args .kinds .now) (args .longest) (args .p) (args .next) (args .d) (pre .1 .1 .0)
+    block-stops (args .format .now) (args .kinds .now) (args .longest) (args .p) (args .next .0) (args .d) (pre .1 .1 .0)
     (pre .1 .1 .1 .0) _ begun
 
 count-block-returns-2 : (t : ℕ) → count-block-lts.Need-returns-2 (count-block-claims t) (count-block-at t) count-block.Post
@@ -166,7 +166,7 @@ count-block-returns-2 t c =
     let begun = sym (c .before .before .before .before .before .before .before .start-of .ensures (args .longest)) ∙ c .before .before .before .before .before .turn2 .given .1 in
     let clauses = subst (ClausesAre (args .format .now) (args .kinds .now) (args .longest) (args .d) _) (c .before .clauses .given .1)
     (c .before .before .before .count-clauses .ensures) in
-    block-fails (args .format .now) (args .kinds .now) (args .longest) (args .p) (args .next) (args .d) (pre .1 .1 .0)
+    block-fails (args .format .now) (args .kinds .now) (args .longest) (args .p) (args .next .0) (args .d) (pre .1 .1 .0)
     (pre .1 .1 .1 .0) (pre .1 .1 .1 .1) _ _ begun clauses
 
 count-block-returns-3 : (t : ℕ) → count-block-lts.Need-returns-3 (count-block-claims t) (count-block-at t) count-block.Post
@@ -176,12 +176,12 @@ count-block-returns-3 t c =
     let begun = sym (c .before .before .before .before .before .before .before .before .start-of .ensures (args .longest)) ∙ c .before .before .before .before .before .before .turn2 .given .1 in
     let clauses = subst (ClausesAre (args .format .now) (args .kinds .now) (args .longest) (args .d) _) (c .before .before .clauses2 .given .1)
     (c .before .before .before .before .count-clauses .ensures) in
-    block-closes (args .format .now) (args .kinds .now) (args .longest) (args .p) (args .next) (args .d) (pre .1 .1 .0)
+    block-closes (args .format .now) (args .kinds .now) (args .longest) (args .p) (args .next .0) (args .d) (pre .1 .1 .0)
     (pre .1 .1 .1 .0) (pre .1 .1 .1 .1) _ _ begun _ _ clauses (c .close-block .result) (c .close-block .ensures)
 
 abbrev count-clauses-Inv-loop : count-clauses-lts.InvT-loop
 count-clauses-Inv-loop format kinds longest d start z₀ fallback₀ ends₀ z fallback ends =
-    Gathering format kinds longest d start z fallback ends
+    Gathering format kinds longest d (start .0) z fallback ends
 
 abbrev count-clauses-μ-loop : count-clauses-lts.MeasureT-loop
 count-clauses-μ-loop format kinds longest d start z₀ fallback₀ ends₀ z fallback ends =
@@ -191,7 +191,7 @@ count-clauses-loop-holds : (t : ℕ) → count-clauses-lts.Need-loop-holds (coun
 count-clauses-loop-holds t c =
     let args = c .before .before .args in
     let pre = c .before .before .pre .1 in
-    gather-start (args .format .now) (args .kinds .now) (args .longest) (args .d) (args .start) (pre .1 .0)
+    gather-start (args .format .now) (args .kinds .now) (args .longest) (args .d) (args .start .0) (pre .1 .0)
 
 count-clauses-count-sequence-requires : (t : ℕ) → count-clauses-lts.Need-count-sequence-requires (count-clauses-claims t) (count-clauses-at t) count-clauses.Post count-clauses-Inv-loop count-clauses-μ-loop
 count-clauses-count-sequence-requires t c κs =
@@ -206,7 +206,7 @@ count-clauses-returns : (t : ℕ) → count-clauses-lts.Need-returns (count-clau
 count-clauses-returns t c =
     let args = c .before .before .before .before .before .before .before .args in
     gather-fails (c .before .before .before .before .loop .inv)
-    (subst (SequenceIs (args .format .now) (args .kinds .now) (args .longest) (c .before .before .before .before .loop .z) (args .start)) (c .before .counted .given .1)
+    (subst (SequenceIs (args .format .now) (args .kinds .now) (args .longest) (c .before .before .before .before .loop .z) (args .start .0)) (c .before .counted .given .1)
     (c .before .before .before .count-sequence .ensures))
 
 count-clauses-enum-known-counted-2 : (t : ℕ) → count-clauses-lts.Need-enum-known-counted-2 (count-clauses-claims t) (count-clauses-at t) count-clauses.Post count-clauses-Inv-loop count-clauses-μ-loop
@@ -222,7 +222,7 @@ count-clauses-loop-less : (t : ℕ) → count-clauses-lts.Need-loop-less (count-
 count-clauses-loop-less t c =
     let args = c .before .before .before .before .before .before .before .before .before .before .before .args in
     let head = c .before .before .before .before .before .before .before .before .loop in
-    let way = walked-by (args .format .now) (args .kinds .now) (args .longest) (head .z) (args .start) (c .before .before .before .before .before .before .before .count-sequence .result)
+    let way = walked-by (args .format .now) (args .kinds .now) (args .longest) (head .z) (args .start .0) (c .before .before .before .before .before .before .before .count-sequence .result)
     (c .before .before .before .before .before .before .before .count-sequence .ensures) (c .before .before .before .before .before .counted2 .given .1) (c .before .end .given .1) in
     omega (arith, way .least, way .ends .least, way .ends .most)
 
@@ -230,7 +230,7 @@ count-clauses-loop-again : (t : ℕ) → count-clauses-lts.Need-loop-again (coun
 count-clauses-loop-again t c =
     let args = c .before .before .before .before .before .before .before .before .before .before .before .args in
     let head = c .before .before .before .before .before .before .before .before .loop in
-    let way = walked-by (args .format .now) (args .kinds .now) (args .longest) (head .z) (args .start) (c .before .before .before .before .before .before .before .count-sequence .result)
+    let way = walked-by (args .format .now) (args .kinds .now) (args .longest) (head .z) (args .start .0) (c .before .before .before .before .before .before .before .count-sequence .result)
     (c .before .before .before .before .before .before .before .count-sequence .ensures) (c .before .before .before .before .before .counted2 .given .1) (c .before .end .given .1) in
     gather-on (head .inv) way (c .before .before .before .meet .result) (c .before .before .before .meet .ensures)
 
@@ -247,10 +247,10 @@ count-clauses-returns-2 : (t : ℕ) → count-clauses-lts.Need-returns-2 (count-
 count-clauses-returns-2 t c =
     let args = c .before .before .before .before .before .before .before .before .before .before .before .before .args in
     let head = c .before .before .before .before .before .before .before .before .before .loop in
-    let way = walked-by (args .format .now) (args .kinds .now) (args .longest) (head .z) (args .start) (c .before .before .before .before .before .before .before .before .count-sequence .result)
+    let way = walked-by (args .format .now) (args .kinds .now) (args .longest) (head .z) (args .start .0) (c .before .before .before .before .before .before .before .before .count-sequence .result)
     (c .before .before .before .before .before .before .before .before .count-sequence .ensures) (c .before .before .before .before .before .before .counted2 .given .1) (c .before .before .end2 .given .1) in
     gather-last (head .inv) way (c .with-none .result)
-    (c .with-none .ensures ∙ ap (withNone (args .d) (head .fallback) (args .start)) (c .before .before .before .before .meet .ensures))
+    (c .with-none .ensures ∙ ap (withNone (args .d) (head .fallback) (args .start .0)) (c .before .before .before .before .meet .ensures))
 
 count-element-item-at-requires : (t : ℕ) → count-element-lts.Need-item-at-requires (count-element-claims t) (count-element-at t) count-element.Post
 count-element-item-at-requires t c κs = search needs
@@ -300,13 +300,13 @@ count-element-returns : (t : ℕ) → count-element-lts.Need-returns (count-elem
 count-element-returns t c =
     let args = c .before .before .before .before .before .args in
     let pre = c .before .before .before .before .before .pre .1 in
-    literal-is (args .format .now) (args .kinds .now) (args .longest) (args .p) (args .next) (pre .1 .0) (pre .0) (pre .1 .1) _ (sym (c .before .before .item-at .ensures) ∙ c .enum-told .given .1)
+    literal-is (args .format .now) (args .kinds .now) (args .longest) (args .p) (args .next .0) (pre .1 .0) (pre .0) (pre .1 .1) _ (sym (c .before .before .item-at .ensures) ∙ c .enum-told .given .1)
 
 count-element-returns-2 : (t : ℕ) → count-element-lts.Need-returns-2 (count-element-claims t) (count-element-at t) count-element.Post
 count-element-returns-2 t c =
     let args = c .before .before .before .before .before .before .before .before .before .before .before .args in
     let pre = c .before .before .before .before .before .before .before .before .before .before .before .pre .1 in
-    writes-is (args .format .now) (args .kinds .now) (args .longest) (args .p) (args .next) (pre .1 .0) (pre .0) (pre .1 .1) _ (sym (c .before .before .before .before .before .before .before .before .item-at .ensures) ∙ c .before .before .before .before .before .before .item .given .1) _ (c .before .before .before .code .given .1)
+    writes-is (args .format .now) (args .kinds .now) (args .longest) (args .p) (args .next .0) (pre .1 .0) (pre .0) (pre .1 .1) _ (sym (c .before .before .before .before .before .before .before .before .item-at .ensures) ∙ c .before .before .before .before .before .before .item .given .1) _ (c .before .before .before .code .given .1)
     (c .before .turn-form .result) (c .before .turn-form .ensures) (c .element-by .result) (c .element-by .ensures)
 
 count-element-returns-3 : (t : ℕ) → count-element-lts.Need-returns-3 (count-element-claims t) (count-element-at t) count-element.Post
@@ -317,33 +317,33 @@ count-element-returns-4 : (t : ℕ) → count-element-lts.Need-returns-4 (count-
 count-element-returns-4 t c =
     let args = c .before .before .before .before .before .before .before .before .args in
     let pre = c .before .before .before .before .before .before .before .before .pre .1 in
-    separator-is (args .format .now) (args .kinds .now) (args .longest) (args .p) (args .next) (pre .1 .0) (pre .0) (pre .1 .1) _ (sym (c .before .before .before .before .before .item-at .ensures) ∙ c .before .before .before .item .given .1) (c .enum-told3 .given .1)
+    separator-is (args .format .now) (args .kinds .now) (args .longest) (args .p) (args .next .0) (pre .1 .0) (pre .0) (pre .1 .1) _ (sym (c .before .before .before .before .before .item-at .ensures) ∙ c .before .before .before .item .given .1) (c .enum-told3 .given .1)
 
 count-element-returns-5 : (t : ℕ) → count-element-lts.Need-returns-5 (count-element-claims t) (count-element-at t) count-element.Post
 count-element-returns-5 t c =
     let args = c .before .before .before .before .before .before .before .args in
     let pre = c .before .before .before .before .before .before .before .pre .1 in
-    closer-is (args .format .now) (args .kinds .now) (args .longest) (args .p) (args .next) (pre .1 .0) (pre .0) (pre .1 .1) _ (sym (c .before .before .before .before .item-at .ensures) ∙ c .before .before .item .given .1) _ refl (c .match2 .keys4)
+    closer-is (args .format .now) (args .kinds .now) (args .longest) (args .p) (args .next .0) (pre .1 .0) (pre .0) (pre .1 .1) _ (sym (c .before .before .before .before .item-at .ensures) ∙ c .before .before .item .given .1) _ refl (c .match2 .keys4)
 
 count-element-returns-6 : (t : ℕ) → count-element-lts.Need-returns-6 (count-element-claims t) (count-element-at t) count-element.Post
 count-element-returns-6 t c =
     let args = c .before .before .before .before .args in
     let pre = c .before .before .before .before .pre .1 in
-    end-is (args .format .now) (args .kinds .now) (args .longest) (args .p) (args .next) (pre .1 .0) (pre .0) (pre .1 .1) (c .before .item-at .result) (sym (c .before .item-at .ensures)) (c .match .keys3)
+    end-is (args .format .now) (args .kinds .now) (args .longest) (args .p) (args .next .0) (pre .1 .0) (pre .0) (pre .1 .1) (c .before .item-at .result) (sym (c .before .item-at .ensures)) (c .match .keys3)
 
 abbrev count-sequence-Inv-loop : count-sequence-lts.InvT-loop
-count-sequence-Inv-loop format kinds longest start first p₀ next₀ sum₀ p next sum =
-    Walking format kinds longest start first p next sum
+count-sequence-Inv-loop format kinds longest start p₀ next₀ sum₀ p next sum =
+    Walking format kinds longest start (next₀ .0) p (next .0) sum
 
 abbrev count-sequence-μ-loop : count-sequence-lts.MeasureT-loop
-count-sequence-μ-loop format kinds longest start first p₀ next₀ sum₀ p next sum =
+count-sequence-μ-loop format kinds longest start p₀ next₀ sum₀ p next sum =
     length format - p
 
 count-sequence-loop-holds : (t : ℕ) → count-sequence-lts.Need-loop-holds (count-sequence-claims t) (count-sequence-at t) count-sequence.Post count-sequence-Inv-loop count-sequence-μ-loop
 count-sequence-loop-holds t c =
     let args = c .before .before .args in
     let pre = c .before .before .pre .1 in
-    walk-start (args .format .now) (args .kinds .now) (args .longest) (args .start) (args .first) (pre .1 .0) (pre .1 .1)
+    walk-start (args .format .now) (args .kinds .now) (args .longest) (args .start) (args .first .0) (pre .1 .0) (pre .1 .1)
 
 count-sequence-count-element-requires : (t : ℕ) → count-sequence-lts.Need-count-element-requires (count-sequence-claims t) (count-sequence-at t) count-sequence.Post count-sequence-Inv-loop count-sequence-μ-loop
 count-sequence-count-element-requires t c κs =
@@ -358,7 +358,7 @@ count-sequence-returns : (t : ℕ) → count-sequence-lts.Need-returns (count-se
 count-sequence-returns t c =
     let args = c .before .before .before .before .before .before .before .args in
     let head = c .before .before .before .before .loop in
-    let element = subst (ElementIs (args .format .now) (args .kinds .now) (args .longest) (head .p) (head .next)) (c .before .e .given .1)
+    let element = subst (ElementIs (args .format .now) (args .kinds .now) (args .longest) (head .p) (head .next .0)) (c .before .e .given .1)
     (c .before .before .before .count-element .ensures) in
     walk-fails (head .inv) element
 
@@ -369,7 +369,7 @@ count-sequence-returns-2 : (t : ℕ) → count-sequence-lts.Need-returns-2 (coun
 count-sequence-returns-2 t c =
     let args = c .before .before .before .before .before .before .before .args in
     let head = c .before .before .before .before .loop in
-    let element = subst (ElementIs (args .format .now) (args .kinds .now) (args .longest) (head .p) (head .next)) (c .before .e2 .given .1)
+    let element = subst (ElementIs (args .format .now) (args .kinds .now) (args .longest) (head .p) (head .next .0)) (c .before .e2 .given .1)
     (c .before .before .before .count-element .ensures) in
     walk-ends (head .inv) _ element
 
@@ -380,7 +380,7 @@ count-sequence-add-sum : (t : ℕ) → count-sequence-lts.Need-add-sum (count-se
 count-sequence-add-sum t c =
     let args = c .before .before .before .before .before .before .before .args in
     let head = c .before .before .before .before .loop in
-    let element = subst (ElementIs (args .format .now) (args .kinds .now) (args .longest) (head .p) (head .next)) (c .before .e3 .given .1)
+    let element = subst (ElementIs (args .format .now) (args .kinds .now) (args .longest) (head .p) (head .next .0)) (c .before .e3 .given .1)
     (c .before .before .before .count-element .ensures) in
     omega (arith, walk-small (head .inv) element)
 
@@ -388,7 +388,7 @@ count-sequence-loop-less : (t : ℕ) → count-sequence-lts.Need-loop-less (coun
 count-sequence-loop-less t c =
     let args = c .before .before .before .before .before .before .before .args in
     let head = c .before .before .before .before .loop in
-    let element = subst (ElementIs (args .format .now) (args .kinds .now) (args .longest) (head .p) (head .next)) (c .before .e3 .given .1)
+    let element = subst (ElementIs (args .format .now) (args .kinds .now) (args .longest) (head .p) (head .next .0)) (c .before .e3 .given .1)
     (c .before .before .before .count-element .ensures) in
     omega (arith, element .ahead, element .reaches .vettable .inside)
 
@@ -396,7 +396,7 @@ count-sequence-loop-again : (t : ℕ) → count-sequence-lts.Need-loop-again (co
 count-sequence-loop-again t c =
     let args = c .before .before .before .before .before .before .before .args in
     let head = c .before .before .before .before .loop in
-    let element = subst (ElementIs (args .format .now) (args .kinds .now) (args .longest) (head .p) (head .next)) (c .before .e3 .given .1)
+    let element = subst (ElementIs (args .format .now) (args .kinds .now) (args .longest) (head .p) (head .next .0)) (c .before .e3 .given .1)
     (c .before .before .before .count-element .ensures) in
     walk-on (head .inv) element
 

@@ -18,8 +18,8 @@ larger-requires c κs = search needs
 
 returns : tie.Need-returns
 returns c =
-    let args = c .before .before .before .before .before .args in
-    meet-same (args .ends) (args .next) (args .size) _ _ (c .before .before .before .ends .given .1) (c .before .if1 .taken) (c .larger .result) (c .larger .ensures)
+    let args = c .before .before .before .before .before .before .before .args in
+    meet-same (args .ends) (args .next .0) (args .size) _ _ (c .before .before .before .before .before .ends .given .1) (c .before .if1 .taken) (c .larger .result) (c .larger .ensures)
 
 enum-told-2 : tie.Need-enum-told-2
 enum-told-2 c = search needs
@@ -28,18 +28,18 @@ returns-2 : tie.Need-returns-2
 unfolding meeting
 returns-2 c =
     let args = c .before .before .args in
-    sym (ap (λ (e : Ends). meeting e (args .next) (args .size)) (c .enum-told .given .1))
+    sym (ap (λ (e : Ends). meeting e (args .next .0) (args .size)) (c .enum-told .given .1))
 
 returns-3 : tie.Need-returns-3
 returns-3 c =
-    let args = c .before .before .before .before .args in
-    meet-other (args .ends) (args .next) (args .size) _ _ (c .before .before .ends .given .1) (c .if1 .left)
+    let args = c .before .before .before .before .before .before .args in
+    meet-other (args .ends) (args .next .0) (args .size) _ _ (c .before .before .before .before .ends .given .1) (c .if1 .left)
 
 returns-4 : tie.Need-returns-4
 unfolding meeting
 returns-4 c =
     let args = c .before .before .args in
-    sym (ap (λ (e : Ends). meeting e (args .next) (args .size)) (c .enum-told2 .given .1))
+    sym (ap (λ (e : Ends). meeting e (args .next .0) (args .size)) (c .enum-told2 .given .1))
 
 pub meet-spec : {M : Type 1} → statement M
 meet-spec =
