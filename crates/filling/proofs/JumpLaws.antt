@@ -6,7 +6,7 @@ use mathlib.Core.List.{List, []}
 use native.Mathlib.Omega.{arith}
 use lib.Dec.{leb}
 use Rattle.rules.specs.Flow.{Flow, done, refused, put, Stretch, still}
-use Rattle.rules.specs.Act.{Act, moves, refuses, jumpTo, jump, actAfter, actOf}
+use Rattle.rules.specs.Act.{Act, writes, shows, moves, refuses, jumpTo, jump, actAfter, actOf}
 use Rattle.rules.specs.Table.{Value, View}
 use Rattle.rules.specs.Piece.{orElse}
 use Rattle.rules.specs.Working.{Context, argumentIn, Settled, settled, unsettled, settingsOf, settleDirective}
@@ -28,38 +28,43 @@ pub data Silent (f : (ℕ → Flow) → Flow) : Type 0 where
   goes : (i : ℕ) → ((on : ℕ → Flow) → f on ≡ on i) → Silent f
   stops : (code p left : ℕ) → ((on : ℕ → Flow) → f on ≡ refused code p left) → Silent f
 
--- an act that shows no argument and writes no text
-module _ (value : ℕ → Value) (p m : ℕ) where
-  abbrev SilentAct : Act → Type 0
-  SilentAct a = Silent (λ on. joined value p m a on)
+-- an act that has no text is so
+abbrev NoText : Act → Type 0
+NoText (writes text i) = ⊥
+NoText (shows f d s i next) = ⊥
+NoText (moves i) = Unit {0}
+NoText (refuses code) = Unit {0}
 
-  silent-on : (i : ℕ) → SilentAct (moves i)
-  silent-on i = goes i (λ on. refl)
+silent-act : (value : ℕ → Value) (p m : ℕ) (a : Act) → NoText a → Silent (λ on. joined value p m a on)
+silent-act value p m (writes text i) h = absurd h
+silent-act value p m (shows f d s i next) h = absurd h
+silent-act value p m (moves i) h = goes i (λ on. refl)
+silent-act value p m (refuses code) h = stops code p m (λ on. refl)
 
-  silent-refusal : (code : ℕ) → SilentAct (refuses code)
-  silent-refusal code = stops code p m (λ on. refl)
+either-none : (t : Bool) (a b : Act) → NoText a → NoText b → NoText (cond t a b)
+either-none true a b h k = h
+either-none false a b h k = k
 
-  silent-either : (t : Bool) {a b : Act} → SilentAct a → SilentAct b → SilentAct (cond t a b)
-  silent-either true s u = s
-  silent-either false s u = u
+module _ (count : ℕ) where
+  to-none : (k : ℕ) → NoText (jumpTo count k)
+  to-none k = either-none (leb k count) (moves k) (refuses 6) tt tt
 
-  silent-to : (count k : ℕ) → SilentAct (jumpTo count k)
-  silent-to count k = silent-either (leb k count) (silent-on k) (silent-refusal 6)
+  jump-none : (d : Directive) (s : Settings) (i : ℕ) → NoText (jump count d s i)
+  jump-none d s i =
+      let n = orElse (s .first) 1 in
+      either-none (d .at) (jumpTo count (orElse (s .first) 0)) _ (to-none (orElse (s .first) 0))
+      (either-none (d .colon) (cond (leb n i) (jumpTo count (i - n)) (refuses 6)) (jumpTo count (i + n))
+      (either-none (leb n i) (jumpTo count (i - n)) (refuses 6) (to-none (i - n)) tt) (to-none (i + n)))
 
-  silent-by : (count : ℕ) (d : Directive) (s : Settings) (i : ℕ) → SilentAct (jump count d s i)
-  silent-by count d s i =
-      silent-either (d .at) (silent-to count (orElse (s .first) 0))
-      (silent-either (d .colon)
-      (silent-either (leb (orElse (s .first) 1) i) (silent-to count (i - orElse (s .first) 1)) (silent-refusal 6))
-      (silent-to count (i + orElse (s .first) 1)))
-
-  silent-after : (count : ℕ) (d : Directive) → d .code ≡ Jump → (z : Settled) → SilentAct (actAfter count d z)
-  silent-after count d q (settled ss i) = rw q (silent-by count d (settingsOf ss) i)
-  silent-after count d q (unsettled code) = silent-refusal code
+  after-none : (d : Directive) → d .code ≡ Jump → (z : Settled) → NoText (actAfter count d z)
+  after-none d q (settled ss i) = rw q (jump-none d (settingsOf ss) i)
+  after-none d q (unsettled code) = tt
 
 pub silent-jump : (v : View) (p m : ℕ) (c : Context) (d : Directive) → d .code ≡ Jump → Silent (λ on. itemActs v p m (Written d) c on)
 unfolding actOf
-silent-jump v p m c d q = silent-after (λ i. argumentIn v c i) p m (c .count) d q (settleDirective v c d)
+silent-jump v p m c d q =
+    let z = settleDirective v c d in
+    silent-act (λ i. argumentIn v c i) p m (actAfter (c .count) d z) (after-none (c .count) d q z)
 
 -- an end is followed by nothing
 done-only : {a k : ℕ} {g : Flow} {w : List ℕ} → Stretch (done a k) g w → g ≡ done a k

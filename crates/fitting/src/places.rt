@@ -10,9 +10,12 @@ use rules::scalars::both;
 use rules::scalars::either;
 use rules::scalars::not;
 ghost use mathlib.Core.Path.{_≡_};
+ghost use mathlib.Core.Bool.{true};
 ghost use lib.Dec.{leb};
 ghost use Rattle.rules.specs.Choice.{both};
-ghost use Rattle.rules.specs.Rows.{takes as takesOf, suits as suitsIn, fitInto, wellWritten};
+ghost use Rattle.rules.specs.Directive.{noParameters};
+ghost use Rattle.rules.specs.Rows.{takes as takesOf, suits as suitsIn, fitInto, rowIn, placesIn, wellWritten};
+ghost use Rattle.rules.specs.declared.Parameter.the-variants.{Default};
 ghost use Rattle.rules.specs.declared.Place.the-variants.{Empty, Number as NumberPlace, Character as CharacterPlace};
 
 fn suits_empty(x: Parameter) -> bool
@@ -93,13 +96,60 @@ fn takes(modifiers: Modifiers, colon: bool, at: bool) -> bool
     }
 }
 
+fn is_default(x: Parameter) -> bool
+    ensures { λ r. ⌜ (r ≡ true → x ≡ Default) ⌝ }
+{
+    match x {
+        Parameter::Default => true,
+        _ => false,
+    }
+}
+
+// Whether no parameter is written.
+pub fn is_bare(ps: Parameters) -> bool
+    ensures { λ r. ⌜ (r ≡ true → ps ≡ noParameters) ⌝ }
+{
+    let p1 = ps.first;
+    let p2 = ps.second;
+    let p3 = ps.third;
+    let p4 = ps.fourth;
+    let p5 = ps.fifth;
+    if ps.count == 0 {
+        let front = both(is_default(p1), is_default(p2));
+        let back = both(is_default(p3), both(is_default(p4), is_default(p5)));
+        return both(front, back);
+    }
+    false
+}
+
+// No modifier is wrong.
+fn takes_modifiers(d: Directive) -> bool
+    ensures { λ r. ⌜ r ≡ takesOf (rowIn d .modifiers) (d .colon) (d .at) ⌝ }
+{
+    let row = row_in(d);
+    let modifiers = row.modifiers;
+    takes(modifiers, d.colon, d.at)
+}
+
+// No parameter is wrong. Most directives that are not short have none: then no place is looked up, at half the cost.
+fn fits_places(d: Directive) -> bool
+    ensures { λ r. ⌜ r ≡ fitInto (placesIn d) (d .parameters) ⌝ }
+{
+    let ps = d.parameters;
+    if is_bare(ps) {
+        return true;
+    }
+    let row = row_in(d);
+    let places = row.places;
+    fits_into(places, ps)
+}
+
 // No parameter or modifier is wrong.
 pub fn is_well_written(d: Directive) -> bool
     ensures { λ r. ⌜ r ≡ wellWritten d ⌝ }
 {
-    let row = row_in(d);
-    let places = row.places;
-    let modifiers = row.modifiers;
-    let ps = d.parameters;
-    both(takes(modifiers, d.colon, d.at), fits_into(places, ps))
+    if takes_modifiers(d) {
+        return fits_places(d);
+    }
+    false
 }

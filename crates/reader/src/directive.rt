@@ -7,6 +7,8 @@ use rules::Directive;
 use rules::Item;
 use rules::Parameter;
 use rules::Parameters;
+use rules::scalars::both;
+use rules::scalars::not;
 use rules::scalars::wide;
 ghost use mathlib.Core.Path.{_≡_};
 ghost use mathlib.Core.Bool.{true, cond, not};
@@ -15,6 +17,7 @@ ghost use lib.Dec.{eqb};
 ghost use lib.ListN.{length, getD, drop};
 ghost use Rattle.rules.specs.Choice.{both};
 ghost use Rattle.rules.specs.Directive.{withParameter, noParameters, isDigit, isBlank, blanks, blank, having, closed};
+ghost use Rattle.rules.specs.Directive.{pending};
 ghost use Rattle.rules.specs.Directive.{scan, start as starting, modifiers, skipped, itemAt};
 ghost use Rattle.reader.specs.declared.directive.ParameterRead.the-variants.{Whole};
 ghost use Rattle.reader.specs.Scans.{digitAt, commaAt, zerosAt, greatestOf, Few, Numbers, numberParameter, Parametrises};
@@ -308,18 +311,17 @@ fn read_code(text: &[u8], start: usize, ps: Parameters) -> Item
     Item::Unfinished
 }
 
-// The parameters where the modifiers or the code begin, with the last one, if it is written or stands after a comma.
+// The parameters where the modifiers or the code begin, with the last one, if it is written or stands after a comma. It
+// is added in one place: with two, the compiler moves them through memory, an eighth more instructions for a directive.
 fn close_parameters(ps: Parameters, x: Parameter, written: bool) -> Parameters
     requires { ⌜ ps .count < 18446744073709551615 ⌝ }
+    requires { ⌜ pending (reading written x) ≡ x ⌝ }
     ensures { λ r. ⌜ r ≡ closed (reading written x) ps ⌝ }
 {
-    if written {
-        return with_parameter(ps, x);
-    }
-    if ps.count == 0 {
+    if both(not(written), ps.count == 0) {
         return ps;
     }
-    with_parameter(ps, Parameter::Default)
+    with_parameter(ps, x)
 }
 
 fn comma_at(text: &[u8], i: usize) -> bool

@@ -2,7 +2,6 @@
 use crate::turns::NONE_LEFT;
 use crate::turns::WRONG_KIND;
 use crate::turns::settle_fixed;
-use fitting::rows::row_in;
 use rules::ArgumentPosition;
 use rules::Directive;
 use rules::Setting;
@@ -95,10 +94,7 @@ fn start_plain(d: Directive, kinds: &[u8], next: ArgumentPosition) -> Turn
     requires { ⌜ next .0 ≤ length (now kinds) ⌝ }
     ensures { λ r. ⌜ ((longest : ℕ) → r ≡ startOf (now (kinds .entry)) longest d (next .0)) ⌝ }
 {
-    let row = row_in(d);
-    let places = row.places;
-    let ps = d.parameters;
-    let settled = settle_fixed(places, ps, kinds, next);
+    let settled = settle_fixed(d, kinds, next);
     match settled {
         SettledOut::Is { settings, next: _ } => {
             let first = settings.first;

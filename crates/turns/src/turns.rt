@@ -8,20 +8,18 @@ use rules::Directive;
 use rules::EntryIndex;
 use rules::Form;
 use rules::Origin;
-use rules::Parameters;
-use rules::Places;
 use rules::Setting;
 use rules::Settings;
 use rules::scalars::wide;
 use vet::Turn;
 use working::Hand;
 use working::SettledOut;
-use working::settle;
+use working::settle_directive;
 ghost use mathlib.Core.Path.{_≡_};
 ghost use mathlib.Core.Bool.{true};
 ghost use Prim.Native.Nat.{_≤_};
 ghost use lib.ListN.{length};
-ghost use Rattle.rules.specs.Rows.{formRow, inOrder};
+ghost use Rattle.rules.specs.Rows.{formRow, inOrder, placesIn};
 ghost use Rattle.rules.specs.Working.{WellSet, own, back, glyphSource, sourceOf};
 ghost use Rattle.rules.specs.declared.Item.the-variants.{Written};
 ghost use Rattle.rules.specs.declared.Origin.the-variants.{NextOrNumber};
@@ -38,21 +36,16 @@ pub const NONE_LEFT: u32 = 6;
 pub const WRONG_KIND: u32 = 7;
 
 // The parameters of a directive without `v`: there is no table, and none is read.
-pub fn settle_fixed(
-    places: Places,
-    ps: Parameters,
-    kinds: &[u8],
-    next: ArgumentPosition,
-) -> SettledOut
-    requires { ⌜ noneNext (inOrder ps) ≡ true ⌝ }
+pub fn settle_fixed(d: Directive, kinds: &[u8], next: ArgumentPosition) -> SettledOut
+    requires { ⌜ noneNext (inOrder (d .parameters)) ≡ true ⌝ }
     requires { ⌜ next .0 ≤ length (now kinds) ⌝ }
-    ensures { λ r. ⌜ SettledOn (length (now (kinds .entry))) places ps (next .0) r ⌝ }
+    ensures { λ r. ⌜ SettledOn (length (now (kinds .entry))) (placesIn d) (d .parameters) (next .0) r ⌝ }
 {
     let hand = Hand {
         first: EntryIndex(0),
         count: kinds.len(),
     };
-    settle(&kinds[0..0], hand, places, ps, next)
+    settle_directive(&kinds[0..0], hand, d, next)
 }
 
 // Argument i, after which `after` is the next.
@@ -196,10 +189,7 @@ pub fn turn_form(
     requires { ⌜ next .0 ≤ length (now kinds) ⌝ }
     ensures { λ r. ⌜ r ≡ turnOf (now (kinds .entry)) longest (Written d) (next .0) ⌝ }
 {
-    let row = form_row(form);
-    let places = row.places;
-    let ps = d.parameters;
-    let settled = settle_fixed(places, ps, kinds, next);
+    let settled = settle_fixed(d, kinds, next);
     match settled {
         SettledOut::Is { settings, next: _ } => turn_settled(
             form,

@@ -6,5 +6,4 @@ pub mod settling; // the parameters of a directive
 pub use arguments::Hand;
 pub use arguments::argument_at;
 pub use settling::SettledOut;
-pub use settling::settle;
 pub use settling::settle_directive;

@@ -4,6 +4,7 @@ use crate::places::WorkedOut;
 use crate::places::is_written;
 use crate::places::work_out;
 use crate::places::written;
+use fitting::places::is_bare;
 use fitting::rows::row_in;
 use rules::ArgumentPosition;
 use rules::Directive;
@@ -14,7 +15,8 @@ use rules::Settings;
 ghost use mathlib.Core.Path.{_≡_};
 ghost use mathlib.Core.Bool.{true};
 ghost use Prim.Native.Nat.{_≤_};
-ghost use Rattle.working.specs.Settling.{InHand, AllSupplied, allWritten, refusedBy, Settles, SettlesDirective, SettlesLast, SettlesWritten};
+ghost use Rattle.rules.specs.Directive.{noParameters};
+ghost use Rattle.working.specs.Settling.{AllSupplied, allWritten, refusedBy, Settles, SettlesDirective, SettlesLast, SettlesWritten};
 
 // The parameters of a directive, worked out, with the next argument after them; or the code that refuses them.
 pub enum SettledOut {
@@ -172,8 +174,8 @@ fn settle_each(
     settle_last(table, hand, places, ps, first, second, n2)
 }
 
-// Parameters in places. Only `v` reads the table: where there is none, nothing is asked of it.
-pub fn settle(
+// Parameters in places, one after the other or, if they are written out, all at once.
+fn settle(
     table: &[u8],
     hand: Hand,
     places: Places,
@@ -190,19 +192,40 @@ pub fn settle(
     settle_each(table, hand, places, ps, next)
 }
 
-// The parameters of a directive, in its own places.
+// No parameter.
+fn settle_none(next: ArgumentPosition) -> SettledOut
+    ensures { λ r. ⌜ SettlesWritten noParameters next r ⌝ }
+{
+    SettledOut::Is {
+        settings: Settings {
+            first: Setting::Absent,
+            second: Setting::Absent,
+            third: Setting::Absent,
+            fourth: Setting::Absent,
+            fifth: Setting::Absent,
+        },
+        next,
+    }
+}
+
+// The parameters of a directive, in its own places. Only `v` reads the table: where there is none, nothing is asked of
+// it. Most directives that are not short have no parameter: then no place is looked up, at half the cost. Run and vet
+// call this one function: so the compiler makes one body of it and of all above, and the answer is not copied.
 pub fn settle_directive(
     table: &[u8],
     hand: Hand,
     d: Directive,
     next: ArgumentPosition,
 ) -> SettledOut
-    requires { ⌜ InHand (now table) hand ⌝ }
+    requires { ⌜ AllSupplied (now table) hand (d .parameters) ⌝ }
     requires { ⌜ next .0 ≤ hand .count ⌝ }
     ensures { λ r. ⌜ SettlesDirective (now (table .entry)) hand d (next .0) r ⌝ }
 {
+    let ps = d.parameters;
+    if is_bare(ps) {
+        return settle_none(next);
+    }
     let row = row_in(d);
     let places = row.places;
-    let ps = d.parameters;
     settle(table, hand, places, ps, next)
 }

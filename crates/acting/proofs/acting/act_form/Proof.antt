@@ -1,6 +1,7 @@
 -- A form acts as 01 has it. Assumes nothing.
 use Rattle.acting.proofs.ActLaws.{performed-as, performed-refused, acts-writes, settings-ill}
 use Rattle.working.proofs.Ranges.{form-in-range}
+use Rattle.working.proofs.SettleLaws.{all-supplied}
 use Rattle.working.proofs.Answers.{next-reaches, run-settled, run-refused}
 use Rattle.acting.proofs.Sources.{worked-in}
 use Rattle.working.specs.Settling.{handAt}
@@ -14,7 +15,9 @@ is-well-written-requires : tie.Need-is-well-written-requires
 is-well-written-requires c κs = search needs
 
 settle-directive-requires : tie.Need-settle-directive-requires
-settle-directive-requires c κs = search needs
+settle-directive-requires c κs =
+    let start = c .before .before .before .before in
+    (all-supplied (start .pre .1 .1 .0), start .pre .1 .1 .1 .1)
 
 enum-known-settled : tie.Need-enum-known-settled
 enum-known-settled c = search needs

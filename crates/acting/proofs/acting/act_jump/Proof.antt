@@ -2,6 +2,7 @@
 use native.Mathlib.Omega.{arith}
 use Rattle.working.proofs.WorkLaws.{hand-small}
 use Rattle.working.proofs.Ranges.{jump-in-range}
+use Rattle.working.proofs.SettleLaws.{all-supplied}
 use Rattle.working.proofs.Answers.{next-reaches, run-settled, run-refused}
 use Rattle.acting.proofs.Sources.{numbered}
 use Rattle.acting.proofs.ActLaws.{performed-as, performed-refused, acts-jump, settings-ill}
@@ -17,7 +18,9 @@ is-well-written-requires : tie.Need-is-well-written-requires
 is-well-written-requires c κs = search needs
 
 settle-directive-requires : tie.Need-settle-directive-requires
-settle-directive-requires c κs = search needs
+settle-directive-requires c κs =
+    let start = c .before .before .before in
+    (all-supplied (start .pre .1 .0), start .pre .1 .1)
 
 enum-known-settled : tie.Need-enum-known-settled
 enum-known-settled c = search needs

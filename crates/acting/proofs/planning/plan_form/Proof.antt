@@ -2,6 +2,7 @@
 use mathlib.Core.Path.{_∙_, sym}
 use borrow.Author.Needs.{needs}
 use Rattle.working.proofs.Ranges.{form-in-range}
+use Rattle.working.proofs.SettleLaws.{all-supplied}
 use Rattle.working.proofs.Answers.{next-reaches}
 use Rattle.acting.proofs.Sources.{worked-in}
 use Rattle.acting.proofs.Plans.{plans-ill, plans-unsettled, plans-settled}
@@ -12,7 +13,9 @@ is-well-written-requires : tie.Need-is-well-written-requires
 is-well-written-requires c κs = search needs
 
 settle-directive-requires : tie.Need-settle-directive-requires
-settle-directive-requires c κs = search needs
+settle-directive-requires c κs =
+    let start = c .before .before .before in
+    (all-supplied (start .pre .1 .1 .0), start .pre .1 .1 .1)
 
 enum-known-settled : tie.Need-enum-known-settled
 enum-known-settled c = search needs

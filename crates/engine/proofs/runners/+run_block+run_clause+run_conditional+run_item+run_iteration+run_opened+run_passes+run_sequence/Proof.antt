@@ -12,6 +12,7 @@ use Rattle.rules.specs.Text.{end, innermost, outer, levelsAt}
 use Rattle.rules.specs.Run.{run, conditional}
 use Rattle.working.specs.Settling.{handAt}
 use Rattle.working.proofs.WorkLaws.{hand-small}
+use Rattle.working.proofs.SettleLaws.{all-supplied}
 use Rattle.working.proofs.Answers.{next-reaches, run-settled, run-refused}
 use Rattle.blocks.specs.Clauses.{onChosen, ChosenIn, InsideAt}
 use Rattle.blocks.specs.declared.clauses.Chosen.{Chosen}
@@ -456,7 +457,9 @@ run-opened-returns t c =
     blocks-told (levelsAt (a .text .now)) (length (a .text .now)) (viewOf (a .table .now)) (a .hand .first .0) (a .hand .count) (a .level) (a .d .next) (opening (iterates (a .d .code)) (levelsAt (a .text .now)) (viewOf (a .table .now)) (handAt (a .hand)) (a .spot .position) (a .d) (a .d .next) (a .next .0) (a .spot .left)) (a .spot .left) (a .spot .at) (a .out .now) _ 5 (a .spot .position) (a .next .0) _ (c .refuse .ensures) (λ ks. settings-ill (viewOf (a .table .now)) (a .spot .position) (a .spot .left) (a .d) (handAt (a .hand) (a .next .0)) _ (sym (c .before .before .is-well-written .ensures) ∙ not-true _ (c .before .if1 .taken))) (c .before .before .before .before .before .before .before .pre .1 .1 .1 .1 .1) (c .before .before .before .before .before .before .before .pre .1 .1 .1 .0)
 
 run-opened-settle-directive-requires : (t : ℕ) → run-opened-lts.Need-settle-directive-requires (run-opened-claims t) (run-opened-at t) run-opened.Post
-run-opened-settle-directive-requires t c κs = search needs
+run-opened-settle-directive-requires t c κs =
+    let start = c .before .before .before .before .before .before in
+    (all-supplied (start .pre .1 .1 .0), start .pre .1 .1 .1 .0)
 
 run-opened-enum-known-settled : (t : ℕ) → run-opened-lts.Need-enum-known-settled (run-opened-claims t) (run-opened-at t) run-opened.Post
 run-opened-enum-known-settled t c = search needs

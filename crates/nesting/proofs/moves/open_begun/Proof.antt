@@ -4,6 +4,7 @@ use mathlib.Core.Bool.{true, false}
 use borrow.Author.Tests.{not-true, not-false}
 use Rattle.rules.proofs.Rowed.{written-suits}
 use Rattle.working.specs.Settling.{SettlesDirective}
+use Rattle.working.proofs.SettleLaws.{all-supplied}
 use Rattle.nesting.proofs.OpenLaws.{ready-hand, ready-next, passes-fit, open-ill, open-unsettled, open-settled}
 use borrow.Author.Needs.{needs}
 use Rattle.nesting.proofs.moves.open_begun.Statement.{statement}
@@ -27,7 +28,7 @@ returns : tie.Need-returns
 returns c = let a = c .before .before .before .before .before .before .before .before .args in open-ill (a .text .now) (a .table .now) (a .here) (a .nest) (a .d) (c .before .before .before .before .before .before .before .before .pre .1) (sym (c .before .before .is-well-written .ensures) ∙ not-true _ (c .before .if1 .taken)) (c .over .ensures)
 
 settle-directive-requires : tie.Need-settle-directive-requires
-settle-directive-requires c κs = let a = c .before .before .before .before .before .before .before .args in (ready-hand (a .text .now) (a .table .now) (a .here) (a .nest) (a .d) (c .before .before .before .before .before .before .before .pre .1), ready-next (a .text .now) (a .table .now) (a .here) (a .nest) (a .d) (c .before .before .before .before .before .before .before .pre .1))
+settle-directive-requires c κs = let a = c .before .before .before .before .before .before .before .args in (all-supplied (ready-hand (a .text .now) (a .table .now) (a .here) (a .nest) (a .d) (c .before .before .before .before .before .before .before .pre .1)), ready-next (a .text .now) (a .table .now) (a .here) (a .nest) (a .d) (c .before .before .before .before .before .before .before .pre .1))
 
 enum-known-settled : tie.Need-enum-known-settled
 enum-known-settled c = search needs

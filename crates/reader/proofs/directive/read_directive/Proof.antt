@@ -97,7 +97,11 @@ loop-again c =
 close-parameters-requires : tie.Need-close-parameters-requires Inv-loop μ-loop
 close-parameters-requires c κs =
     let head = c .before .before .before .before .before .before in
-    omega (arith, head .loop .inv .few, head .loop .inv .within)
+    let by-read-parameter = c .before .before .before .before .before in
+    let by-r = c .before .before .before in (
+      omega (arith, head .loop .inv .few, head .loop .inv .within),
+      (parameter-ends _ _ _ (by-read-parameter .read-parameter .ensures) (by-r .r .given .1)) .empty,
+    )
 
 read-code-requires : tie.Need-read-code-requires Inv-loop μ-loop
 read-code-requires c κs =

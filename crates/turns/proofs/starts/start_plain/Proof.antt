@@ -4,9 +4,6 @@ use Rattle.turns.proofs.StartBy.{start-by, start-refused}
 use Rattle.turns.proofs.starts.start_plain.Statement.{statement}
 use Rattle.turns.proofs.starts.start_plain.Tie as tie
 
-row-in-requires : tie.Need-row-in-requires
-row-in-requires c κs = search needs
-
 settle-fixed-requires : tie.Need-settle-fixed-requires
 settle-fixed-requires c κs = search needs
 
@@ -21,19 +18,20 @@ enum-known-settled-2 c = search needs
 
 returns : tie.Need-returns
 returns c =
-    let a = c .before .before .before .before .before .before .before .before .before .args in
-    start-by (a .kinds .now) (a .d) (a .next .0) (c .before .before .before .before .before .before .before .before .before .pre .0) (c .before .before .before .before .before .before .before .before .before .pre .1 .0 .0) (c .before .before .before .before .before .before .before .before .before .pre .1 .0 .1) (rw (c .before .before .before .before .before .before .before .row-in .ensures) at (c .before .before .before .before .settle-fixed .ensures)) (c .before .before .settled .given .1) (c .start-settled .ensures)
+    let start = c .before .before .before .before .before .before in
+    let a = start .args in
+    start-by (a .kinds .now) (a .d) (a .next .0) (start .pre .0) (start .pre .1 .0 .0) (start .pre .1 .0 .1) (c .before .before .before .before .settle-fixed .ensures) (c .before .before .settled .given .1) (c .start-settled .ensures)
 
 returns-2 : tie.Need-returns-2
 returns-2 c =
-    let a = c .before .before .before .before .before .before .before .before .args in
-    start-refused (a .kinds .now) (a .d) (a .next .0) (c .before .before .before .before .before .before .before .before .pre .0) (c .before .before .before .before .before .before .before .before .pre .1 .0 .0) (c .before .before .before .before .before .before .before .before .pre .1 .0 .1) (rw (c .before .before .before .before .before .before .row-in .ensures) at (c .before .before .before .settle-fixed .ensures)) (c .before .settled2 .given .1)
+    let start = c .before .before .before .before .before in
+    let a = start .args in
+    start-refused (a .kinds .now) (a .d) (a .next .0) (start .pre .0) (start .pre .1 .0 .0) (start .pre .1 .0 .1) (c .before .before .before .settle-fixed .ensures) (c .before .settled2 .given .1)
 
 pub start-plain-spec : {M : Type 1} → statement M
 start-plain-spec =
     tie.close
     (tie.spec
-    row-in-requires
     settle-fixed-requires
     enum-known-settled
     start-settled-requires

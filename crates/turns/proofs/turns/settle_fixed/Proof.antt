@@ -4,23 +4,29 @@ use Rattle.turns.proofs.TurnBy.{fixed-supplied, settled-on}
 use Rattle.turns.proofs.turns.settle_fixed.Statement.{statement}
 use Rattle.turns.proofs.turns.settle_fixed.Tie as tie
 
-sub-settle : tie.Need-sub-settle
-sub-settle c = search needs
+sub-settle-directive : tie.Need-sub-settle-directive
+sub-settle-directive c = search needs
 
-part-settle-start : tie.Need-part-settle-start
-part-settle-start c = search needs
+part-settle-directive-start : tie.Need-part-settle-directive-start
+part-settle-directive-start c = search needs
 
-part-settle-end : tie.Need-part-settle-end
-part-settle-end c = search needs
+part-settle-directive-end : tie.Need-part-settle-directive-end
+part-settle-directive-end c = search needs
 
-settle-requires : tie.Need-settle-requires
-settle-requires c κs =
-    (fixed-supplied (c .before .before .args .ps) (c .before .before .pre .0), c .before .before .pre .1)
+settle-directive-requires : tie.Need-settle-directive-requires
+settle-directive-requires c κs =
+    (fixed-supplied (c .before .before .args .d .parameters) (c .before .before .pre .0), c .before .before .pre .1)
 
 returns : tie.Need-returns
 returns c =
-    settled-on (c .before .before .before .pre .0) (c .settle .ensures)
+    settled-on (c .before .before .before .pre .0) (c .settle-directive .ensures .in-places)
 
 pub settle-fixed-spec : {M : Type 1} → statement M
 settle-fixed-spec =
-    tie.close (tie.spec sub-settle part-settle-start part-settle-end settle-requires returns)
+    tie.close
+    (tie.spec
+    sub-settle-directive
+    part-settle-directive-start
+    part-settle-directive-end
+    settle-directive-requires
+    returns)

@@ -4,9 +4,6 @@ use Rattle.turns.proofs.TurnBy.{settled-well, turn-worked, turn-refused
 use Rattle.turns.proofs.turns.turn_form.Statement.{statement}
 use Rattle.turns.proofs.turns.turn_form.Tie as tie
 
-form-row-requires : tie.Need-form-row-requires
-form-row-requires c κs = search needs
-
 settle-fixed-requires : tie.Need-settle-fixed-requires
 settle-fixed-requires c κs = search needs
 
@@ -15,27 +12,29 @@ enum-known-settled c = search needs
 
 turn-settled-requires : tie.Need-turn-settled-requires
 turn-settled-requires c κs =
-    let a = c .before .before .before .before .before .before .before .before .args in
-    (settled-well (a .kinds .now) (a .longest) (a .form) (a .d) (a .next .0) (c .before .before .before .before .before .before .before .before .pre .0) (rw (c .before .before .before .before .before .before .form-row .ensures) at (c .before .before .before .settle-fixed .ensures)) (c .before .settled .given .1), c .before .before .before .before .before .before .before .before .pre .1)
+    let start = c .before .before .before .before .before in
+    let a = start .args in
+    (settled-well (a .kinds .now) (a .longest) (a .form) (a .d) (a .next .0) (start .pre .0) (rw (start .pre .0 .code) at (c .before .before .before .settle-fixed .ensures)) (c .before .settled .given .1), start .pre .1)
 
 enum-known-settled-2 : tie.Need-enum-known-settled-2
 enum-known-settled-2 c = search needs
 
 returns : tie.Need-returns
 returns c =
-    let a = c .before .before .before .before .before .before .before .before .before .args in
-    turn-worked (a .kinds .now) (a .longest) (a .form) (a .d) (a .next .0) (c .before .before .before .before .before .before .before .before .before .pre .0) (rw (c .before .before .before .before .before .before .before .form-row .ensures) at (c .before .before .before .before .settle-fixed .ensures)) (c .before .before .settled .given .1) (c .turn-settled .ensures)
+    let start = c .before .before .before .before .before .before in
+    let a = start .args in
+    turn-worked (a .kinds .now) (a .longest) (a .form) (a .d) (a .next .0) (start .pre .0) (rw (start .pre .0 .code) at (c .before .before .before .before .settle-fixed .ensures)) (c .before .before .settled .given .1) (c .turn-settled .ensures)
 
 returns-2 : tie.Need-returns-2
 returns-2 c =
-    let a = c .before .before .before .before .before .before .before .before .args in
-    turn-refused (a .kinds .now) (a .longest) (a .form) (a .d) (a .next .0) (c .before .before .before .before .before .before .before .before .pre .0) (rw (c .before .before .before .before .before .before .form-row .ensures) at (c .before .before .before .settle-fixed .ensures)) (c .before .settled2 .given .1)
+    let start = c .before .before .before .before .before in
+    let a = start .args in
+    turn-refused (a .kinds .now) (a .longest) (a .form) (a .d) (a .next .0) (start .pre .0) (rw (start .pre .0 .code) at (c .before .before .before .settle-fixed .ensures)) (c .before .settled2 .given .1)
 
 pub turn-form-spec : {M : Type 1} → statement M
 turn-form-spec =
     tie.close
     (tie.spec
-    form-row-requires
     settle-fixed-requires
     enum-known-settled
     turn-settled-requires

@@ -1,0 +1,28 @@
+-- `fits_places` meets its contract: without parameters, and with them by the row. Assumes nothing.
+use mathlib.Core.Path.{sym}
+use borrow.Author.Needs.{needs}
+use Rattle.rules.specs.Rows.{placesIn}
+use Rattle.fitting.proofs.Tests.{bare-fits}
+use Rattle.fitting.proofs.places.fits_places.Statement.{statement}
+use Rattle.fitting.proofs.places.fits_places.Tie as tie
+
+is-bare-requires : tie.Need-is-bare-requires
+is-bare-requires c κs = search needs
+
+returns : tie.Need-returns
+returns c =
+    rw (c .before .is-bare .ensures (c .if1 .taken)) (sym (bare-fits (placesIn (c .before .before .before .args .d))))
+
+row-in-requires : tie.Need-row-in-requires
+row-in-requires c κs = search needs
+
+fits-into-requires : tie.Need-fits-into-requires
+fits-into-requires c κs = search needs
+
+returns-2 : tie.Need-returns-2
+returns-2 c =
+    rw (c .fits-into .ensures, c .before .before .row-in .ensures)
+
+pub fits-places-spec : {M : Type 1} → statement M
+fits-places-spec =
+    tie.close (tie.spec is-bare-requires returns row-in-requires fits-into-requires returns-2)
