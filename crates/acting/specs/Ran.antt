@@ -9,10 +9,12 @@ use Rattle.rules.specs.Working.{Context}
 use Rattle.rules.specs.Flow.{Gives, Lacks}
 use Rattle.rules.specs.Run.{Flow, refused, itemActs}
 use Rattle.rules.specs.declared.Item.{Item}
+use Rattle.working.specs.Settling.{InHand}
 use Rattle.acting.specs.declared.state.Stop.{Stop}
 use Rattle.acting.specs.declared.state.Stop.the-variants.{Ended, Left, Refused}
 use Rattle.acting.specs.declared.state.Ran.{Ran}
 use Rattle.acting.specs.declared.state.Spot.{Spot}
+use Rattle.acting.specs.declared.state.Stand.{Stand}
 
 -- a refusal, and an end after which the text goes on at a place
 abbrev pub refusedRan : ℕ → ℕ → ℕ → ℕ → ℕ → ℕ → Ran
@@ -24,6 +26,13 @@ endedRan i left at place = record { stop = Ended; next = record { 0 = i }; left 
 -- a directive, begun: a step less is left
 abbrev pub begun : Spot → Spot
 begun spot = record { position = spot .position; place = spot .place; left = spot .left - 1; at = spot .at }
+
+-- a run can go on so, over the table t and in the buffer b
+pub record Stands (t : List ℕ) (stand : Stand) (b : List ℕ) : Type 0 where
+  pub held : InHand t (stand .hand)
+  -- the next argument is one of those in hand, or the end of them
+  pub reaches : stand .next .0 ≤ stand .hand .count
+  pub written : stand .at ≤ length b
 
 -- what comes after a run that stopped so: `on` where it ended and `out` where it was left, by the steps that are left
 -- and the next argument

@@ -1,5 +1,6 @@
 // Where a run stands, and how it stops.
 use rules::ArgumentPosition;
+use working::Hand;
 ghost use mathlib.Core.Path.{_≡_};
 ghost use Prim.Native.Nat.{_<_};
 ghost use Rattle.acting.specs.Ran.{refusedRan, endedRan, begun};
@@ -26,6 +27,15 @@ pub struct Ran {
 pub struct Spot {
     pub position: usize,
     pub place: usize,
+    pub left: usize,
+    pub at: usize,
+}
+
+// What a run goes on with: the arguments in hand with the next of them, the steps that are left and the end of what is
+// written.
+pub struct Stand {
+    pub hand: Hand,
+    pub next: ArgumentPosition,
     pub left: usize,
     pub at: usize,
 }

@@ -1,6 +1,7 @@
 // A whole call of format: the table is checked, then the text, and then the text is run.
 use crate::runners::run_sequence;
 use acting::state::Ran;
+use acting::state::Stand;
 use acting::state::Stop;
 use blocks::landmarks::CELLS;
 use blocks::landmarks::EMPTY;
@@ -76,18 +77,13 @@ fn run_long(format: &[u8], table: &[u8], out: &mut [u8]) -> Outcome
         first: EntryIndex(0),
         count: argument_count(table),
     };
-    let r = run_sequence(
-        format,
-        &marks,
-        table,
-        DEEPEST,
-        0,
+    let first = Stand {
         hand,
-        ArgumentPosition(0),
-        MOST_STEPS,
-        out,
-        0,
-    );
+        next: ArgumentPosition(0),
+        left: MOST_STEPS,
+        at: 0,
+    };
+    let r = run_sequence(format, &marks, table, DEEPEST, 0, first, out);
     outcome_of(r)
 }
 
@@ -104,18 +100,13 @@ fn run_text(format: &[u8], table: &[u8], out: &mut [u8]) -> Outcome
         first: EntryIndex(0),
         count: argument_count(table),
     };
-    let r = run_sequence(
-        format,
-        &[],
-        table,
-        DEEPEST,
-        0,
+    let first = Stand {
         hand,
-        ArgumentPosition(0),
-        MOST_STEPS,
-        out,
-        0,
-    );
+        next: ArgumentPosition(0),
+        left: MOST_STEPS,
+        at: 0,
+    };
+    let r = run_sequence(format, &[], table, DEEPEST, 0, first, out);
     outcome_of(r)
 }
 

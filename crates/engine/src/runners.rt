@@ -3,6 +3,7 @@
 // of the text, if it has any.
 use acting::state::Ran;
 use acting::state::Spot;
+use acting::state::Stand;
 use acting::state::Stop;
 use acting::state::begin;
 use acting::state::refuse;
@@ -40,6 +41,7 @@ ghost use Rattle.rules.specs.Table.{viewOf};
 ghost use Rattle.rules.specs.Text.{levelsAt};
 ghost use Rattle.rules.specs.declared.Item.the-variants.{Written};
 ghost use Rattle.working.specs.Settling.{InHand, handAt};
+ghost use Rattle.acting.specs.Ran.{Stands};
 ghost use Rattle.running.specs.Runs.{Runs, Steps, Blocks, Passes, RunsClause, EndsBlock, picking, entering, opening};
 ghost use Rattle.blocks.specs.Clauses.{InsideAt};
 ghost use Rattle.blocks.specs.Landmarks.{Landmarks};
@@ -54,30 +56,39 @@ pub fn run_sequence(
     table: &[u8],
     level: usize,
     start: usize,
-    hand: Hand,
-    first: ArgumentPosition,
-    most: usize,
+    first: Stand,
     out: &mut [u8],
-    from: usize,
 ) -> Ran
     requires { ⌜ Landmarks (now text) (now marks) ⌝ }
-    requires { ⌜ InHand (now table) hand ⌝ }
-    requires { ⌜ first .0 ≤ hand .count ⌝ }
+    requires { ⌜ Stands (now table) first (now out) ⌝ }
     requires { ⌜ start ≤ length (now text) ⌝ }
-    requires { ⌜ from ≤ length (now out) ⌝ }
-    ensures { λ r. ⌜ Runs (levelsAt (now (text .entry))) (length (now (text .entry))) (viewOf (now (table .entry))) (handAt hand) level start (first .0) most from (now (out .entry)) (now (out .exit)) r ⌝ }
+    ensures { λ r. ⌜ Runs (levelsAt (now (text .entry))) (length (now (text .entry))) (viewOf (now (table .entry))) (handAt (first .hand)) level start (first .next .0) (first .left) (first .at) (now (out .entry)) (now (out .exit)) r ⌝ }
 {
+    let hand = first.hand;
     let mut p = start;
-    let mut next = first;
-    let mut left = most;
-    let mut at = from;
+    let mut next = first.next;
+    let mut left = first.left;
+    let mut at = first.at;
     loop {
-        let s = run_short(text, table, p, hand, next, left, out, at);
+        let stand = Stand {
+            hand,
+            next,
+            left,
+            at,
+        };
+        let s = run_short(text, table, p, stand, out);
         let item = item_after(text, s);
         if ends_here(item) {
             return s;
         }
-        let r = run_item(text, marks, table, level, s, item, hand, out);
+        let after = s.next;
+        let met = Stand {
+            hand,
+            next: after,
+            left: s.left,
+            at: s.at,
+        };
+        let r = run_item(text, marks, table, level, s.place, item, met, out);
         if !has_ended(r) {
             return r;
         }
@@ -117,39 +128,34 @@ fn spot_at(position: usize, place: usize, left: usize, at: usize) -> Spot
     }
 }
 
-// The item at which s ended, which does not end its sequence.
+// The item at p, which does not end its sequence.
 fn run_item(
     text: &[u8],
     marks: &[u16],
     table: &[u8],
     level: usize,
-    s: Ran,
+    p: usize,
     item: Item,
-    hand: Hand,
+    stand: Stand,
     out: &mut [u8],
 ) -> Ran
     requires { ⌜ Landmarks (now text) (now marks) ⌝ }
-    requires { ⌜ InHand (now table) hand ⌝ }
-    requires { ⌜ s .next .0 ≤ hand .count ⌝ }
-    requires { ⌜ itemAt (now text) (s .place) ≡ item ⌝ }
+    requires { ⌜ Stands (now table) stand (now out) ⌝ }
+    requires { ⌜ itemAt (now text) p ≡ item ⌝ }
     requires { ⌜ endsAt item ≡ false ⌝ }
-    requires { ⌜ s .at ≤ length (now out) ⌝ }
-    ensures { λ r. ⌜ Steps (levelsAt (now (text .entry))) (length (now (text .entry))) (viewOf (now (table .entry))) (handAt hand) level (s .place) (s .next .0) (s .left) (s .at) (now (out .entry)) (now (out .exit)) r ⌝ }
+    ensures { λ r. ⌜ Steps (levelsAt (now (text .entry))) (length (now (text .entry))) (viewOf (now (table .entry))) (handAt (stand .hand)) level p (stand .next .0) (stand .left) (stand .at) (now (out .entry)) (now (out .exit)) r ⌝ }
 {
-    let p = s.place;
-    let next = s.next;
-    let left = s.left;
-    let at = s.at;
+    let next = stand.next;
     match item {
-        Item::Literal(byte) => put_literal(p, byte, hand, next, left, out, at),
+        Item::Literal(byte) => put_literal(p, byte, stand, out),
         Item::Written(d) => {
             let code = d.code;
             if opens_block(code) {
-                return run_block(text, marks, table, level, p, d, hand, next, left, out, at);
+                return run_block(text, marks, table, level, p, d, stand, out);
             }
-            act(p, d, table, hand, next, left, out, at)
+            act(p, d, table, stand, out)
         }
-        _ => refuse(spot_at(p, p, left, at), 4, next),
+        _ => refuse(spot_at(p, p, stand.left, stand.at), 4, next),
     }
 }
 
@@ -161,25 +167,22 @@ fn run_block(
     level: usize,
     p: usize,
     d: Directive,
-    hand: Hand,
-    next: ArgumentPosition,
-    left: usize,
+    stand: Stand,
     out: &mut [u8],
-    at: usize,
 ) -> Ran
     requires { ⌜ Landmarks (now text) (now marks) ⌝ }
-    requires { ⌜ InHand (now table) hand ⌝ }
-    requires { ⌜ next .0 ≤ hand .count ⌝ }
+    requires { ⌜ Stands (now table) stand (now out) ⌝ }
     requires { ⌜ itemAt (now text) p ≡ Written d ⌝ }
     requires { ⌜ opensBlock (d .code) ≡ true ⌝ }
-    requires { ⌜ at ≤ length (now out) ⌝ }
-    ensures { λ r. ⌜ Steps (levelsAt (now (text .entry))) (length (now (text .entry))) (viewOf (now (table .entry))) (handAt hand) level p (next .0) left at (now (out .entry)) (now (out .exit)) r ⌝ }
+    ensures { λ r. ⌜ Steps (levelsAt (now (text .entry))) (length (now (text .entry))) (viewOf (now (table .entry))) (handAt (stand .hand)) level p (stand .next .0) (stand .left) (stand .at) (now (out .entry)) (now (out .exit)) r ⌝ }
 {
-    let spot = spot_at(p, d.next, left, at);
+    let hand = stand.hand;
+    let next = stand.next;
+    let spot = spot_at(p, d.next, stand.left, stand.at);
     if level == 0 {
         return refuse(spot, 4, next);
     }
-    if left == 0 {
+    if stand.left == 0 {
         return refuse(spot, 9, next);
     }
     let begun = begin(spot);
@@ -244,7 +247,13 @@ fn run_conditional(
     let chosen = choose_clause(text, marks, table, hand, d, settings, i);
     match chosen {
         Chosen::At { place, next: j } => {
-            run_clause(text, marks, table, level, spot, d.next, place, hand, j, out)
+            let stand = Stand {
+                hand,
+                next: j,
+                left: spot.left,
+                at: spot.at,
+            };
+            run_clause(text, marks, table, level, d.next, place, stand, out)
         }
         Chosen::Nothing { inside, next: j } => end_block(text, marks, spot, d.next, inside, j),
         Chosen::Wrong(code) => refuse(spot, code, i),
@@ -274,38 +283,23 @@ fn end_block(
     }
 }
 
-// The clause at z of the block whose inside is at q, with next as the next argument.
+// The clause at z of the block whose inside is at q.
 fn run_clause(
     text: &[u8],
     marks: &[u16],
     table: &[u8],
     level: usize,
-    spot: Spot,
     q: usize,
     z: usize,
-    hand: Hand,
-    next: ArgumentPosition,
+    stand: Stand,
     out: &mut [u8],
 ) -> Ran
     requires { ⌜ Landmarks (now text) (now marks) ⌝ }
-    requires { ⌜ InHand (now table) hand ⌝ }
-    requires { ⌜ next .0 ≤ hand .count ⌝ }
+    requires { ⌜ Stands (now table) stand (now out) ⌝ }
     requires { ⌜ InsideAt (now text) q z ⌝ }
-    requires { ⌜ spot .at ≤ length (now out) ⌝ }
-    ensures { λ r. ⌜ RunsClause (levelsAt (now (text .entry))) (length (now (text .entry))) (viewOf (now (table .entry))) (handAt hand) level q z (next .0) (spot .left) (spot .at) (now (out .entry)) (now (out .exit)) r ⌝ }
+    ensures { λ r. ⌜ RunsClause (levelsAt (now (text .entry))) (length (now (text .entry))) (viewOf (now (table .entry))) (handAt (stand .hand)) level q z (stand .next .0) (stand .left) (stand .at) (now (out .entry)) (now (out .exit)) r ⌝ }
 {
-    let r = run_sequence(
-        text,
-        marks,
-        table,
-        level,
-        z,
-        hand,
-        next,
-        spot.left,
-        out,
-        spot.at,
-    );
+    let r = run_sequence(text, marks, table, level, z, stand, out);
     let stop = r.stop;
     let after = r.next;
     match stop {
@@ -349,17 +343,22 @@ fn run_iteration(
     match over {
         Over::Wrong(code) => refuse(spot, code, i),
         Over::Is { hand: inner, first } => {
+            let stand = Stand {
+                hand: inner,
+                next: first,
+                left: spot.left,
+                at: spot.at,
+            };
             // the passes are called at one place: a second one would take as much stack again
             let r = run_passes(
                 text,
                 marks,
                 table,
                 level,
-                spot,
+                spot.position,
                 d.next,
                 limit,
-                inner,
-                first,
+                stand,
                 out,
             );
             let stop = r.stop;
@@ -375,29 +374,28 @@ fn run_iteration(
     }
 }
 
-// The passes of the iteration whose inside is at q. Where they stand is said by a spot whose place is one in the block.
+// The passes of the iteration at p whose inside is at q. Where they stand is said by a spot whose place is one in the
+// block.
 fn run_passes(
     text: &[u8],
     marks: &[u16],
     table: &[u8],
     level: usize,
-    spot: Spot,
+    p: usize,
     q: usize,
     limit: Setting,
-    hand: Hand,
-    first: ArgumentPosition,
+    first: Stand,
     out: &mut [u8],
 ) -> Ran
     requires { ⌜ Landmarks (now text) (now marks) ⌝ }
-    requires { ⌜ InHand (now table) hand ⌝ }
-    requires { ⌜ first .0 ≤ hand .count ⌝ }
+    requires { ⌜ Stands (now table) first (now out) ⌝ }
     requires { ⌜ q ≤ length (now text) ⌝ }
-    requires { ⌜ spot .at ≤ length (now out) ⌝ }
-    ensures { λ r. ⌜ Passes (levelsAt (now (text .entry))) (length (now (text .entry))) (viewOf (now (table .entry))) (handAt hand) level (spot .position) q (first .0) limit (spot .left) (spot .at) (now (out .entry)) (now (out .exit)) r ⌝ }
+    ensures { λ r. ⌜ Passes (levelsAt (now (text .entry))) (length (now (text .entry))) (viewOf (now (table .entry))) (handAt (first .hand)) level p q (first .next .0) limit (first .left) (first .at) (now (out .entry)) (now (out .exit)) r ⌝ }
 {
+    let hand = first.hand;
     let mut passes = limit;
-    let mut next = first;
-    let mut on = spot_at(spot.position, q, spot.left, spot.at);
+    let mut next = first.next;
+    let mut on = spot_at(p, q, first.left, first.at);
     loop {
         if is_over(passes, next, hand) {
             return end_block(text, marks, on, q, on.place, next);
@@ -405,8 +403,14 @@ fn run_passes(
         if on.left == 0 {
             return refuse(on, 9, next);
         }
-        let s = begin(on);
-        let r = run_sequence(text, marks, table, level, q, hand, next, s.left, out, s.at);
+        let begun = begin(on);
+        let stand = Stand {
+            hand,
+            next,
+            left: begun.left,
+            at: begun.at,
+        };
+        let r = run_sequence(text, marks, table, level, q, stand, out);
         if !has_ended(r) {
             return leave_passes(text, marks, q, on.place, r);
         }

@@ -10,6 +10,7 @@ use crate::giving::stepped;
 use acting::acting::act_jump;
 use acting::state::Ran;
 use acting::state::Spot;
+use acting::state::Stand;
 use acting::state::Stop;
 use blocks::ends::element_at;
 use blocks::ends::ends_here;
@@ -138,7 +139,13 @@ fn run_ahead(
     let hand = here.hand;
     let next = here.next;
     if given == 0 {
-        return unhold(run_short(text, table, here.place, hand, next, here.left, window, at));
+        let stand = Stand {
+            hand,
+            next,
+            left: here.left,
+            at,
+        };
+        return unhold(run_short(text, table, here.place, stand, window));
     }
     Ran {
         stop: Stop::Ended,

@@ -3,6 +3,7 @@ use acting::acting::act_form;
 use acting::acting::act_jump;
 use acting::state::Ran;
 use acting::state::Spot;
+use acting::state::Stand;
 use acting::state::Stop;
 use acting::state::begin;
 use acting::state::go_on;
@@ -19,33 +20,28 @@ ghost use Rattle.rules.specs.Letters.{letter};
 ghost use Rattle.rules.specs.Table.{View, viewOf};
 ghost use Rattle.rules.specs.Text.{Level};
 ghost use Rattle.rules.specs.declared.Item.the-variants.{Literal};
-ghost use Rattle.working.specs.Settling.{InHand, handAt};
+ghost use Rattle.working.specs.Settling.{handAt};
+ghost use Rattle.acting.specs.Ran.{Stands};
 ghost use Rattle.running.specs.Runs.{ActsAt, AloneAt, Ahead, Steps};
 ghost use Rattle.stepping.specs.Stepping.{isEnded, escaped, ActsAlone, PutsLiterals};
 
 // A literal byte of the position p, wherever it stands: the place may be one of the text or of what it was read into.
-pub fn put_literal(
-    p: usize,
-    byte: u8,
-    hand: Hand,
-    next: ArgumentPosition,
-    left: usize,
-    out: &mut [u8],
-    at: usize,
-) -> Ran
-    requires { ⌜ next .0 ≤ hand .count ⌝ }
-    requires { ⌜ at ≤ length (now out) ⌝ }
+pub fn put_literal(p: usize, byte: u8, stand: Stand, out: &mut [u8]) -> Ran
+    requires { ⌜ stand .next .0 ≤ stand .hand .count ⌝ }
+    requires { ⌜ stand .at ≤ length (now out) ⌝ }
     requires { ⌜ p < 18446744073709551615 ⌝ }
-    ensures { λ r. ⌜ ((s : ℕ → List Level) (n : ℕ) (v : View) (level here : ℕ) → ActsAt s here p (Literal byte) (p + 1) → Ahead n here (p + 1) → Steps s n v (handAt hand) level here (next .0) left at (now (out .entry)) (now (out .exit)) r) ⌝ }
+    ensures { λ r. ⌜ ((s : ℕ → List Level) (n : ℕ) (v : View) (level here : ℕ) → ActsAt s here p (Literal byte) (p + 1) → Ahead n here (p + 1) → Steps s n v (handAt (stand .hand)) level here (stand .next .0) (stand .left) (stand .at) (now (out .entry)) (now (out .exit)) r) ⌝ }
 {
+    let next = stand.next;
+    let at = stand.at;
     let place = p + 1;
     let met = Spot {
         position: p,
         place,
-        left,
+        left: stand.left,
         at,
     };
-    if left == 0 {
+    if stand.left == 0 {
         return refuse(met, 9, next);
     }
     let spot = begin(met);
@@ -103,31 +99,21 @@ fn escape(spot: Spot, hand: Hand, next: ArgumentPosition) -> Ran
 }
 
 // A directive of the position p that opens no block and ends no sequence, wherever it stands.
-pub fn act(
-    p: usize,
-    d: Directive,
-    table: &[u8],
-    hand: Hand,
-    next: ArgumentPosition,
-    left: usize,
-    out: &mut [u8],
-    at: usize,
-) -> Ran
+pub fn act(p: usize, d: Directive, table: &[u8], stand: Stand, out: &mut [u8]) -> Ran
     requires { ⌜ ActsAlone (d .code) ⌝ }
-    requires { ⌜ InHand (now table) hand ⌝ }
-    requires { ⌜ next .0 ≤ hand .count ⌝ }
-    requires { ⌜ at ≤ length (now out) ⌝ }
-    ensures { λ r. ⌜ ((s : ℕ → List Level) (n level here : ℕ) → AloneAt s here p d (d .code) → Ahead n here (d .next) → Steps s n (viewOf (now (table .entry))) (handAt hand) level here (next .0) left at (now (out .entry)) (now (out .exit)) r) ⌝ }
+    requires { ⌜ Stands (now table) stand (now out) ⌝ }
+    ensures { λ r. ⌜ ((s : ℕ → List Level) (n level here : ℕ) → AloneAt s here p d (d .code) → Ahead n here (d .next) → Steps s n (viewOf (now (table .entry))) (handAt (stand .hand)) level here (stand .next .0) (stand .left) (stand .at) (now (out .entry)) (now (out .exit)) r) ⌝ }
 {
     let code = d.code;
-    let place = d.next;
+    let hand = stand.hand;
+    let next = stand.next;
     let met = Spot {
         position: p,
-        place,
-        left,
-        at,
+        place: d.next,
+        left: stand.left,
+        at: stand.at,
     };
-    if left == 0 {
+    if stand.left == 0 {
         return refuse(met, 9, next);
     }
     let spot = begin(met);

@@ -7,6 +7,7 @@ use acting::direct::put_run;
 use acting::direct::put_text;
 use acting::state::Ran;
 use acting::state::Spot;
+use acting::state::Stand;
 use acting::state::Stop;
 use acting::state::begin;
 use acting::state::refuse;
@@ -38,6 +39,7 @@ ghost use Rattle.reader.specs.declared.short.Short.the-variants.{Other};
 ghost use Rattle.acting.specs.Acting.{Untouched};
 ghost use Rattle.acting.specs.declared.state.Stop.the-variants.{Ended, Left};
 ghost use Rattle.working.specs.Settling.{InHand, handAt};
+ghost use Rattle.acting.specs.Ran.{Stands};
 ghost use Rattle.rules.specs.Directive.{FormRight};
 ghost use Rattle.running.specs.Runs.{ActsAt, Ahead, Steps, Strides};
 ghost use Rattle.stepping.specs.Stepping.{WritesShort, NotShort, Unbegun, HeldUp};
@@ -168,28 +170,25 @@ fn act_short(
     byte: usize,
     place: usize,
     table: &[u8],
-    hand: Hand,
-    next: ArgumentPosition,
-    left: usize,
+    stand: Stand,
     out: &mut [u8],
-    at: usize,
 ) -> Ran
     requires { ⌜ FormRight (shortForm kind detail) ⌝ }
     requires { ⌜ ShortIn (briefOf kind detail) (settingOf 4097 number) (settingOf 256 byte) ⌝ }
-    requires { ⌜ InHand (now table) hand ⌝ }
-    requires { ⌜ next .0 ≤ hand .count ⌝ }
-    requires { ⌜ at ≤ length (now out) ⌝ }
-    ensures steps { λ r. ⌜ ((s : ℕ → List Level) (n level here : ℕ) → ActsAt s here p (Written (shortDirective (shortForm kind detail) (settingOf 4097 number) (settingOf 256 byte) place)) place → Ahead n here place → Steps s n (viewOf (now (table .entry))) (handAt hand) level here (next .0) left at (now (out .entry)) (now (out .exit)) r) ⌝ }
-    ensures held { λ r. ⌜ Unbegun p (next .0) left at (now (out .entry)) (now (out .exit)) r ⌝ }
+    requires { ⌜ Stands (now table) stand (now out) ⌝ }
+    ensures steps { λ r. ⌜ ((s : ℕ → List Level) (n level here : ℕ) → ActsAt s here p (Written (shortDirective (shortForm kind detail) (settingOf 4097 number) (settingOf 256 byte) place)) place → Ahead n here place → Steps s n (viewOf (now (table .entry))) (handAt (stand .hand)) level here (stand .next .0) (stand .left) (stand .at) (now (out .entry)) (now (out .exit)) r) ⌝ }
+    ensures held { λ r. ⌜ Unbegun p (stand .next .0) (stand .left) (stand .at) (now (out .entry)) (now (out .exit)) r ⌝ }
     ensures stays { λ r. ⌜ (r .stop ≡ Left → ⊥) ⌝ }
 {
+    let hand = stand.hand;
+    let next = stand.next;
     let met = Spot {
         position: p,
         place,
-        left,
-        at,
+        left: stand.left,
+        at: stand.at,
     };
-    if left == 0 {
+    if stand.left == 0 {
         return refuse(met, 9, next);
     }
     let spot = begin(met);
@@ -200,32 +199,22 @@ fn act_short(
 }
 
 // The short directive at p; any other item is left for the general way.
-fn run_one(
-    text: &[u8],
-    table: &[u8],
-    p: usize,
-    hand: Hand,
-    next: ArgumentPosition,
-    left: usize,
-    out: &mut [u8],
-    at: usize,
-) -> Ran
-    requires { ⌜ InHand (now table) hand ⌝ }
-    requires { ⌜ next .0 ≤ hand .count ⌝ }
+fn run_one(text: &[u8], table: &[u8], p: usize, stand: Stand, out: &mut [u8]) -> Ran
+    requires { ⌜ Stands (now table) stand (now out) ⌝ }
     requires { ⌜ p ≤ length (now text) ⌝ }
-    requires { ⌜ at ≤ length (now out) ⌝ }
-    ensures strides { λ r. ⌜ ((level : ℕ) → Strides (levelsAt (now (text .entry))) (length (now (text .entry))) (viewOf (now (table .entry))) (handAt hand) level p (next .0) left at (now (out .entry)) (now (out .exit)) r) ⌝ }
-    ensures other { λ r. ⌜ (r .stop ≡ Ended → r .place ≡ p → (shortAt (now (text .entry)) p ≡ Other) × ((r .left ≡ left) × (r .at ≡ at))) ⌝ }
-    ensures held { λ r. ⌜ HeldUp (levelsAt (now (text .entry))) (length (now (text .entry))) (viewOf (now (table .entry))) (handAt hand) p (next .0) left at (now (out .entry)) (now (out .exit)) r ⌝ }
+    ensures strides { λ r. ⌜ ((level : ℕ) → Strides (levelsAt (now (text .entry))) (length (now (text .entry))) (viewOf (now (table .entry))) (handAt (stand .hand)) level p (stand .next .0) (stand .left) (stand .at) (now (out .entry)) (now (out .exit)) r) ⌝ }
+    ensures other { λ r. ⌜ (r .stop ≡ Ended → r .place ≡ p → (shortAt (now (text .entry)) p ≡ Other) × ((r .left ≡ stand .left) × (r .at ≡ stand .at))) ⌝ }
+    ensures held { λ r. ⌜ HeldUp (levelsAt (now (text .entry))) (length (now (text .entry))) (viewOf (now (table .entry))) (handAt (stand .hand)) p (stand .next .0) (stand .left) (stand .at) (now (out .entry)) (now (out .exit)) r ⌝ }
     ensures stays { λ r. ⌜ (r .stop ≡ Left → ⊥) ⌝ }
 {
+    let next = stand.next;
     let short = read_short(text, p);
     match short {
         Short::Other => Ran {
             stop: Stop::Ended,
             next,
-            left,
-            at,
+            left: stand.left,
+            at: stand.at,
             place: p,
         },
         Short::Is {
@@ -234,51 +223,34 @@ fn run_one(
             number,
             byte,
             next: place,
-        } => act_short(
-            p,
-            kind,
-            detail,
-            number,
-            byte,
-            place,
-            table,
-            hand,
-            next,
-            left,
-            out,
-            at,
-        ),
+        } => act_short(p, kind, detail, number, byte, place, table, stand, out),
     }
 }
 
 // The literal bytes and the short directives that stand from start on, all of them unless steps or room run out.
-pub fn run_short(
-    text: &[u8],
-    table: &[u8],
-    start: usize,
-    hand: Hand,
-    first: ArgumentPosition,
-    most: usize,
-    out: &mut [u8],
-    from: usize,
-) -> Ran
-    requires { ⌜ InHand (now table) hand ⌝ }
-    requires { ⌜ first .0 ≤ hand .count ⌝ }
+pub fn run_short(text: &[u8], table: &[u8], start: usize, first: Stand, out: &mut [u8]) -> Ran
+    requires { ⌜ Stands (now table) first (now out) ⌝ }
     requires { ⌜ start ≤ length (now text) ⌝ }
-    requires { ⌜ from ≤ length (now out) ⌝ }
-    ensures strides { λ r. ⌜ ((level : ℕ) → Strides (levelsAt (now (text .entry))) (length (now (text .entry))) (viewOf (now (table .entry))) (handAt hand) level start (first .0) most from (now (out .entry)) (now (out .exit)) r) ⌝ }
+    ensures strides { λ r. ⌜ ((level : ℕ) → Strides (levelsAt (now (text .entry))) (length (now (text .entry))) (viewOf (now (table .entry))) (handAt (first .hand)) level start (first .next .0) (first .left) (first .at) (now (out .entry)) (now (out .exit)) r) ⌝ }
     ensures all { λ r. ⌜ (r .stop ≡ Ended → 0 < r .left → r .place < length (now (text .entry)) → r .at < length (now (out .entry)) → NotShort (now (text .entry)) (r .place)) ⌝ }
-    ensures held { λ r. ⌜ HeldUp (levelsAt (now (text .entry))) (length (now (text .entry))) (viewOf (now (table .entry))) (handAt hand) start (first .0) most from (now (out .entry)) (now (out .exit)) r ⌝ }
+    ensures held { λ r. ⌜ HeldUp (levelsAt (now (text .entry))) (length (now (text .entry))) (viewOf (now (table .entry))) (handAt (first .hand)) start (first .next .0) (first .left) (first .at) (now (out .entry)) (now (out .exit)) r ⌝ }
     ensures stays { λ r. ⌜ (r .stop ≡ Left → ⊥) ⌝ }
 {
     let mut p = start;
-    let mut next = first;
-    let mut left = most;
-    let mut at = from;
+    let hand = first.hand;
+    let mut next = first.next;
+    let mut left = first.left;
+    let mut at = first.at;
     loop {
         let k = put_literals(text, p, left, out, at);
         p += k;
-        let r = run_one(text, table, p, hand, next, left - k, out, at + k);
+        let met = Stand {
+            hand,
+            next,
+            left: left - k,
+            at: at + k,
+        };
+        let r = run_one(text, table, p, met, out);
         let stop = r.stop;
         if !is_ended(stop) {
             return r;

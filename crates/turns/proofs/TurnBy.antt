@@ -7,7 +7,7 @@ use mathlib.Core.List.{List}
 use native.Mathlib.Omega.{arith}
 use lib.ListN.{length}
 use borrow.Author.Tests.{lt-ltb, le-ltb, eq-eqb, ne-eqb}
-use Rattle.rules.specs.Act.{actFrom as useFrom}
+use Rattle.rules.specs.Act.{actFrom}
 use Rattle.rules.specs.Piece.{glyphOf, textOf, kindOf}
 use Rattle.rules.specs.Rows.{formRow, formPlaces, inRow, inOrder, accepts}
 use Rattle.rules.specs.Table.{Value, boolean, character}
@@ -80,23 +80,23 @@ module _ (longest : ℕ) (f : Form) (d : Directive) (s : Settings) (kind after :
 
 -- the argument by where it comes from
 module _ (kinds : List ℕ) (longest : ℕ) (f : Form) (d : Directive) (s : Settings) (next : ℕ) where
-  pub own-none : length kinds ≤ next → Stops 6 ≡ turnBy kinds longest (useFrom (length kinds) f d s next own)
+  pub own-none : length kinds ≤ next → Stops 6 ≡ turnBy kinds longest (actFrom (length kinds) f d s next own)
   own-none h = rw (le-ltb next (length kinds) h)
 
   pub own-shown : next < length kinds → {kind : ℕ} → kind ≡ kindIn kinds next → {r : Turn}
-      → r ≡ shownTurn longest f d s kind (next + 1) → r ≡ turnBy kinds longest (useFrom (length kinds) f d s next own)
+      → r ≡ shownTurn longest f d s kind (next + 1) → r ≡ turnBy kinds longest (actFrom (length kinds) f d s next own)
   own-shown h k e = e ∙ rw (lt-ltb next (length kinds) h, k)
 
-  pub back-none : next ≡ 0 → Stops 6 ≡ turnBy kinds longest (useFrom (length kinds) f d s next back)
+  pub back-none : next ≡ 0 → Stops 6 ≡ turnBy kinds longest (actFrom (length kinds) f d s next back)
   back-none z = rw (eq-eqb next 0 z)
 
   pub back-shown : (next ≡ 0 → ⊥) → next ≤ length kinds → {kind : ℕ} → kind ≡ kindIn kinds (next - 1) → {r : Turn}
-      → r ≡ shownTurn longest f d s kind next → r ≡ turnBy kinds longest (useFrom (length kinds) f d s next back)
+      → r ≡ shownTurn longest f d s kind next → r ≡ turnBy kinds longest (actFrom (length kinds) f d s next back)
   back-shown n h k e = e ∙ rw (ne-eqb next 0 n, lt-ltb (next - 1) (length kinds) (omega arith), k)
 
 module _ (kinds : List ℕ) (longest : ℕ) (f : Form) (d : Directive) (s : Settings) (next : ℕ) where
   abbrev From : Source → Turn
-  From x = turnBy kinds longest (useFrom (length kinds) f d s next x)
+  From x = turnBy kinds longest (actFrom (length kinds) f d s next x)
 
   given-goes : (x : Value) → accepts f (kindOf x) ≡ true → Goes (argument next) (length (textOf f (d .colon) (d .at) s x)) ≡ From (given x)
   given-goes x h = rw h
@@ -154,11 +154,11 @@ module _ (kinds : List ℕ) (longest : ℕ) (f : Form) (d : Directive) (next : �
     same : n .0 ≡ next
     same = subst (Stays (formPlaces f) next) (sym is) stays .0
 
-    pub turn-worked : {r : Turn} → r ≡ turnBy kinds longest (useFrom (length kinds) f d s next (sourceOf f (d .colon) s))
+    pub turn-worked : {r : Turn} → r ≡ turnBy kinds longest (actFrom (length kinds) f d s next (sourceOf f (d .colon) s))
         → r ≡ turnOf kinds longest (Written d) next
     turn-worked t =
         t
-        ∙ ap (λ (i : ℕ). turnBy kinds longest (useFrom (length kinds) f d s i (sourceOf f (d .colon) s))) (sym same)
+        ∙ ap (λ (i : ℕ). turnBy kinds longest (actFrom (length kinds) f d s i (sourceOf f (d .colon) s))) (sym same)
         ∙ sym (turn-settled kinds longest d f (w .code) (w .written) next (listed s) (n .0) (sym is))
 
 -- a plain directive is of the form of its code

@@ -26,7 +26,7 @@ ghost use Rattle.rules.specs.declared.Origin.the-variants.{NextOrNumber};
 ghost use Rattle.vet.specs.Plain.{noneNext};
 ghost use Rattle.vet.specs.Vet.{Asked};
 ghost use Rattle.vet.specs.Turns.{shownTurn, turnBy, turnOf};
-ghost use Rattle.rules.specs.Act.{actFrom as useFrom};
+ghost use Rattle.rules.specs.Act.{actFrom};
 ghost use Rattle.turns.specs.Parts.{Writing, SettledOn};
 
 // An argument is wanted, and none is left.
@@ -82,7 +82,7 @@ fn turn_own(
     requires { ⌜ WellSet form settings ⌝ }
     requires { ⌜ Asked (now kinds) longest ⌝ }
     requires { ⌜ next .0 ≤ length (now kinds) ⌝ }
-    ensures { λ r. ⌜ r ≡ turnBy (now (kinds .entry)) longest (useFrom (length (now (kinds .entry))) form d settings (next .0) own) ⌝ }
+    ensures { λ r. ⌜ r ≡ turnBy (now (kinds .entry)) longest (actFrom (length (now (kinds .entry))) form d settings (next .0) own) ⌝ }
 {
     let i = next.0;
     if kinds.len() <= i {
@@ -110,7 +110,7 @@ fn turn_back(
     requires { ⌜ WellSet form settings ⌝ }
     requires { ⌜ Asked (now kinds) longest ⌝ }
     requires { ⌜ next .0 ≤ length (now kinds) ⌝ }
-    ensures { λ r. ⌜ r ≡ turnBy (now (kinds .entry)) longest (useFrom (length (now (kinds .entry))) form d settings (next .0) back) ⌝ }
+    ensures { λ r. ⌜ r ≡ turnBy (now (kinds .entry)) longest (actFrom (length (now (kinds .entry))) form d settings (next .0) back) ⌝ }
 {
     let i = next.0;
     if i == 0 {
@@ -132,7 +132,7 @@ fn turn_numbered(
     requires { ⌜ WellSet form settings ⌝ }
     requires { ⌜ Asked (now kinds) longest ⌝ }
     requires { ⌜ next .0 ≤ length (now kinds) ⌝ }
-    ensures { λ r. ⌜ r ≡ turnBy (now (kinds .entry)) longest (useFrom (length (now (kinds .entry))) form d settings (next .0) (glyphSource (settings .first))) ⌝ }
+    ensures { λ r. ⌜ r ≡ turnBy (now (kinds .entry)) longest (actFrom (length (now (kinds .entry))) form d settings (next .0) (glyphSource (settings .first))) ⌝ }
 {
     let first = settings.first;
     match first {
@@ -156,7 +156,7 @@ fn turn_settled(
     requires { ⌜ WellSet form settings ⌝ }
     requires { ⌜ Asked (now kinds) longest ⌝ }
     requires { ⌜ next .0 ≤ length (now kinds) ⌝ }
-    ensures { λ r. ⌜ r ≡ turnBy (now (kinds .entry)) longest (useFrom (length (now (kinds .entry))) form d settings (next .0) (sourceOf form (d .colon) settings)) ⌝ }
+    ensures { λ r. ⌜ r ≡ turnBy (now (kinds .entry)) longest (actFrom (length (now (kinds .entry))) form d settings (next .0) (sourceOf form (d .colon) settings)) ⌝ }
 {
     let row = form_row(form);
     let origin = row.origin;

@@ -20,7 +20,7 @@ slice-aggregate-run-sequence : tie.Need-slice-aggregate-run-sequence
 slice-aggregate-run-sequence c = search needs
 
 run-sequence-requires : tie.Need-run-sequence-requires
-run-sequence-requires c κs = (c .before .before .before .before .mark-text .ensures .sound, (all-in-hand (c .before .before .before .before .before .before .before .before .before .args .table .now) _ (c .before .before .before .before .before .before .before .before .before .pre .0) (c .before .before .argument-count .ensures .0), (omega arith, (omega arith, omega arith))))
+run-sequence-requires c κs = (c .before .before .before .before .mark-text .ensures .sound, (record { held = all-in-hand (c .before .before .before .before .before .before .before .before .before .args .table .now) _ (c .before .before .before .before .before .before .before .before .before .pre .0) (c .before .before .argument-count .ensures .0); reaches = omega arith; written = omega arith }, omega arith))
 
 outcome-of-requires : tie.Need-outcome-of-requires
 outcome-of-requires c κs = c .before .before .run-sequence .ensures .does .falls

@@ -198,48 +198,48 @@ run-block-refuse-requires t c κs = search needs
 
 run-block-returns : (t : ℕ) → run-block-lts.Need-returns (run-block-claims t) (run-block-at t) run-block.Post
 run-block-returns t c =
-    let a = c .before .before .before .before .before .before .before .args in
-    block-deep (a .text .now) (viewOf (a .table .now)) (a .hand .first .0) (a .hand .count) (a .level) (a .p) (a .next .0) (a .left) (a .at) (a .out .now) (a .d) (c .before .before .before .before .before .before .before .pre .1 .1 .1 .1 .0) _ (c .before .before .before .before .before .before .before .pre .1 .1 .1 .1 .1 .0) (c .before .if1 .taken) (refused-at (c .refuse .ensures) (c .before .before .spot-at .ensures)) (c .before .before .before .before .before .before .before .pre .1 .1 .1 .1 .1 .1) (c .before .before .before .before .before .before .before .pre .1 .1 .1 .0)
+    let a = c .before .before .before .before .before .before .before .before .before .args in
+    block-deep (a .text .now) (viewOf (a .table .now)) (a .stand .hand .first .0) (a .stand .hand .count) (a .level) (a .p) (a .stand .next .0) (a .stand .left) (a .stand .at) (a .out .now) (a .d) (c .before .before .before .before .before .before .before .before .before .pre .1 .1 .1 .0) _ (c .before .before .before .before .before .before .before .before .before .pre .1 .1 .1 .1) (c .before .if1 .taken) (refused-at (c .refuse .ensures) (c .before .before .spot-at .ensures)) (c .before .before .before .before .before .before .before .before .before .pre .1 .1 .0 .written) (c .before .before .before .before .before .before .before .before .before .pre .1 .1 .0 .reaches)
 
 run-block-refuse-requires-2 : (t : ℕ) → run-block-lts.Need-refuse-requires-2 (run-block-claims t) (run-block-at t) run-block.Post
 run-block-refuse-requires-2 t c κs = search needs
 
 run-block-returns-2 : (t : ℕ) → run-block-lts.Need-returns-2 (run-block-claims t) (run-block-at t) run-block.Post
 run-block-returns-2 t c =
-    let a = c .before .before .before .before .before .before .before .before .args in
-    block-none (a .text .now) (viewOf (a .table .now)) (a .hand .first .0) (a .hand .count) (a .level) (a .p) (a .next .0) (a .left) (a .at) (a .out .now) (a .d) (c .before .before .before .before .before .before .before .before .pre .1 .1 .1 .1 .0) _ (c .before .before .before .before .before .before .before .before .pre .1 .1 .1 .1 .1 .0) (c .before .before .if1 .left) (c .before .if2 .taken) (refused-at (c .refuse2 .ensures) (c .before .before .before .spot-at .ensures)) (c .before .before .before .before .before .before .before .before .pre .1 .1 .1 .1 .1 .1) (c .before .before .before .before .before .before .before .before .pre .1 .1 .1 .0)
+    let a = c .before .before .before .before .before .before .before .before .before .before .before .args in
+    block-none (a .text .now) (viewOf (a .table .now)) (a .stand .hand .first .0) (a .stand .hand .count) (a .level) (a .p) (a .stand .next .0) (a .stand .left) (a .stand .at) (a .out .now) (a .d) (c .before .before .before .before .before .before .before .before .before .before .before .pre .1 .1 .1 .0) _ (c .before .before .before .before .before .before .before .before .before .before .before .pre .1 .1 .1 .1) (c .before .before .before .if1 .left) (c .before .if2 .taken) (refused-at (c .refuse2 .ensures) (c .before .before .before .before .spot-at .ensures)) (c .before .before .before .before .before .before .before .before .before .before .before .pre .1 .1 .0 .written) (c .before .before .before .before .before .before .before .before .before .before .before .pre .1 .1 .0 .reaches)
 
 run-block-begin-requires : (t : ℕ) → run-block-lts.Need-begin-requires (run-block-claims t) (run-block-at t) run-block.Post
-run-block-begin-requires t c κs = omega (arith, left-at (c .before .before .spot-at .ensures), c .if2 .left)
+run-block-begin-requires t c κs = omega (arith, left-at (c .before .before .before .spot-at .ensures), c .if2 .left)
 
 run-block-sub-run-opened : (t : ℕ) → run-block-lts.Need-sub-run-opened (run-block-claims t) (run-block-at t) run-block.Post
 run-block-sub-run-opened t c = search needs
 
 run-block-run-opened-requires : (t : ℕ) → run-block-lts.Need-run-opened-requires (run-block-claims t) (run-block-at t) run-block.Post
 run-block-run-opened-requires t c κs =
-    let a = c .before .before .before .before .before .before .before .before .before .args in
-    (omega (arith, c .before .before .before .before .before .before .before .before .before .pre .0, c .before .before .before .if1 .left), (c .before .before .before .before .before .before .before .before .before .pre .1 .0, (c .before .before .before .before .before .before .before .before .before .pre .1 .1 .0, (c .before .before .before .before .before .before .before .before .before .pre .1 .1 .1 .0, (next-inside (a .text .now) (a .p) (a .d) (c .before .before .before .before .before .before .before .before .before .pre .1 .1 .1 .1 .0) .most, written-inside (c .before .begin .ensures ∙ ap begun (c .before .before .before .before .spot-at .ensures)) (c .before .before .before .before .before .before .before .before .before .pre .1 .1 .1 .1 .1 .1))))))
+    let a = c .before .before .before .before .before .before .before .before .before .before .before .before .args in
+    (omega (arith, c .before .before .before .before .before .before .before .before .before .before .before .before .pre .0, c .before .before .before .before .if1 .left), (c .before .before .before .before .before .before .before .before .before .before .before .before .pre .1 .0, (c .before .before .before .before .before .before .before .before .before .before .before .before .pre .1 .1 .0 .held, (c .before .before .before .before .before .before .before .before .before .before .before .before .pre .1 .1 .0 .reaches, (next-inside (a .text .now) (a .p) (a .d) (c .before .before .before .before .before .before .before .before .before .before .before .before .pre .1 .1 .1 .0) .most, written-inside (c .before .begin .ensures ∙ ap begun (c .before .before .before .before .before .spot-at .ensures)) (c .before .before .before .before .before .before .before .before .before .before .before .before .pre .1 .1 .0 .written))))))
 
 run-block-same-length : (t : ℕ) → run-block-lts.Need-same-length (run-block-claims t) (run-block-at t) run-block.Post
 run-block-same-length t c = c .before .before .run-opened .ensures .does .size
 
 run-block-returns-3 : (t : ℕ) → run-block-lts.Need-returns-3 (run-block-claims t) (run-block-at t) run-block.Post
 run-block-returns-3 t c =
-    let a = c .before .before .before .before .before .before .before .before .before .before .before .before .args in
-    block-opens (a .text .now) (viewOf (a .table .now)) (a .hand .first .0) (a .hand .count) (a .level) (a .p) (a .next .0) (a .left) (a .at) (a .out .now) (a .d) (c .before .before .before .before .before .before .before .before .before .before .before .before .pre .1 .1 .1 .1 .0) (c .before .before .before .before .before .before .if1 .left) (c .before .before .before .before .before .if2 .left) (c .before .before .before .before .before .before .before .before .before .before .before .before .pre .1 .1 .1 .1 .1 .0) (c .before .before .before .before .begin .ensures ∙ ap begun (c .before .before .before .before .before .before .before .spot-at .ensures)) (c .before .before .run-opened .ensures)
+    let a = c .before .before .before .before .before .before .before .before .before .before .before .before .before .before .before .args in
+    block-opens (a .text .now) (viewOf (a .table .now)) (a .stand .hand .first .0) (a .stand .hand .count) (a .level) (a .p) (a .stand .next .0) (a .stand .left) (a .stand .at) (a .out .now) (a .d) (c .before .before .before .before .before .before .before .before .before .before .before .before .before .before .before .pre .1 .1 .1 .0) (c .before .before .before .before .before .before .before .if1 .left) (c .before .before .before .before .before .if2 .left) (c .before .before .before .before .before .before .before .before .before .before .before .before .before .before .before .pre .1 .1 .1 .1) (c .before .before .before .before .begin .ensures ∙ ap begun (c .before .before .before .before .before .before .before .before .spot-at .ensures)) (c .before .before .run-opened .ensures)
 
 -- what the callees of run_clause ask and ensure, below the measure t
 abbrev run-clause-claims : ℕ → run-clause-lts.Claims
 run-clause-claims t = (run-sequence-below t, run-sequence.Post, block-end-reads.Asked, block-end-reads.Learnt)
 
 run-clause-run-sequence-requires : (t : ℕ) → run-clause-lts.Need-run-sequence-requires (run-clause-claims t) (run-clause-at t) run-clause.Post
-run-clause-run-sequence-requires t c κs = (omega (arith, (c .before .before .before .before .before .pre .0)), (c .before .before .before .before .before .pre .1 .0, ((c .before .before .before .before .before .pre .1 .1 .0), ((c .before .before .before .before .before .pre .1 .1 .1 .0), ((c .before .before .before .before .before .pre .1 .1 .1 .1 .0 .most), (c .before .before .before .before .before .pre .1 .1 .1 .1 .1))))))
+run-clause-run-sequence-requires t c κs = (omega (arith, c .before .before .before .before .before .pre .0), (c .before .before .before .before .before .pre .1 .0, (c .before .before .before .before .before .pre .1 .1 .0, c .before .before .before .before .before .pre .1 .1 .1 .most)))
 
 run-clause-enum-told : (t : ℕ) → run-clause-lts.Need-enum-told (run-clause-claims t) (run-clause-at t) run-clause.Post
 run-clause-enum-told t c = search needs
 
 run-clause-block-end-requires : (t : ℕ) → run-clause-lts.Need-block-end-requires (run-clause-claims t) (run-clause-at t) run-clause.Post
-run-clause-block-end-requires t c κs = (c .before .before .before .before .before .before .before .before .before .before .before .pre .1 .0, ends-inside (c .before .before .before .before .before .before .before .before .before .before .before .pre .1 .1 .1 .1 .0) ((c .before .before .before .before .before .run-sequence .ensures .ends) (c .enum-told .given .1)))
+run-clause-block-end-requires t c κs = (c .before .before .before .before .before .before .before .before .before .before .before .pre .1 .0, ends-inside (c .before .before .before .before .before .before .before .before .before .before .before .pre .1 .1 .1) ((c .before .before .before .before .before .run-sequence .ensures .ends) (c .enum-told .given .1)))
 
 run-clause-enum-told-2 : (t : ℕ) → run-clause-lts.Need-enum-told-2 (run-clause-claims t) (run-clause-at t) run-clause.Post
 run-clause-enum-told-2 t c = search needs
@@ -255,7 +255,7 @@ run-clause-returns t c =
     let a = (c .before .before .before .before .before .before .before .before .before .before .before .before .args) in
     let u = (c .before .before .before .before .before .before .run-sequence .ensures) in
     let w = u .ends (c .before .enum-told .given .1) in
-    record { is = λ f h. blocks-clause (levelsAt (a .text .now)) (length (a .text .now)) (viewOf (a .table .now)) (a .hand .first .0) (a .hand .count) (a .level) (a .q) f (a .spot .left) (a .spot .at) (a .out .now) (a .z) (a .next .0) h u (c .before .enum-told .given .1) _ (closes-after (c .block-end .ensures)) }
+    record { is = λ f h. blocks-clause (levelsAt (a .text .now)) (length (a .text .now)) (viewOf (a .table .now)) (a .stand .hand .first .0) (a .stand .hand .count) (a .level) (a .q) f (a .stand .left) (a .stand .at) (a .out .now) (a .z) (a .stand .next .0) h u (c .before .enum-told .given .1) _ (closes-after (c .block-end .ensures)) }
 
 run-clause-same-length-2 : (t : ℕ) → run-clause-lts.Need-same-length-2 (run-clause-claims t) (run-clause-at t) run-clause.Post
 run-clause-same-length-2 t c = (c .before .before .before .before .before .run-sequence .ensures .does .size)
@@ -263,7 +263,7 @@ run-clause-same-length-2 t c = (c .before .before .before .before .before .run-s
 run-clause-returns-2 : (t : ℕ) → run-clause-lts.Need-returns-2 (run-clause-claims t) (run-clause-at t) run-clause.Post
 run-clause-returns-2 t c =
     let a = (c .before .before .before .before .before .before .before .before .before .before .before .args) in
-    record { is = λ f h. blocks-clause-left (levelsAt (a .text .now)) (length (a .text .now)) (viewOf (a .table .now)) (a .hand .first .0) (a .hand .count) (a .level) (a .q) f (a .spot .left) (a .spot .at) (a .out .now) (a .z) (a .next .0) h (c .before .before .before .before .before .run-sequence .ensures) (c .enum-told2 .given .1) }
+    record { is = λ f h. blocks-clause-left (levelsAt (a .text .now)) (length (a .text .now)) (viewOf (a .table .now)) (a .stand .hand .first .0) (a .stand .hand .count) (a .level) (a .q) f (a .stand .left) (a .stand .at) (a .out .now) (a .z) (a .stand .next .0) h (c .before .before .before .before .before .run-sequence .ensures) (c .enum-told2 .given .1) }
 
 run-clause-same-length-3 : (t : ℕ) → run-clause-lts.Need-same-length-3 (run-clause-claims t) (run-clause-at t) run-clause.Post
 run-clause-same-length-3 t c = (c .before .before .before .before .before .run-sequence .ensures .does .size)
@@ -271,7 +271,7 @@ run-clause-same-length-3 t c = (c .before .before .before .before .before .run-s
 run-clause-returns-3 : (t : ℕ) → run-clause-lts.Need-returns-3 (run-clause-claims t) (run-clause-at t) run-clause.Post
 run-clause-returns-3 t c =
     let a = (c .before .before .before .before .before .before .before .before .before .before .before .args) in
-    record { is = λ f h. blocks-clause-refused (levelsAt (a .text .now)) (length (a .text .now)) (viewOf (a .table .now)) (a .hand .first .0) (a .hand .count) (a .level) (a .q) f (a .spot .left) (a .spot .at) (a .out .now) (a .z) (a .next .0) h (c .before .before .before .before .before .run-sequence .ensures) _ _ (c .enum-told3 .given .1) }
+    record { is = λ f h. blocks-clause-refused (levelsAt (a .text .now)) (length (a .text .now)) (viewOf (a .table .now)) (a .stand .hand .first .0) (a .stand .hand .count) (a .level) (a .q) f (a .stand .left) (a .stand .at) (a .out .now) (a .z) (a .stand .next .0) h (c .before .before .before .before .before .run-sequence .ensures) _ _ (c .enum-told3 .given .1) }
 
 -- what the callees of run_conditional ask and ensure, below the measure t
 abbrev run-conditional-claims : ℕ → run-conditional-lts.Claims
@@ -287,7 +287,7 @@ run-conditional-run-clause-requires : (t : ℕ) → run-conditional-lts.Need-run
 run-conditional-run-clause-requires t c κs =
     let a = c .before .before .before .before .before .before .before .before .before .args in
     let w = subst (ChosenIn (a .text .now) (a .d .next) (a .hand .count)) (c .before .before .chosen .given .1) (c .before .before .before .before .choose-clause .ensures .inside) in
-    (omega (arith, c .before .before .before .before .before .before .before .before .before .pre .0), (c .before .before .before .before .before .before .before .before .before .pre .1 .0, (c .before .before .before .before .before .before .before .before .before .pre .1 .1 .0, (w .1, (w .0, c .before .before .before .before .before .before .before .before .before .pre .1 .1 .1 .1 .1)))))
+    (omega (arith, c .before .before .before .before .before .before .before .before .before .pre .0), (c .before .before .before .before .before .before .before .before .before .pre .1 .0, (record { held = c .before .before .before .before .before .before .before .before .before .pre .1 .1 .0; reaches = w .1; written = c .before .before .before .before .before .before .before .before .before .pre .1 .1 .1 .1 .1 }, w .0)))
 
 run-conditional-enum-known-chosen-2 : (t : ℕ) → run-conditional-lts.Need-enum-known-chosen-2 (run-conditional-claims t) (run-conditional-at t) run-conditional.Post
 run-conditional-enum-known-chosen-2 t c = search needs
@@ -340,7 +340,7 @@ run-item-enum-known-item t c = search needs
 
 run-item-put-literal-requires : (t : ℕ) → run-item-lts.Need-put-literal-requires (run-item-claims t) (run-item-at t) run-item.Post
 run-item-put-literal-requires t c κs =
-    (c .before .before .before .before .before .before .before .before .before .pre .1 .1 .1 .0, (c .before .before .before .before .before .before .before .before .before .pre .1 .1 .1 .1 .1 .1, omega (arith, literal-inside (c .before .before .before .before .before .before .before .before .before .args .text .now) (c .before .before .before .before .before .before .before .before .before .args .s .place) (c .before .before .before .before .before .before .before .before .before .pre .1 .1 .1 .1 .0) (c .before .before .item .given .1))))
+    (c .before .before .before .before .before .before .before .before .before .pre .1 .1 .0 .reaches, (c .before .before .before .before .before .before .before .before .before .pre .1 .1 .0 .written, omega (arith, literal-inside (c .before .before .before .before .before .before .before .before .before .args .text .now) (c .before .before .before .before .before .before .before .before .before .args .p) (c .before .before .before .before .before .before .before .before .before .pre .1 .1 .1 .0) (c .before .before .item .given .1))))
 
 run-item-enum-known-item-2 : (t : ℕ) → run-item-lts.Need-enum-known-item-2 (run-item-claims t) (run-item-at t) run-item.Post
 run-item-enum-known-item-2 t c = search needs
@@ -350,7 +350,7 @@ run-item-opens-block-requires t c κs = search needs
 
 run-item-run-block-requires : (t : ℕ) → run-item-lts.Need-run-block-requires (run-item-claims t) (run-item-at t) run-item.Post
 run-item-run-block-requires t c κs =
-    (omega (arith, c .before .before .before .before .before .before .before .before .before .before .before .pre .0), (c .before .before .before .before .before .before .before .before .before .before .before .pre .1 .0, (c .before .before .before .before .before .before .before .before .before .before .before .pre .1 .1 .0, (c .before .before .before .before .before .before .before .before .before .before .before .pre .1 .1 .1 .0, (c .before .before .before .before .before .before .before .before .before .before .before .pre .1 .1 .1 .1 .0 ∙ c .before .before .before .before .item2 .given .1, (sym (c .before .before .opens-block .ensures) ∙ c .before .if1 .taken, c .before .before .before .before .before .before .before .before .before .before .before .pre .1 .1 .1 .1 .1 .1))))))
+    (omega (arith, c .before .before .before .before .before .before .before .before .before .before .before .pre .0), (c .before .before .before .before .before .before .before .before .before .before .before .pre .1 .0, (c .before .before .before .before .before .before .before .before .before .before .before .pre .1 .1 .0, (c .before .before .before .before .before .before .before .before .before .before .before .pre .1 .1 .1 .0 ∙ c .before .before .before .before .item2 .given .1, sym (c .before .before .opens-block .ensures) ∙ c .before .if1 .taken))))
 
 run-item-same-length : (t : ℕ) → run-item-lts.Need-same-length (run-item-claims t) (run-item-at t) run-item.Post
 run-item-same-length t c = c .before .before .run-block .ensures .does .size
@@ -361,9 +361,9 @@ run-item-returns t c = c .before .before .run-block .ensures
 run-item-act-requires : (t : ℕ) → run-item-lts.Need-act-requires (run-item-claims t) (run-item-at t) run-item.Post
 run-item-act-requires t c κs =
     let a = c .before .before .before .before .before .before .before .before .before .before .before .args in
-    let e = c .before .before .before .before .before .before .before .before .before .before .before .pre .1 .1 .1 .1 .0 ∙ c .before .before .before .before .item2 .given .1 in (
-      acts-alone (c .before .before .before .before .item2 .given .0 .0 .code) (code-right (a .text .now) (a .s .place) (c .before .before .before .before .item2 .given .0 .0) e) (sym (c .before .before .opens-block .ensures) ∙ c .before .if1 .left) (sym (ap endsAt (c .before .before .before .before .item2 .given .1)) ∙ c .before .before .before .before .before .before .before .before .before .before .before .pre .1 .1 .1 .1 .1 .0),
-      (c .before .before .before .before .before .before .before .before .before .before .before .pre .1 .1 .0, (c .before .before .before .before .before .before .before .before .before .before .before .pre .1 .1 .1 .0, c .before .before .before .before .before .before .before .before .before .before .before .pre .1 .1 .1 .1 .1 .1)),
+    let e = c .before .before .before .before .before .before .before .before .before .before .before .pre .1 .1 .1 .0 ∙ c .before .before .before .before .item2 .given .1 in (
+      acts-alone (c .before .before .before .before .item2 .given .0 .0 .code) (code-right (a .text .now) (a .p) (c .before .before .before .before .item2 .given .0 .0) e) (sym (c .before .before .opens-block .ensures) ∙ c .before .if1 .left) (sym (ap endsAt (c .before .before .before .before .item2 .given .1)) ∙ c .before .before .before .before .before .before .before .before .before .before .before .pre .1 .1 .1 .1),
+      c .before .before .before .before .before .before .before .before .before .before .before .pre .1 .1 .0,
     )
 
 run-item-spot-at-requires : (t : ℕ) → run-item-lts.Need-spot-at-requires (run-item-claims t) (run-item-at t) run-item.Post
@@ -375,29 +375,29 @@ run-item-refuse-requires t c κs = search needs
 run-item-same-length-2 : (t : ℕ) → run-item-lts.Need-same-length-2 (run-item-claims t) (run-item-at t) run-item.Post
 run-item-same-length-2 t c =
     let a = c .before .before .before .before .before .before .before .before .before .before .before .before .args in
-    let e = c .before .before .before .before .before .before .before .before .before .before .before .before .pre .1 .1 .1 .1 .0 ∙ c .before .before .before .before .before .item .given .1 in
-    (c .before .before .put-literal .ensures) (levelsAt (a .text .now)) (length (a .text .now)) (viewOf (a .table .now)) (a .level) (a .s .place) (literal-at (a .text .now) (a .s .place) _ e) (literal-ahead (a .text .now) (a .s .place) _ e) .does .size
+    let e = c .before .before .before .before .before .before .before .before .before .before .before .before .pre .1 .1 .1 .0 ∙ c .before .before .before .before .before .item .given .1 in
+    (c .before .before .put-literal .ensures) (levelsAt (a .text .now)) (length (a .text .now)) (viewOf (a .table .now)) (a .level) (a .p) (literal-at (a .text .now) (a .p) _ e) (literal-ahead (a .text .now) (a .p) _ e) .does .size
 
 run-item-returns-2 : (t : ℕ) → run-item-lts.Need-returns-2 (run-item-claims t) (run-item-at t) run-item.Post
 run-item-returns-2 t c =
     let a = c .before .before .before .before .before .before .before .before .before .before .before .before .args in
-    let e = c .before .before .before .before .before .before .before .before .before .before .before .before .pre .1 .1 .1 .1 .0 ∙ c .before .before .before .before .before .item .given .1 in
-    (c .before .before .put-literal .ensures) (levelsAt (a .text .now)) (length (a .text .now)) (viewOf (a .table .now)) (a .level) (a .s .place) (literal-at (a .text .now) (a .s .place) _ e) (literal-ahead (a .text .now) (a .s .place) _ e)
+    let e = c .before .before .before .before .before .before .before .before .before .before .before .before .pre .1 .1 .1 .0 ∙ c .before .before .before .before .before .item .given .1 in
+    (c .before .before .put-literal .ensures) (levelsAt (a .text .now)) (length (a .text .now)) (viewOf (a .table .now)) (a .level) (a .p) (literal-at (a .text .now) (a .p) _ e) (literal-ahead (a .text .now) (a .p) _ e)
 
 run-item-same-length-3 : (t : ℕ) → run-item-lts.Need-same-length-3 (run-item-claims t) (run-item-at t) run-item.Post
 run-item-same-length-3 t c =
     let a = c .before .before .before .before .before .before .before .before .before .before .before .before .before .before .args in
-    let e = c .before .before .before .before .before .before .before .before .before .before .before .before .before .before .pre .1 .1 .1 .1 .0 ∙ c .before .before .before .before .before .before .before .item2 .given .1 in
-    (c .before .before .act .ensures) (levelsAt (a .text .now)) (length (a .text .now)) (a .level) (a .s .place) (alone-at (a .text .now) (a .s .place) _ e _ refl) (directive-ahead (a .text .now) (a .s .place) _ e) .does .size
+    let e = c .before .before .before .before .before .before .before .before .before .before .before .before .before .before .pre .1 .1 .1 .0 ∙ c .before .before .before .before .before .before .before .item2 .given .1 in
+    (c .before .before .act .ensures) (levelsAt (a .text .now)) (length (a .text .now)) (a .level) (a .p) (alone-at (a .text .now) (a .p) _ e _ refl) (directive-ahead (a .text .now) (a .p) _ e) .does .size
 
 run-item-returns-3 : (t : ℕ) → run-item-lts.Need-returns-3 (run-item-claims t) (run-item-at t) run-item.Post
 run-item-returns-3 t c =
     let a = c .before .before .before .before .before .before .before .before .before .before .before .before .before .before .args in
-    let e = c .before .before .before .before .before .before .before .before .before .before .before .before .before .before .pre .1 .1 .1 .1 .0 ∙ c .before .before .before .before .before .before .before .item2 .given .1 in
-    (c .before .before .act .ensures) (levelsAt (a .text .now)) (length (a .text .now)) (a .level) (a .s .place) (alone-at (a .text .now) (a .s .place) _ e _ refl) (directive-ahead (a .text .now) (a .s .place) _ e)
+    let e = c .before .before .before .before .before .before .before .before .before .before .before .before .before .before .pre .1 .1 .1 .0 ∙ c .before .before .before .before .before .before .before .item2 .given .1 in
+    (c .before .before .act .ensures) (levelsAt (a .text .now)) (length (a .text .now)) (a .level) (a .p) (alone-at (a .text .now) (a .p) _ e _ refl) (directive-ahead (a .text .now) (a .p) _ e)
 
 run-item-returns-4 : (t : ℕ) → run-item-lts.Need-returns-4 (run-item-claims t) (run-item-at t) run-item.Post
-run-item-returns-4 t c = absurd (no-other _ (c .before .before .before .before .before .before .before .before .args .item) refl (c .before .before .before .before .before .before .before .before .pre .1 .1 .1 .1 .1 .0) (c .before .before .match .keys3))
+run-item-returns-4 t c = absurd (no-other _ (c .before .before .before .before .before .before .before .before .args .item) refl (c .before .before .before .before .before .before .before .before .pre .1 .1 .1 .1) (c .before .before .match .keys3))
 
 -- what the callees of run_iteration ask and ensure, below the measure t
 abbrev run-iteration-claims : ℕ → run-iteration-lts.Claims
@@ -420,7 +420,7 @@ run-iteration-run-passes-requires t c κs =
     let a = c .before .before .before .before .before .before .before .before .before .args in
     let w = subst (OverIn (a .table .now) (a .hand) (a .d .at) (a .i .0)) (c .before .before .over2 .given .1) (c .before .before .before .before .go-over .ensures .inside) in
     let o = over-hand (a .table .now) (a .hand) _ (a .d .at) (a .i .0) _ w (c .before .before .before .before .before .before .before .before .before .pre .1 .1 .0) (c .before .before .before .before .before .before .before .before .before .pre .1 .1 .1 .0) in
-    (omega (arith, c .before .before .before .before .before .before .before .before .before .pre .0), (c .before .before .before .before .before .before .before .before .before .pre .1 .0, (o .0, (o .1, (c .before .before .before .before .before .before .before .before .before .pre .1 .1 .1 .1 .0, c .before .before .before .before .before .before .before .before .before .pre .1 .1 .1 .1 .1)))))
+    (omega (arith, c .before .before .before .before .before .before .before .before .before .pre .0), (c .before .before .before .before .before .before .before .before .before .pre .1 .0, (record { held = o .0; reaches = o .1; written = c .before .before .before .before .before .before .before .before .before .pre .1 .1 .1 .1 .1 }, c .before .before .before .before .before .before .before .before .before .pre .1 .1 .1 .1 .0)))
 
 run-iteration-next-after-requires : (t : ℕ) → run-iteration-lts.Need-next-after-requires (run-iteration-claims t) (run-iteration-at t) run-iteration.Post
 run-iteration-next-after-requires t c κs = omega (arith, c .before .before .before .before .before .before .before .before .before .before .before .before .before .pre .1 .1 .1 .0, hand-small (c .before .before .before .before .before .before .before .before .before .before .before .before .before .pre .1 .1 .0))
@@ -501,12 +501,12 @@ run-opened-returns-4 t c =
     blocks-as (opening (iterates (a .d .code)) (levelsAt (a .text .now)) (viewOf (a .table .now)) (handAt (a .hand)) (a .spot .position) (a .d) (a .d .next) (a .next .0) (a .spot .left)) _ (λ ks. run-settled (c .before .before .before .before .before .before .before .before .before .settle-directive .ensures) (sym (c .before .before .before .before .before .before .before .before .before .before .before .is-well-written .ensures) ∙ not-false _ (c .before .before .before .before .before .before .before .before .before .before .if1 .left)) (a .spot .position) (a .spot .left) _ (c .before .before .before .before .before .before .before .settled2 .given .1) ∙ ap (λ (y : Bool). inside y (levelsAt (a .text .now)) (viewOf (a .table .now)) (handAt (a .hand)) (a .spot .position) (a .d) (a .d .next) (a .next .0) (a .spot .left) (c .before .before .before .before .before .before .before .settled2 .given .0 .0) (c .before .before .before .before .before .before .before .settled2 .given .0 .1 .0 .0) ks) (sym (c .before .before .before .before .before .is-iteration .ensures) ∙ c .before .before .before .before .if2 .left)) ((c .before .before .run-conditional .ensures) (a .next .0))
 
 abbrev run-passes-Inv-loop : run-passes-lts.InvT-loop
-run-passes-Inv-loop text marks table level q hand out₀ passes₀ next₀ on₀ out passes next on =
+run-passes-Inv-loop text marks table level p q out₀ hand passes₀ next₀ on₀ out passes next on =
     Onto (λ i l a b e r. Passes (levelsAt text) (length text) (viewOf table) (handAt hand) level (on .position) q i passes l a b e r) (Passes (levelsAt text) (length text) (viewOf table) (handAt hand) level (on₀ .position) q (next₀ .0) passes₀ (on₀ .left) (on₀ .at) out₀) (on₀ .left) (hand .count) out₀ (next .0) (on .left) (on .at) out
     × InsideAt text q (on .place)
 
 abbrev run-passes-μ-loop : run-passes-lts.MeasureT-loop
-run-passes-μ-loop text marks table level q hand out₀ passes₀ next₀ on₀ out passes next on =
+run-passes-μ-loop text marks table level p q out₀ hand passes₀ next₀ on₀ out passes next on =
     on .left
 
 -- what the callees of run_passes ask and ensure, below the measure t
@@ -519,22 +519,22 @@ run-passes-spot-at-requires t c κs = search needs
 run-passes-loop-holds : (t : ℕ) → run-passes-lts.Need-loop-holds (run-passes-claims t) (run-passes-at t) run-passes.Post run-passes-Inv-loop run-passes-μ-loop
 run-passes-loop-holds t c =
     let o = c .spot-at .ensures in
-    (record { ends = λ e r k. k; size = refl; fits = written-inside o (c .before .before .before .before .before .pre .1 .1 .1 .1 .1); falls = omega arith; inside = c .before .before .before .before .before .pre .1 .1 .1 .0 }, place-at o (inside-start _ _ (c .before .before .before .before .before .pre .1 .1 .1 .1 .0)))
+    (record { ends = λ e r k. k; size = refl; fits = written-inside o (c .before .before .before .before .before .before .before .pre .1 .1 .0 .written); falls = omega arith; inside = c .before .before .before .before .before .before .before .pre .1 .1 .0 .reaches }, place-at o (inside-start _ _ (c .before .before .before .before .before .before .before .pre .1 .1 .1)))
 
 run-passes-is-over-requires : (t : ℕ) → run-passes-lts.Need-is-over-requires (run-passes-claims t) (run-passes-at t) run-passes.Post run-passes-Inv-loop run-passes-μ-loop
 run-passes-is-over-requires t c κs = search needs
 
 run-passes-end-block-requires : (t : ℕ) → run-passes-lts.Need-end-block-requires (run-passes-claims t) (run-passes-at t) run-passes.Post run-passes-Inv-loop run-passes-μ-loop
-run-passes-end-block-requires t c κs = (c .before .before .before .before .before .before .before .before .pre .1 .0, c .before .before .loop .inv .1)
+run-passes-end-block-requires t c κs = (c .before .before .before .before .before .before .before .before .before .before .pre .1 .0, c .before .before .loop .inv .1)
 
 run-passes-same-length : (t : ℕ) → run-passes-lts.Need-same-length (run-passes-claims t) (run-passes-at t) run-passes.Post run-passes-Inv-loop run-passes-μ-loop
 run-passes-same-length t c = c .before .before .before .loop .inv .0 .size
 
 run-passes-returns : (t : ℕ) → run-passes-lts.Need-returns (run-passes-claims t) (run-passes-at t) run-passes.Post run-passes-Inv-loop run-passes-μ-loop
 run-passes-returns t c =
-    let a = c .before .before .before .before .before .before .before .before .before .args in
+    let a = c .before .before .before .before .before .before .before .before .before .before .before .args in
     let l = c .before .before .before .loop in
-    passes-from (c .before .before .before .before .spot-at .ensures) (l .inv .0 .ends _ _ (passes-over-told (levelsAt (a .text .now)) (length (a .text .now)) (viewOf (a .table .now)) (a .hand .first .0) (a .hand .count) (a .level) (a .q) (l .next .0) (l .passes) (l .on) (l .out) (sym (c .before .before .is-over .ensures) ∙ c .before .if1 .taken) (c .end-block .ensures) (l .inv .0 .fits) (l .inv .0 .inside)))
+    passes-from (c .before .before .before .before .spot-at .ensures) (l .inv .0 .ends _ _ (passes-over-told (levelsAt (a .text .now)) (length (a .text .now)) (viewOf (a .table .now)) (a .first .hand .first .0) (a .first .hand .count) (a .level) (a .q) (l .next .0) (l .passes) (l .on) (l .out) (sym (c .before .before .is-over .ensures) ∙ c .before .if1 .taken) (c .end-block .ensures) (l .inv .0 .fits) (l .inv .0 .inside)))
 
 run-passes-refuse-requires : (t : ℕ) → run-passes-lts.Need-refuse-requires (run-passes-claims t) (run-passes-at t) run-passes.Post run-passes-Inv-loop run-passes-μ-loop
 run-passes-refuse-requires t c κs = search needs
@@ -544,9 +544,9 @@ run-passes-same-length-2 t c = c .before .before .before .before .before .loop .
 
 run-passes-returns-2 : (t : ℕ) → run-passes-lts.Need-returns-2 (run-passes-claims t) (run-passes-at t) run-passes.Post run-passes-Inv-loop run-passes-μ-loop
 run-passes-returns-2 t c =
-    let a = c .before .before .before .before .before .before .before .before .before .before .before .args in
+    let a = c .before .before .before .before .before .before .before .before .before .before .before .before .before .args in
     let l = c .before .before .before .before .before .loop in
-    passes-from (c .before .before .before .before .before .before .spot-at .ensures) (l .inv .0 .ends _ _ (passes-none-told (levelsAt (a .text .now)) (length (a .text .now)) (viewOf (a .table .now)) (a .hand .first .0) (a .hand .count) (a .level) (a .q) (l .next .0) (l .passes) (l .on) (l .out) (sym (c .before .before .before .before .is-over .ensures) ∙ c .before .before .before .if1 .left) (c .refuse .ensures) (c .before .if2 .taken) (l .inv .0 .fits) (l .inv .0 .inside)))
+    passes-from (c .before .before .before .before .before .before .spot-at .ensures) (l .inv .0 .ends _ _ (passes-none-told (levelsAt (a .text .now)) (length (a .text .now)) (viewOf (a .table .now)) (a .first .hand .first .0) (a .first .hand .count) (a .level) (a .q) (l .next .0) (l .passes) (l .on) (l .out) (sym (c .before .before .before .before .is-over .ensures) ∙ c .before .before .before .if1 .left) (c .refuse .ensures) (c .before .if2 .taken) (l .inv .0 .fits) (l .inv .0 .inside)))
 
 run-passes-begin-requires : (t : ℕ) → run-passes-lts.Need-begin-requires (run-passes-claims t) (run-passes-at t) run-passes.Post run-passes-Inv-loop run-passes-μ-loop
 run-passes-begin-requires t c κs = omega (arith, c .if2 .left)
@@ -554,22 +554,22 @@ run-passes-begin-requires t c κs = omega (arith, c .if2 .left)
 run-passes-run-sequence-requires : (t : ℕ) → run-passes-lts.Need-run-sequence-requires (run-passes-claims t) (run-passes-at t) run-passes.Post run-passes-Inv-loop run-passes-μ-loop
 run-passes-run-sequence-requires t c κs =
     let i = c .before .before .before .before .before .before .loop .inv .0 in
-    (omega (arith, c .before .before .before .before .before .before .before .before .before .before .before .before .pre .0), (c .before .before .before .before .before .before .before .before .before .before .before .before .pre .1 .0, (c .before .before .before .before .before .before .before .before .before .before .before .before .pre .1 .1 .0, (i .inside, (c .before .before .before .before .before .before .before .before .before .before .before .before .pre .1 .1 .1 .1 .0, written-inside (c .before .begin .ensures) (i .fits))))))
+    (omega (arith, c .before .before .before .before .before .before .before .before .before .before .before .before .before .before .pre .0), (c .before .before .before .before .before .before .before .before .before .before .before .before .before .before .pre .1 .0, (record { held = c .before .before .before .before .before .before .before .before .before .before .before .before .before .before .pre .1 .1 .0 .held; reaches = i .inside; written = written-inside (c .before .begin .ensures) (i .fits) }, c .before .before .before .before .before .before .before .before .before .before .before .before .before .before .pre .1 .1 .1)))
 
 run-passes-has-ended-requires : (t : ℕ) → run-passes-lts.Need-has-ended-requires (run-passes-claims t) (run-passes-at t) run-passes.Post run-passes-Inv-loop run-passes-μ-loop
 run-passes-has-ended-requires t c κs = search needs
 
 run-passes-leave-passes-requires : (t : ℕ) → run-passes-lts.Need-leave-passes-requires (run-passes-claims t) (run-passes-at t) run-passes.Post run-passes-Inv-loop run-passes-μ-loop
-run-passes-leave-passes-requires t c κs = (c .before .before .before .before .before .before .before .before .before .before .before .before .before .before .before .before .before .pre .1 .0, c .before .before .before .before .before .before .before .before .before .before .before .loop .inv .1)
+run-passes-leave-passes-requires t c κs = (c .before .before .before .before .before .before .before .before .before .before .before .before .before .before .before .before .before .before .before .pre .1 .0, c .before .before .before .before .before .before .before .before .before .before .before .loop .inv .1)
 
 run-passes-same-length-3 : (t : ℕ) → run-passes-lts.Need-same-length-3 (run-passes-claims t) (run-passes-at t) run-passes.Post run-passes-Inv-loop run-passes-μ-loop
 run-passes-same-length-3 t c = c .before .before .before .before .before .run-sequence .ensures .does .size ∙ c .before .before .before .before .before .before .before .before .before .before .before .before .loop .inv .0 .size
 
 run-passes-returns-3 : (t : ℕ) → run-passes-lts.Need-returns-3 (run-passes-claims t) (run-passes-at t) run-passes.Post run-passes-Inv-loop run-passes-μ-loop
 run-passes-returns-3 t c =
-    let a = c .before .before .before .before .before .before .before .before .before .before .before .before .before .before .before .before .before .before .args in
+    let a = c .before .before .before .before .before .before .before .before .before .before .before .before .before .before .before .before .before .before .before .before .args in
     let l = c .before .before .before .before .before .before .before .before .before .before .before .before .loop in
-    passes-from (c .before .before .before .before .before .before .before .before .before .before .before .before .before .spot-at .ensures) (l .inv .0 .ends _ _ (passes-stopped (levelsAt (a .text .now)) (length (a .text .now)) (viewOf (a .table .now)) (a .hand .first .0) (a .hand .count) (a .level) (a .q) (l .next .0) (l .passes) (l .on) (l .out) (sym (c .before .before .before .before .before .before .before .before .before .before .before .is-over .ensures) ∙ c .before .before .before .before .before .before .before .before .before .before .if1 .left) (c .before .before .before .before .before .before .before .before .if2 .left) (c .before .before .before .before .before .before .before .begin .ensures) (c .before .before .before .before .before .run-sequence .ensures) (sym (c .before .before .has-ended .ensures) ∙ not-true _ (c .before .if3 .taken)) (c .leave-passes .ensures)))
+    passes-from (c .before .before .before .before .before .before .before .before .before .before .before .before .before .spot-at .ensures) (l .inv .0 .ends _ _ (passes-stopped (levelsAt (a .text .now)) (length (a .text .now)) (viewOf (a .table .now)) (a .first .hand .first .0) (a .first .hand .count) (a .level) (a .q) (l .next .0) (l .passes) (l .on) (l .out) (sym (c .before .before .before .before .before .before .before .before .before .before .before .is-over .ensures) ∙ c .before .before .before .before .before .before .before .before .before .before .if1 .left) (c .before .before .before .before .before .before .before .before .if2 .left) (c .before .before .before .before .before .before .before .begin .ensures) (c .before .before .before .before .before .run-sequence .ensures) (sym (c .before .before .has-ended .ensures) ∙ not-true _ (c .before .if3 .taken)) (c .leave-passes .ensures)))
 
 run-passes-one-less-requires : (t : ℕ) → run-passes-lts.Need-one-less-requires (run-passes-claims t) (run-passes-at t) run-passes.Post run-passes-Inv-loop run-passes-μ-loop
 run-passes-one-less-requires t c κs = search needs
@@ -582,28 +582,28 @@ run-passes-loop-less t c = omega (arith, left-at (c .spot-at2 .ensures), left-at
 
 run-passes-loop-again : (t : ℕ) → run-passes-lts.Need-loop-again (run-passes-claims t) (run-passes-at t) run-passes.Post run-passes-Inv-loop run-passes-μ-loop
 run-passes-loop-again t c =
-    let a = c .before .before .before .before .before .before .before .before .before .before .before .before .before .before .before .before .before .before .before .before .args in
+    let a = c .before .before .before .before .before .before .before .before .before .before .before .before .before .before .before .before .before .before .before .before .before .before .args in
     let l = c .before .before .before .before .before .before .before .before .before .before .before .before .before .before .loop in
     let u = c .before .before .before .before .before .before .before .run-sequence .ensures in
     let o = c .spot-at2 .ensures in
     let e = is-ended (c .before .before .before .before .before .before .before .run-sequence .result .stop) (sym (c .before .before .before .before .has-ended .ensures) ∙ not-false _ (c .before .before .before .if3 .left)) in (
       record {
-        ends = λ e₂ r k. l .inv .0 .ends e₂ r (passes-on-told (levelsAt (a .text .now)) (length (a .text .now)) (viewOf (a .table .now)) (a .hand .first .0) (a .hand .count) (a .level) (a .q) (l .next .0) (l .passes) (l .on) (l .out) (sym (c .before .before .before .before .before .before .before .before .before .before .before .before .before .is-over .ensures) ∙ c .before .before .before .before .before .before .before .before .before .before .before .before .if1 .left) (c .before .before .before .before .before .before .before .before .before .before .if2 .left) (c .before .before .before .before .before .before .before .before .before .begin .ensures) u e (c .before .before .one-less .ensures) o k);
+        ends = λ e₂ r k. l .inv .0 .ends e₂ r (passes-on-told (levelsAt (a .text .now)) (length (a .text .now)) (viewOf (a .table .now)) (a .first .hand .first .0) (a .first .hand .count) (a .level) (a .q) (l .next .0) (l .passes) (l .on) (l .out) (sym (c .before .before .before .before .before .before .before .before .before .before .before .before .before .is-over .ensures) ∙ c .before .before .before .before .before .before .before .before .before .before .before .before .if1 .left) (c .before .before .before .before .before .before .before .before .before .before .if2 .left) (c .before .before .before .before .before .before .before .before .before .begin .ensures) u e (c .before .before .one-less .ensures) o k);
         size = u .does .size ∙ l .inv .0 .size;
         fits = written-inside o (omega (arith, u .does .most, u .does .size));
         falls = omega (arith, left-at o, left-at (c .before .before .before .before .before .before .before .before .before .begin .ensures), u .does .falls, l .inv .0 .falls);
         inside = u .does .inside;
       },
-      place-at o (ends-inside (inside-start (a .text .now) (a .q) (c .before .before .before .before .before .before .before .before .before .before .before .before .before .before .before .before .before .before .before .before .pre .1 .1 .1 .1 .0)) (u .ends e)),
+      place-at o (ends-inside (inside-start (a .text .now) (a .q) (c .before .before .before .before .before .before .before .before .before .before .before .before .before .before .before .before .before .before .before .before .before .before .pre .1 .1 .1)) (u .ends e)),
     )
 
 abbrev run-sequence-Inv-loop : run-sequence-lts.InvT-loop
-run-sequence-Inv-loop text marks table level start hand most out₀ from p₀ next₀ left₀ at₀ out p next left at =
-    Onto (Runs (levelsAt text) (length text) (viewOf table) (handAt hand) level p) (Runs (levelsAt text) (length text) (viewOf table) (handAt hand) level start (next₀ .0) most from out₀) most (hand .count) out₀ (next .0) left at out
+run-sequence-Inv-loop text marks table level start out₀ hand p₀ next₀ left₀ at₀ out p next left at =
+    Onto (Runs (levelsAt text) (length text) (viewOf table) (handAt hand) level p) (Runs (levelsAt text) (length text) (viewOf table) (handAt hand) level start (next₀ .0) left₀ at₀ out₀) left₀ (hand .count) out₀ (next .0) left at out
     × (p ≤ length text)
 
 abbrev run-sequence-μ-loop : run-sequence-lts.MeasureT-loop
-run-sequence-μ-loop text marks table level start hand most out₀ from p₀ next₀ left₀ at₀ out p next left at =
+run-sequence-μ-loop text marks table level start out₀ hand p₀ next₀ left₀ at₀ out p next left at =
     length text - p
 
 -- what the callees of run_sequence ask and ensure, below the measure t
@@ -611,10 +611,10 @@ abbrev run-sequence-claims : ℕ → run-sequence-lts.Claims
 run-sequence-claims t = (run-short-reads.Asked, run-short-reads.Learnt, item-after-reads.Asked, item-after-reads.Learnt, ends-here-reads.Asked, ends-here-reads.Learnt, run-item-below t, run-item.Post, has-ended-reads.Asked, has-ended-reads.Learnt)
 
 run-sequence-loop-holds : (t : ℕ) → run-sequence-lts.Need-loop-holds (run-sequence-claims t) (run-sequence-at t) run-sequence.Post run-sequence-Inv-loop run-sequence-μ-loop
-run-sequence-loop-holds t c = (record { ends = λ e r k. k; size = refl; fits = c .before .before .before .before .pre .1 .1 .1 .1 .1; falls = omega arith; inside = c .before .before .before .before .pre .1 .1 .1 .0 }, c .before .before .before .before .pre .1 .1 .1 .1 .0)
+run-sequence-loop-holds t c = (record { ends = λ e r k. k; size = refl; fits = c .before .before .before .before .before .before .pre .1 .1 .0 .written; falls = omega arith; inside = c .before .before .before .before .before .before .pre .1 .1 .0 .reaches }, c .before .before .before .before .before .before .pre .1 .1 .1)
 
 run-sequence-run-short-requires : (t : ℕ) → run-sequence-lts.Need-run-short-requires (run-sequence-claims t) (run-sequence-at t) run-sequence.Post run-sequence-Inv-loop run-sequence-μ-loop
-run-sequence-run-short-requires t c κs = (c .before .before .before .before .before .before .pre .1 .1 .0, (c .before .loop .inv .0 .inside, (c .before .loop .inv .1, c .before .loop .inv .0 .fits)))
+run-sequence-run-short-requires t c κs = (record { held = c .before .before .before .before .before .before .before .before .pre .1 .1 .0 .held; reaches = c .before .loop .inv .0 .inside; written = c .before .loop .inv .0 .fits }, c .before .loop .inv .1)
 
 run-sequence-item-after-requires : (t : ℕ) → run-sequence-lts.Need-item-after-requires (run-sequence-claims t) (run-sequence-at t) run-sequence.Post run-sequence-Inv-loop run-sequence-μ-loop
 run-sequence-item-after-requires t c κs = search needs
@@ -623,53 +623,33 @@ run-sequence-ends-here-requires : (t : ℕ) → run-sequence-lts.Need-ends-here-
 run-sequence-ends-here-requires t c κs = search needs
 
 run-sequence-same-length : (t : ℕ) → run-sequence-lts.Need-same-length (run-sequence-claims t) (run-sequence-at t) run-sequence.Post run-sequence-Inv-loop run-sequence-μ-loop
-run-sequence-same-length t c = (c .before .before .before .before .before .run-short .ensures .0) (c .before .before .before .before .before .before .before .before .before .before .before .before .args .level) .does .size ∙ c .before .before .before .before .before .before .before .loop .inv .0 .size
+run-sequence-same-length t c = (c .before .before .before .before .before .run-short .ensures .0) (c .before .before .before .before .before .before .before .before .before .before .before .before .before .before .args .level) .does .size ∙ c .before .before .before .before .before .before .before .loop .inv .0 .size
 
 run-sequence-returns : (t : ℕ) → run-sequence-lts.Need-returns (run-sequence-claims t) (run-sequence-at t) run-sequence.Post run-sequence-Inv-loop run-sequence-μ-loop
 run-sequence-returns t c =
-    let a = c .before .before .before .before .before .before .before .before .before .before .before .before .args in
+    let a = c .before .before .before .before .before .before .before .before .before .before .before .before .before .before .args in
     let l = c .before .before .before .before .before .before .before .loop in
     let s = levelsAt (a .text .now) in
     let n = length (a .text .now) in
     let v = viewOf (a .table .now) in
     let w = (c .before .before .before .before .before .run-short .ensures .0) (a .level) in
-    l .inv .0 .ends _ _ (sequence-stops s n v (a .hand .first .0) (a .hand .count) (a .level) (l .p) (l .next .0) (l .left) (l .at) (l .out) w (c .before .before .item-after .ensures .ends (sym (c .before .ends-here .ensures) ∙ c .if1 .taken)))
+    l .inv .0 .ends _ _ (sequence-stops s n v (a .first .hand .first .0) (a .first .hand .count) (a .level) (l .p) (l .next .0) (l .left) (l .at) (l .out) w (c .before .before .item-after .ensures .ends (sym (c .before .ends-here .ensures) ∙ c .if1 .taken)))
 
 run-sequence-run-item-requires : (t : ℕ) → run-sequence-lts.Need-run-item-requires (run-sequence-claims t) (run-sequence-at t) run-sequence.Post run-sequence-Inv-loop run-sequence-μ-loop
 run-sequence-run-item-requires t c κs =
-    let w = (c .before .before .before .before .before .before .run-short .ensures .0) (c .before .before .before .before .before .before .before .before .before .before .before .before .before .args .level) in
-    let h = sym (c .before .before .ends-here .ensures) ∙ c .before .if1 .left in
-    (omega (arith, c .before .before .before .before .before .before .before .before .before .before .before .before .before .pre .0), (c .before .before .before .before .before .before .before .before .before .before .before .before .before .pre .1 .0, (c .before .before .before .before .before .before .before .before .before .before .before .before .before .pre .1 .1 .0, (w .does .inside, (c .before .before .before .item-after .ensures .is h, (h, omega (arith, w .does .most, w .does .size)))))))
+    let w = (c .before .before .before .before .before .before .before .run-short .ensures .0) (c .before .before .before .before .before .before .before .before .before .before .before .before .before .before .before .before .args .level) in
+    let h = sym (c .before .before .before .ends-here .ensures) ∙ c .before .before .if1 .left in
+    (omega (arith, c .before .before .before .before .before .before .before .before .before .before .before .before .before .before .before .before .pre .0), (c .before .before .before .before .before .before .before .before .before .before .before .before .before .before .before .before .pre .1 .0, (record { held = c .before .before .before .before .before .before .before .before .before .before .before .before .before .before .before .before .pre .1 .1 .0 .held; reaches = w .does .inside; written = omega (arith, w .does .most, w .does .size) }, (c .before .before .before .before .item-after .ensures .is h, h))))
 
 run-sequence-has-ended-requires : (t : ℕ) → run-sequence-lts.Need-has-ended-requires (run-sequence-claims t) (run-sequence-at t) run-sequence.Post run-sequence-Inv-loop run-sequence-μ-loop
 run-sequence-has-ended-requires t c κs = search needs
 
 run-sequence-same-length-2 : (t : ℕ) → run-sequence-lts.Need-same-length-2 (run-sequence-claims t) (run-sequence-at t) run-sequence.Post run-sequence-Inv-loop run-sequence-μ-loop
-run-sequence-same-length-2 t c = c .before .before .before .before .run-item .ensures .does .size ∙ (c .before .before .before .before .before .before .before .before .before .before .before .run-short .ensures .0) (c .before .before .before .before .before .before .before .before .before .before .before .before .before .before .before .before .before .before .args .level) .does .size ∙ c .before .before .before .before .before .before .before .before .before .before .before .before .before .loop .inv .0 .size
+run-sequence-same-length-2 t c = c .before .before .before .before .run-item .ensures .does .size ∙ (c .before .before .before .before .before .before .before .before .before .before .before .before .run-short .ensures .0) (c .before .before .before .before .before .before .before .before .before .before .before .before .before .before .before .before .before .before .before .before .before .args .level) .does .size ∙ c .before .before .before .before .before .before .before .before .before .before .before .before .before .before .loop .inv .0 .size
 
 run-sequence-returns-2 : (t : ℕ) → run-sequence-lts.Need-returns-2 (run-sequence-claims t) (run-sequence-at t) run-sequence.Post run-sequence-Inv-loop run-sequence-μ-loop
 run-sequence-returns-2 t c =
-    let a = c .before .before .before .before .before .before .before .before .before .before .before .before .before .before .before .before .before .before .args in
-    let l = c .before .before .before .before .before .before .before .before .before .before .before .before .before .loop in
-    let s = levelsAt (a .text .now) in
-    let n = length (a .text .now) in
-    let v = viewOf (a .table .now) in
-    let w = (c .before .before .before .before .before .before .before .before .before .before .before .run-short .ensures .0) (a .level) in
-    let x = c .before .before .before .before .before .before .before .before .before .before .before .run-short .result in
-    let halt = c .before .before .before .before .before .before .before .before .item-after .ensures .ended (sym (c .before .before .before .before .before .before .before .ends-here .ensures) ∙ c .before .before .before .before .before .before .if1 .left) in
-    l .inv .0 .ends _ _ (strides-runs-on s n v (a .hand .first .0) (a .hand .count) (a .level) (l .p) (l .next .0) (l .left) (l .at) (l .out) w halt (steps-stopped s n v (a .hand .first .0) (a .hand .count) (a .level) (x .place) (x .next .0) (x .left) (x .at) _ (c .before .before .before .before .run-item .ensures) (sym (c .before .has-ended .ensures) ∙ not-true _ (c .if2 .taken))))
-
-run-sequence-loop-less : (t : ℕ) → run-sequence-lts.Need-loop-less (run-sequence-claims t) (run-sequence-at t) run-sequence.Post run-sequence-Inv-loop run-sequence-μ-loop
-run-sequence-loop-less t c =
-    let w = (c .before .before .before .before .before .before .before .before .before .before .before .before .run-short .ensures .0) (c .before .before .before .before .before .before .before .before .before .before .before .before .before .before .before .before .before .before .before .args .level) in
-    let halt = c .before .before .before .before .before .before .before .before .before .item-after .ensures .ended (sym (c .before .before .before .before .before .before .before .before .ends-here .ensures) ∙ c .before .before .before .before .before .before .before .if1 .left) in
-    let u = c .before .before .before .before .before .run-item .ensures in
-    let e = is-ended (c .before .before .before .before .before .run-item .result .stop) (sym (c .before .before .has-ended .ensures) ∙ not-false _ (c .before .if2 .left)) in
-    omega (arith, u .least e, u .most e, w .least halt)
-
-run-sequence-loop-again : (t : ℕ) → run-sequence-lts.Need-loop-again (run-sequence-claims t) (run-sequence-at t) run-sequence.Post run-sequence-Inv-loop run-sequence-μ-loop
-run-sequence-loop-again t c =
-    let a = c .before .before .before .before .before .before .before .before .before .before .before .before .before .before .before .before .before .before .before .args in
+    let a = c .before .before .before .before .before .before .before .before .before .before .before .before .before .before .before .before .before .before .before .before .before .args in
     let l = c .before .before .before .before .before .before .before .before .before .before .before .before .before .before .loop in
     let s = levelsAt (a .text .now) in
     let n = length (a .text .now) in
@@ -677,10 +657,30 @@ run-sequence-loop-again t c =
     let w = (c .before .before .before .before .before .before .before .before .before .before .before .before .run-short .ensures .0) (a .level) in
     let x = c .before .before .before .before .before .before .before .before .before .before .before .before .run-short .result in
     let halt = c .before .before .before .before .before .before .before .before .before .item-after .ensures .ended (sym (c .before .before .before .before .before .before .before .before .ends-here .ensures) ∙ c .before .before .before .before .before .before .before .if1 .left) in
+    l .inv .0 .ends _ _ (strides-runs-on s n v (a .first .hand .first .0) (a .first .hand .count) (a .level) (l .p) (l .next .0) (l .left) (l .at) (l .out) w halt (steps-stopped s n v (a .first .hand .first .0) (a .first .hand .count) (a .level) (x .place) (x .next .0) (x .left) (x .at) _ (c .before .before .before .before .run-item .ensures) (sym (c .before .has-ended .ensures) ∙ not-true _ (c .if2 .taken))))
+
+run-sequence-loop-less : (t : ℕ) → run-sequence-lts.Need-loop-less (run-sequence-claims t) (run-sequence-at t) run-sequence.Post run-sequence-Inv-loop run-sequence-μ-loop
+run-sequence-loop-less t c =
+    let w = (c .before .before .before .before .before .before .before .before .before .before .before .before .before .run-short .ensures .0) (c .before .before .before .before .before .before .before .before .before .before .before .before .before .before .before .before .before .before .before .before .before .before .args .level) in
+    let halt = c .before .before .before .before .before .before .before .before .before .before .item-after .ensures .ended (sym (c .before .before .before .before .before .before .before .before .before .ends-here .ensures) ∙ c .before .before .before .before .before .before .before .before .if1 .left) in
+    let u = c .before .before .before .before .before .run-item .ensures in
+    let e = is-ended (c .before .before .before .before .before .run-item .result .stop) (sym (c .before .before .has-ended .ensures) ∙ not-false _ (c .before .if2 .left)) in
+    omega (arith, u .least e, u .most e, w .least halt)
+
+run-sequence-loop-again : (t : ℕ) → run-sequence-lts.Need-loop-again (run-sequence-claims t) (run-sequence-at t) run-sequence.Post run-sequence-Inv-loop run-sequence-μ-loop
+run-sequence-loop-again t c =
+    let a = c .before .before .before .before .before .before .before .before .before .before .before .before .before .before .before .before .before .before .before .before .before .before .args in
+    let l = c .before .before .before .before .before .before .before .before .before .before .before .before .before .before .before .loop in
+    let s = levelsAt (a .text .now) in
+    let n = length (a .text .now) in
+    let v = viewOf (a .table .now) in
+    let w = (c .before .before .before .before .before .before .before .before .before .before .before .before .before .run-short .ensures .0) (a .level) in
+    let x = c .before .before .before .before .before .before .before .before .before .before .before .before .before .run-short .result in
+    let halt = c .before .before .before .before .before .before .before .before .before .before .item-after .ensures .ended (sym (c .before .before .before .before .before .before .before .before .before .ends-here .ensures) ∙ c .before .before .before .before .before .before .before .before .if1 .left) in
     let u = c .before .before .before .before .before .run-item .ensures in
     let e = is-ended (c .before .before .before .before .before .run-item .result .stop) (sym (c .before .before .has-ended .ensures) ∙ not-false _ (c .before .if2 .left)) in (
       record {
-        ends = λ e₂ r k. l .inv .0 .ends e₂ r (strides-runs-on s n v (a .hand .first .0) (a .hand .count) (a .level) (l .p) (l .next .0) (l .left) (l .at) (l .out) w halt (runs-on s n v (a .hand .first .0) (a .hand .count) (a .level) (x .place) (x .next .0) (x .left) (x .at) _ u e k));
+        ends = λ e₂ r k. l .inv .0 .ends e₂ r (strides-runs-on s n v (a .first .hand .first .0) (a .first .hand .count) (a .level) (l .p) (l .next .0) (l .left) (l .at) (l .out) w halt (runs-on s n v (a .first .hand .first .0) (a .first .hand .count) (a .level) (x .place) (x .next .0) (x .left) (x .at) _ u e k));
         size = u .does .size ∙ w .does .size ∙ l .inv .0 .size;
         fits = omega (arith, u .does .most, u .does .size);
         falls = omega (arith, u .does .falls, w .does .falls, l .inv .0 .falls);

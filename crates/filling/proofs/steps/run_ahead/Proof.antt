@@ -11,7 +11,9 @@ use Rattle.filling.proofs.steps.unhold.Reads as unhold-reads
 use Rattle.stepping.proofs.short.run_short.Reads as run-short-reads
 
 run-short-requires : tie.Need-run-short-requires
-run-short-requires c κs = search needs
+run-short-requires c κs =
+    let pre = c .before .before .before .before .before .before .before .pre in
+    (record { held = pre .0; reaches = pre .1 .0; written = pre .1 .1 .1 .1 }, pre .1 .1 .0)
 
 unhold-requires : tie.Need-unhold-requires
 unhold-requires c κs =

@@ -25,20 +25,20 @@ enum-known-short c = search needs
 
 act-short-requires : tie.Need-act-short-requires
 act-short-requires c κs =
-    let a = (c .before .before .before .before .before .before .before .before .args) in
+    let a = (c .before .before .before .before .before .before .before .before .before .args) in
     let u = subst (ShortAt (a .text .now) (a .p)) (c .before .before .short .given .1) (c .before .before .before .before .read-short .ensures .means) in
-    (code-right (a .text .now) (a .p) _ (u .item), (u .suits, ((c .before .before .before .before .before .before .before .before .pre .0), ((c .before .before .before .before .before .before .before .before .pre .1 .0), (c .before .before .before .before .before .before .before .before .pre .1 .1 .1)))))
+    (code-right (a .text .now) (a .p) _ (u .item), (u .suits, c .before .before .before .before .before .before .before .before .before .pre .0))
 
 returns : tie.Need-returns
 returns c =
-    let a = (c .before .before .before .before .before .before .args) in (
-      λ level. strides-none (levelsAt (a .text .now)) (length (a .text .now)) (viewOf (a .table .now)) (a .hand .first .0) (a .hand .count) level (a .p) (a .next .0) (a .left) (a .at) (a .out .now) _ refl (c .before .before .before .before .before .before .pre .1 .1 .0) (c .before .before .before .before .before .before .pre .1 .1 .1) (c .before .before .before .before .before .before .pre .1 .0),
+    let a = (c .before .before .before .before .before .before .before .args) in (
+      λ level. strides-none (levelsAt (a .text .now)) (length (a .text .now)) (viewOf (a .table .now)) (a .stand .hand .first .0) (a .stand .hand .count) level (a .p) (a .stand .next .0) (a .stand .left) (a .stand .at) (a .out .now) _ refl (c .before .before .before .before .before .before .before .pre .1) (c .before .before .before .before .before .before .before .pre .0 .written) (c .before .before .before .before .before .before .before .pre .0 .reaches),
       (λ _ _. (sym (c .before .before .read-short .ensures .is) ∙ c .enum-told .given .1, (refl, refl)), (λ x q. absurd (no-end q refl), λ q. no-end-left q refl)),
     )
 
 same-length : tie.Need-same-length
 same-length c =
-    let a = (c .before .before .before .before .before .before .before .before .before .before .before .args) in
+    let a = (c .before .before .before .before .before .before .before .before .before .before .before .before .args) in
     let u = subst (ShortAt (a .text .now) (a .p)) (c .before .before .before .before .before .short .given .1) (c .before .before .before .before .before .before .before .read-short .ensures .means) in
     let one = (c .before .before .act-short .ensures .0) (levelsAt (a .text .now)) (length (a .text .now)) in
     let here = writes-at (a .text .now) (a .p) _ (u .item) _ refl in
@@ -47,17 +47,17 @@ same-length c =
 
 returns-2 : tie.Need-returns-2
 returns-2 c =
-    let start = c .before .before .before .before .before .before .before .before .before .before .before in
-    let a = start .args in
+    let a = c .before .before .before .before .before .before .before .before .before .before .before .before .args in
+    let pre = c .before .before .before .before .before .before .before .before .before .before .before .before .pre in
     let u = subst (ShortAt (a .text .now) (a .p)) (c .before .before .before .before .before .short .given .1) (c .before .before .before .before .before .before .before .read-short .ensures .means) in
     let one = (c .before .before .act-short .ensures .0) (levelsAt (a .text .now)) (length (a .text .now)) in
     let here = writes-at (a .text .now) (a .p) _ (u .item) _ refl in
     let on = directive-ahead (a .text .now) (a .p) _ (u .item) in (
-      λ level. strides (levelsAt (a .text .now)) (length (a .text .now)) (viewOf (a .table .now)) (a .hand .first .0) (a .hand .count) level (a .p) (a .next .0) (a .left) (a .at) (a .out .now) (one level (a .p) here on),
+      λ level. strides (levelsAt (a .text .now)) (length (a .text .now)) (viewOf (a .table .now)) (a .stand .hand .first .0) (a .stand .hand .count) level (a .p) (a .stand .next .0) (a .stand .left) (a .stand .at) (a .out .now) (one level (a .p) here on),
       (
         λ h q. absurd (omega (arith, q, (one 0 (a .p) here on) .least h)),
         (
-          held-up (levelsAt (a .text .now)) (length (a .text .now)) (viewOf (a .table .now)) (a .hand .first .0) (a .hand .count) (a .p) (a .next .0) (a .left) (a .at) (a .out .now) (c .before .before .act-short .result) (start .pre .1 .1 .0) (start .pre .1 .1 .1) (start .pre .1 .0) (c .before .before .act-short .ensures .1 .0),
+          held-up (levelsAt (a .text .now)) (length (a .text .now)) (viewOf (a .table .now)) (a .stand .hand .first .0) (a .stand .hand .count) (a .p) (a .stand .next .0) (a .stand .left) (a .stand .at) (a .out .now) (c .before .before .act-short .result) (pre .1) (pre .0 .written) (pre .0 .reaches) (c .before .before .act-short .ensures .1 .0),
           c .before .before .act-short .ensures .1 .1,
         ),
       ),
