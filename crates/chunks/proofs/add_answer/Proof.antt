@@ -6,18 +6,6 @@ use borrow.Author.Needs.{needs}
 use Rattle.chunks.proofs.add_answer.Statement.{statement}
 use Rattle.chunks.proofs.add_answer.Tie as tie
 
-sub-answer-with : tie.Need-sub-answer-with
-sub-answer-with c = search needs
-
-part-answer-with-start : tie.Need-part-answer-with-start
-part-answer-with-start c = search needs
-
-part-answer-with-end : tie.Need-part-answer-with-end
-part-answer-with-end c = search needs
-
-answer-with-requires : tie.Need-answer-with-requires
-answer-with-requires c κs = search needs
-
 add-end : tie.Need-add-end
 add-end c =
     let c6 = c .before .before .before .before .before .before in
@@ -36,15 +24,6 @@ add-result c =
     let c14 = c6 .before .before .before .before .before .before .before .before in
     omega (arith, longest-answer (c14 .args .line .now) (c6 .answer-with .ensures .answer))
 
-same-length : tie.Need-same-length
-same-length c = search needs
-
-same-length-2 : tie.Need-same-length-2
-same-length-2 c = search needs
-
-same-length-3 : tie.Need-same-length-3
-same-length-3 c = search needs
-
 returns : tie.Need-returns
 returns c =
     let c6 = c .before .before .before .before .before .before in
@@ -57,14 +36,14 @@ pub add-answer-spec : {M : Type 1} → statement M
 add-answer-spec =
     tie.close
     (tie.spec
-    sub-answer-with
-    part-answer-with-start
-    part-answer-with-end
-    answer-with-requires
+    (λ c. search needs)
+    (λ c. search needs)
+    (λ c. search needs)
+    (λ c κs. search needs)
     add-end
     slice-write-out
     add-result
-    same-length
-    same-length-2
-    same-length-3
+    (λ c. search needs)
+    (λ c. search needs)
+    (λ c. search needs)
     returns)

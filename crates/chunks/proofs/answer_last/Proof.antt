@@ -9,18 +9,6 @@ returns c =
     let c5 = c .before .before .before .before .before in
     last-none (c5 .args .line .now) (c .if1 .taken)
 
-add-answer-requires : tie.Need-add-answer-requires
-add-answer-requires c κs = search needs
-
-same-length : tie.Need-same-length
-same-length c = search needs
-
-same-length-2 : tie.Need-same-length-2
-same-length-2 c = search needs
-
-same-length-3 : tie.Need-same-length-3
-same-length-3 c = search needs
-
 returns-2 : tie.Need-returns-2
 returns-2 c =
     let c6 = c .before .before .before .before .before .before in
@@ -31,4 +19,4 @@ returns-2 c =
 pub answer-last-spec : {M : Type 1} → statement M
 answer-last-spec =
     tie.close
-    (tie.spec returns add-answer-requires same-length same-length-2 same-length-3 returns-2)
+    (tie.spec returns (λ c κs. search needs) (λ c. search needs) (λ c. search needs) (λ c. search needs) returns-2)

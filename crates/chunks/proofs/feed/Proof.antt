@@ -64,9 +64,6 @@ returns c =
           (c2 .loop .inv .0) (omega (arith, c .if1 .taken, c2 .loop .inv .5)),
     )
 
-line-end-requires : tie.Need-line-end-requires Inv-loop μ-loop
-line-end-requires c κs = search needs
-
 sub-hold : tie.Need-sub-hold Inv-loop μ-loop
 sub-hold c = omega (arith, c .before .line-end .ensures)
 
@@ -105,19 +102,10 @@ loop-again c =
       search needs,
     )
 
-sub-add-answer : tie.Need-sub-add-answer Inv-loop μ-loop
-sub-add-answer c = search needs
-
-part-add-answer-start : tie.Need-part-add-answer-start Inv-loop μ-loop
-part-add-answer-start c = search needs
-
 part-add-answer-end : tie.Need-part-add-answer-end Inv-loop μ-loop
 part-add-answer-end c =
     let c4 = c .before .before .before .before in
     front-within (c4 .hold .ensures)
-
-add-answer-requires : tie.Need-add-answer-requires Inv-loop μ-loop
-add-answer-requires c κs = search needs
 
 add-from : tie.Need-add-from Inv-loop μ-loop
 add-from c =
@@ -204,17 +192,17 @@ feed-spec =
     same-length-3
     same-length-4
     returns
-    line-end-requires
+    (λ c κs. search needs)
     sub-hold
     part-hold-start
     part-hold-end
     hold-requires
     loop-less
     loop-again
-    sub-add-answer
-    part-add-answer-start
+    (λ c. search needs)
+    (λ c. search needs)
     part-add-answer-end
-    add-answer-requires
+    (λ c κs. search needs)
     add-from
     loop-less-2
     loop-again-2

@@ -32,45 +32,15 @@ loop-holds c =
       search needs,
     )
 
-sub-feed : tie.Need-sub-feed Inv-loop μ-loop
-sub-feed c = search needs
-
-part-feed-start : tie.Need-part-feed-start Inv-loop μ-loop
-part-feed-start c = search needs
-
-part-feed-end : tie.Need-part-feed-end Inv-loop μ-loop
-part-feed-end c = search needs
-
 feed-requires : tie.Need-feed-requires Inv-loop μ-loop
 feed-requires c κs =
     let c6 = c .before .before .before .before .before .before in
     omega (arith, holds-within (c6 .loop .inv .0))
 
-sub-write-answers : tie.Need-sub-write-answers Inv-loop μ-loop
-sub-write-answers c = search needs
-
-part-write-answers-start : tie.Need-part-write-answers-start Inv-loop μ-loop
-part-write-answers-start c = search needs
-
 part-write-answers-end : tie.Need-part-write-answers-end Inv-loop μ-loop
 part-write-answers-end c =
     let c9 = c .before .before .before .before .before .before .before .before .before in
     filled-within (c9 .feed .ensures .0)
-
-write-answers-requires : tie.Need-write-answers-requires Inv-loop μ-loop
-write-answers-requires c κs = search needs
-
-same-length : tie.Need-same-length Inv-loop μ-loop
-same-length c = search needs
-
-same-length-2 : tie.Need-same-length-2 Inv-loop μ-loop
-same-length-2 c = search needs
-
-same-length-3 : tie.Need-same-length-3 Inv-loop μ-loop
-same-length-3 c = search needs
-
-same-length-4 : tie.Need-same-length-4 Inv-loop μ-loop
-same-length-4 c = search needs
 
 returns : tie.Need-returns Inv-loop μ-loop
 returns c = (search needs, holds-ended)
@@ -105,18 +75,6 @@ loop-again c =
       search needs,
     )
 
-same-length-5 : tie.Need-same-length-5 Inv-loop μ-loop
-same-length-5 c = search needs
-
-same-length-6 : tie.Need-same-length-6 Inv-loop μ-loop
-same-length-6 c = search needs
-
-same-length-7 : tie.Need-same-length-7 Inv-loop μ-loop
-same-length-7 c = search needs
-
-same-length-8 : tie.Need-same-length-8 Inv-loop μ-loop
-same-length-8 c = search needs
-
 returns-2 : tie.Need-returns-2 Inv-loop μ-loop
 returns-2 c =
     let c7 = c .before .before .before .before .before .before .before in (
@@ -133,24 +91,24 @@ answer-chunk-spec =
     Inv-loop
     μ-loop
     loop-holds
-    sub-feed
-    part-feed-start
-    part-feed-end
+    (λ c. search needs)
+    (λ c. search needs)
+    (λ c. search needs)
     feed-requires
-    sub-write-answers
-    part-write-answers-start
+    (λ c. search needs)
+    (λ c. search needs)
     part-write-answers-end
-    write-answers-requires
-    same-length
-    same-length-2
-    same-length-3
-    same-length-4
+    (λ c κs. search needs)
+    (λ c. search needs)
+    (λ c. search needs)
+    (λ c. search needs)
+    (λ c. search needs)
     returns
     add-from
     loop-less
     loop-again
-    same-length-5
-    same-length-6
-    same-length-7
-    same-length-8
+    (λ c. search needs)
+    (λ c. search needs)
+    (λ c. search needs)
+    (λ c. search needs)
     returns-2)

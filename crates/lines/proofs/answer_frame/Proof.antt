@@ -7,45 +7,12 @@ use Rattle.lines.proofs.Answering.{text-within, no-length, cut-short, f
 use Rattle.lines.proofs.answer_frame.Statement.{statement}
 use Rattle.lines.proofs.answer_frame.Tie as tie
 
-refuse-requires : tie.Need-refuse-requires
-refuse-requires c κs = search needs
-
-same-length : tie.Need-same-length
-same-length c = search needs
-
 returns : tie.Need-returns
 returns c =
     let c2 = c .before .before in
     let c4 = c2 .before .before in
     let c8 = c4 .before .before .before .before in
     no-length (c8 .args .frame .now) (c4 .if1 .taken) (c2 .refuse .ensures)
-
-shared-slice-read-wide : tie.Need-shared-slice-read-wide
-shared-slice-read-wide c = search needs
-
-wide-requires : tie.Need-wide-requires
-wide-requires c κs = search needs
-
-mul-end : tie.Need-mul-end
-mul-end c = search needs
-
-add-end : tie.Need-add-end
-add-end c = search needs
-
-shared-slice-read-wide-2 : tie.Need-shared-slice-read-wide-2
-shared-slice-read-wide-2 c = search needs
-
-wide-requires-2 : tie.Need-wide-requires-2
-wide-requires-2 c κs = search needs
-
-add-end-2 : tie.Need-add-end-2
-add-end-2 c = search needs
-
-refuse-requires-2 : tie.Need-refuse-requires-2
-refuse-requires-2 c κs = search needs
-
-same-length-2 : tie.Need-same-length-2
-same-length-2 c = search needs
 
 returns-2 : tie.Need-returns-2
 returns-2 c =
@@ -58,33 +25,6 @@ returns-2 c =
     cut-short (c13 .args .frame .now) (c7 .wide .ensures .0) (c5 .wide2 .ensures .0) (c9 .if1 .left) (c4 .if2 .taken)
     (c2 .refuse2 .ensures)
 
-sub-format-text : tie.Need-sub-format-text
-sub-format-text c = search needs
-
-part-format-text-start : tie.Need-part-format-text-start
-part-format-text-start c = search needs
-
-part-format-text-end : tie.Need-part-format-text-end
-part-format-text-end c = search needs
-
-sub-format-text-2 : tie.Need-sub-format-text-2
-sub-format-text-2 c = search needs
-
-part-format-text-start-2 : tie.Need-part-format-text-start-2
-part-format-text-start-2 c = search needs
-
-part-format-text-end-2 : tie.Need-part-format-text-end-2
-part-format-text-end-2 c = search needs
-
-format-text-requires : tie.Need-format-text-requires
-format-text-requires c κs = search needs
-
-sub-write-answer : tie.Need-sub-write-answer
-sub-write-answer c = search needs
-
-part-write-answer-start : tie.Need-part-write-answer-start
-part-write-answer-start c = search needs
-
 part-write-answer-end : tie.Need-part-write-answer-end
 part-write-answer-end c =
     let c3 = c .before .before .before in
@@ -95,12 +35,6 @@ write-answer-requires c κs =
     let c5 = c .before .before .before .before .before in
     let c18 = c5 .before .before .before .before .before .before .before .before .before .before .before .before .before in
     simp length-take (omega (arith, text-within (c5 .format-text .ensures), (c18 .pre)))
-
-same-length-3 : tie.Need-same-length-3
-same-length-3 c = search needs
-
-same-length-4 : tie.Need-same-length-4
-same-length-4 c = search needs
 
 returns-3 : tie.Need-returns-3
 returns-3 c =
@@ -118,30 +52,30 @@ pub answer-frame-spec : {M : Type 1} → statement M
 answer-frame-spec =
     tie.close
     (tie.spec
-    refuse-requires
-    same-length
+    (λ c κs. search needs)
+    (λ c. search needs)
     returns
-    shared-slice-read-wide
-    wide-requires
-    mul-end
-    add-end
-    shared-slice-read-wide-2
-    wide-requires-2
-    add-end-2
-    refuse-requires-2
-    same-length-2
+    (λ c. search needs)
+    (λ c κs. search needs)
+    (λ c. search needs)
+    (λ c. search needs)
+    (λ c. search needs)
+    (λ c κs. search needs)
+    (λ c. search needs)
+    (λ c κs. search needs)
+    (λ c. search needs)
     returns-2
-    sub-format-text
-    part-format-text-start
-    part-format-text-end
-    sub-format-text-2
-    part-format-text-start-2
-    part-format-text-end-2
-    format-text-requires
-    sub-write-answer
-    part-write-answer-start
+    (λ c. search needs)
+    (λ c. search needs)
+    (λ c. search needs)
+    (λ c. search needs)
+    (λ c. search needs)
+    (λ c. search needs)
+    (λ c κs. search needs)
+    (λ c. search needs)
+    (λ c. search needs)
     part-write-answer-end
     write-answer-requires
-    same-length-3
-    same-length-4
+    (λ c. search needs)
+    (λ c. search needs)
     returns-3)

@@ -21,27 +21,6 @@ loop-holds c =
     let c2 = c .before .before in
     decode-none (c2 .args .line .now) (c2 .args .frame .now)
 
-mul-digit-value : tie.Need-mul-digit-value Inv-loop μ-loop
-mul-digit-value c = search needs
-
-shared-slice-read-digit-value : tie.Need-shared-slice-read-digit-value Inv-loop μ-loop
-shared-slice-read-digit-value c = search needs
-
-digit-value-requires : tie.Need-digit-value-requires Inv-loop μ-loop
-digit-value-requires c κs = search needs
-
-mul-digit-value-2 : tie.Need-mul-digit-value-2 Inv-loop μ-loop
-mul-digit-value-2 c = search needs
-
-add-digit-value : tie.Need-add-digit-value Inv-loop μ-loop
-add-digit-value c = search needs
-
-shared-slice-read-digit-value-2 : tie.Need-shared-slice-read-digit-value-2 Inv-loop μ-loop
-shared-slice-read-digit-value-2 c = search needs
-
-digit-value-requires-2 : tie.Need-digit-value-requires-2 Inv-loop μ-loop
-digit-value-requires-2 c κs = search needs
-
 same-length : tie.Need-same-length Inv-loop μ-loop
 same-length c =
     let c6 = c .before .before .before .before .before .before in
@@ -76,15 +55,6 @@ mul-frame c = omega (arith, c .before .if1 .left)
 
 add-frame : tie.Need-add-frame Inv-loop μ-loop
 add-frame c = omega (arith, c .before .if1 .left, c .if2 .left)
-
-slice-write-frame : tie.Need-slice-write-frame Inv-loop μ-loop
-slice-write-frame c = search needs
-
-add-k : tie.Need-add-k Inv-loop μ-loop
-add-k c = search needs
-
-loop-less : tie.Need-loop-less Inv-loop μ-loop
-loop-less c = search needs
 
 loop-again : tie.Need-loop-again Inv-loop μ-loop
 loop-again c =
@@ -125,22 +95,22 @@ decode-spec =
     Inv-loop
     μ-loop
     loop-holds
-    mul-digit-value
-    shared-slice-read-digit-value
-    digit-value-requires
-    mul-digit-value-2
-    add-digit-value
-    shared-slice-read-digit-value-2
-    digit-value-requires-2
+    (λ c. search needs)
+    (λ c. search needs)
+    (λ c κs. search needs)
+    (λ c. search needs)
+    (λ c. search needs)
+    (λ c. search needs)
+    (λ c κs. search needs)
     same-length
     returns
     same-length-2
     returns-2
     mul-frame
     add-frame
-    slice-write-frame
-    add-k
-    loop-less
+    (λ c. search needs)
+    (λ c. search needs)
+    (λ c. search needs)
     loop-again
     same-length-3
     returns-3

@@ -34,9 +34,6 @@ returns-3 c =
     let l2 : b < 97 = omega arith in
     simp (le-leb 48 b l0, lt-leb b 57 h0, lt-leb 65 b l1, lt-leb 97 b l2)
 
-sub-result : tie.Need-sub-result
-sub-result c = search needs
-
 returns-4 : tie.Need-returns-4
 unfolding digitValue
 returns-4 c =
@@ -57,9 +54,6 @@ returns-5 c =
     let h1 : 70 < b = omega arith in
     let l2 : b < 97 = omega arith in
     simp (le-leb 48 b l0, lt-leb b 57 h0, le-leb 65 b l1, lt-leb b 70 h1, lt-leb 97 b l2)
-
-sub-result-2 : tie.Need-sub-result-2
-sub-result-2 c = search needs
 
 returns-6 : tie.Need-returns-6
 unfolding digitValue
@@ -92,9 +86,9 @@ digit-value-spec =
     returns
     returns-2
     returns-3
-    sub-result
+    (λ c. search needs)
     returns-4
     returns-5
-    sub-result-2
+    (λ c. search needs)
     returns-6
     returns-7)

@@ -5,15 +5,6 @@ use Rattle.lines.proofs.Answering.{numbers-end, numbers-then}
 use Rattle.lines.proofs.write_answer.Statement.{statement}
 use Rattle.lines.proofs.write_answer.Tie as tie
 
-numbers-of-requires : tie.Need-numbers-of-requires
-numbers-of-requires c κs = search needs
-
-slice-aggregate-write-hex : tie.Need-slice-aggregate-write-hex
-slice-aggregate-write-hex c = search needs
-
-write-hex-requires : tie.Need-write-hex-requires
-write-hex-requires c κs = search needs
-
 write-hex-requires-2 : tie.Need-write-hex-requires-2
 write-hex-requires-2 c κs =
     let c3 = c .before .before .before in
@@ -26,9 +17,6 @@ write-hex-requires-2 c κs =
       (c3 .write-hex .kept .1 .0),
       (c9 .pre),
     )
-
-same-length : tie.Need-same-length
-same-length c = search needs
 
 returns : tie.Need-returns
 returns c =
@@ -44,9 +32,9 @@ pub write-answer-spec : {M : Type 1} → statement M
 write-answer-spec =
     tie.close
     (tie.spec
-    numbers-of-requires
-    slice-aggregate-write-hex
-    write-hex-requires
+    (λ c κs. search needs)
+    (λ c. search needs)
+    (λ c κs. search needs)
     write-hex-requires-2
-    same-length
+    (λ c. search needs)
     returns)

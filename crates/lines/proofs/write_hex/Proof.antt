@@ -18,9 +18,6 @@ abbrev μ-loop : tie.MeasureT-loop
 loop-holds : tie.Need-loop-holds Inv-loop μ-loop
 loop-holds c = hex-none (c .before .before .pre)
 
-shared-slice-read-b : tie.Need-shared-slice-read-b Inv-loop μ-loop
-shared-slice-read-b c = search needs
-
 hex-digit-requires : tie.Need-hex-digit-requires Inv-loop μ-loop
 hex-digit-requires c κs = omega (arith, (c .shared-slice-known2 .given) ((c .before .before .loop .k)))
 
@@ -57,12 +54,6 @@ add-to c =
     let c7 = c4 .before .before .before in
     omega (arith, hex-room (c7 .pre) (c4 .loop .inv) (c3 .loop-test .taken), (c7 .good .1 .0 .0))
 
-add-k : tie.Need-add-k Inv-loop μ-loop
-add-k c = search needs
-
-loop-less : tie.Need-loop-less Inv-loop μ-loop
-loop-less c = search needs
-
 loop-again : tie.Need-loop-again Inv-loop μ-loop
 loop-again c =
     let c3 = c .before .before .before in
@@ -83,15 +74,15 @@ write-hex-spec =
     Inv-loop
     μ-loop
     loop-holds
-    shared-slice-read-b
+    (λ c. search needs)
     hex-digit-requires
     slice-write-out
     hex-digit-requires-2
     add-out
     slice-write-out-2
     add-to
-    add-k
-    loop-less
+    (λ c. search needs)
+    (λ c. search needs)
     loop-again
     same-length
     returns)

@@ -5,9 +5,6 @@ use Rattle.rules.proofs.Digits.{count-pos, count-decimal}
 use Rattle.numbers.proofs.count_decimal.Statement.{statement}
 use Rattle.numbers.proofs.count_decimal.Tie as tie
 
-count-in-requires : tie.Need-count-in-requires
-count-in-requires c κs = search needs
-
 returns : tie.Need-returns
 returns c =
     let n = c .before .args .n in (
@@ -16,4 +13,4 @@ returns c =
     )
 
 pub count-decimal-spec : {M : Type 1} → statement M
-count-decimal-spec = tie.close (tie.spec count-in-requires returns)
+count-decimal-spec = tie.close (tie.spec (λ c κs. search needs) returns)

@@ -5,21 +5,6 @@ use Rattle.numbers.proofs.Bases.{count-at}
 use Rattle.numbers.proofs.digit_count.Statement.{statement}
 use Rattle.numbers.proofs.digit_count.Tie as tie
 
-count-in-requires : tie.Need-count-in-requires
-count-in-requires c κs = search needs
-
-count-in-requires-2 : tie.Need-count-in-requires-2
-count-in-requires-2 c κs = search needs
-
-count-in-requires-3 : tie.Need-count-in-requires-3
-count-in-requires-3 c κs = search needs
-
-count-in-requires-4 : tie.Need-count-in-requires-4
-count-in-requires-4 c κs = search needs
-
-count-in-requires-5 : tie.Need-count-in-requires-5
-count-in-requires-5 c κs = search needs
-
 returns : tie.Need-returns
 returns c =
     let start = c .before .before in
@@ -49,11 +34,11 @@ pub digit-count-spec : {M : Type 1} → statement M
 digit-count-spec =
     tie.close
     (tie.spec
-    count-in-requires
-    count-in-requires-2
-    count-in-requires-3
-    count-in-requires-4
-    count-in-requires-5
+    (λ c κs. search needs)
+    (λ c κs. search needs)
+    (λ c κs. search needs)
+    (λ c κs. search needs)
+    (λ c κs. search needs)
     returns
     returns-2
     returns-3

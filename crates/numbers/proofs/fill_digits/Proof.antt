@@ -24,38 +24,17 @@ fill-in-requires-4 c κs =
     let start = c .before .before .before .before .before .before in
     (search needs, room-at (start .args .n) (c .before .if4 .taken) (start .pre .1))
 
-fill-in-requires-5 : tie.Need-fill-in-requires-5
-fill-in-requires-5 c κs = search needs
-
-same-length : tie.Need-same-length
-same-length c = search needs
-
 returns : tie.Need-returns
 returns c = digits-at _ (c .before .before .before .before .if1 .taken) (c .before .before .fill-in .ensures)
-
-same-length-2 : tie.Need-same-length-2
-same-length-2 c = search needs
 
 returns-2 : tie.Need-returns-2
 returns-2 c = digits-at _ (c .before .before .before .before .if2 .taken) (c .before .before .fill-in2 .ensures)
 
-same-length-3 : tie.Need-same-length-3
-same-length-3 c = search needs
-
 returns-3 : tie.Need-returns-3
 returns-3 c = digits-at _ (c .before .before .before .before .if3 .taken) (c .before .before .fill-in3 .ensures)
 
-same-length-4 : tie.Need-same-length-4
-same-length-4 c = search needs
-
 returns-4 : tie.Need-returns-4
 returns-4 c = digits-at _ (c .before .before .before .before .if4 .taken) (c .before .before .fill-in4 .ensures)
-
-same-length-5 : tie.Need-same-length-5
-same-length-5 c = search needs
-
-returns-5 : tie.Need-returns-5
-returns-5 c = search needs
 
 pub fill-digits-spec : {M : Type 1} → statement M
 fill-digits-spec =
@@ -65,14 +44,14 @@ fill-digits-spec =
     fill-in-requires-2
     fill-in-requires-3
     fill-in-requires-4
-    fill-in-requires-5
-    same-length
+    (λ c κs. search needs)
+    (λ c. search needs)
     returns
-    same-length-2
+    (λ c. search needs)
     returns-2
-    same-length-3
+    (λ c. search needs)
     returns-3
-    same-length-4
+    (λ c. search needs)
     returns-4
-    same-length-5
-    returns-5)
+    (λ c. search needs)
+    (λ c. search needs))

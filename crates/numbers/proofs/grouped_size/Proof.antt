@@ -14,14 +14,8 @@ returns c = (
   omega (arith, div-le-self (c .args .count - 1) (c .args .width)),
 )
 
-sub-result : tie.Need-sub-result
-sub-result c = search needs
-
-div-result : tie.Need-div-result
-div-result c = search needs
-
 add-result : tie.Need-add-result
 add-result c = omega (arith, div-le-self (c .args .count - 1) (c .args .width))
 
 pub grouped-size-spec : {M : Type 1} → statement M
-grouped-size-spec = tie.close (tie.spec sub-result div-result add-result returns)
+grouped-size-spec = tie.close (tie.spec (λ c. search needs) (λ c. search needs) add-result returns)

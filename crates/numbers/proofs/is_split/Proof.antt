@@ -5,9 +5,6 @@ use Rattle.rules.specs.Number.{splits}
 use Rattle.numbers.proofs.is_split.Statement.{statement}
 use Rattle.numbers.proofs.is_split.Tie as tie
 
-rem-result : tie.Need-rem-result
-rem-result c = search needs
-
 returns : tie.Need-returns
 unfolding splits
 returns c = rw (eq-eqb _ _ (c .if1 .taken))
@@ -17,4 +14,4 @@ unfolding splits
 returns-2 c = rw (ne-eqb _ _ (c .if1 .left))
 
 pub is-split-spec : {M : Type 1} → statement M
-is-split-spec = tie.close (tie.spec rem-result returns returns-2)
+is-split-spec = tie.close (tie.spec (λ c. search needs) returns returns-2)

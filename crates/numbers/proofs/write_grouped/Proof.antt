@@ -18,23 +18,11 @@ abbrev μ-loop : tie.MeasureT-loop
 loop-holds : tie.Need-loop-holds Inv-loop μ-loop
 loop-holds c = group-none _ _ _ _ (c .before .before .pre .1)
 
-shared-slice-read-out : tie.Need-shared-slice-read-out Inv-loop μ-loop
-shared-slice-read-out c = search needs
-
 slice-write-out : tie.Need-slice-write-out Inv-loop μ-loop
 slice-write-out c = digit-room (c .before .before .loop .inv) (c .before .loop-test .taken)
 
-add-i : tie.Need-add-i Inv-loop μ-loop
-add-i c = search needs
-
 add-to : tie.Need-add-to Inv-loop μ-loop
 add-to c = omega (arith, digit-room (c .before .before .loop .inv) (c .before .loop-test .taken))
-
-sub-left : tie.Need-sub-left Inv-loop μ-loop
-sub-left c = search needs
-
-is-split-requires : tie.Need-is-split-requires Inv-loop μ-loop
-is-split-requires c κs = search needs
 
 slice-write-out-2 : tie.Need-slice-write-out-2 Inv-loop μ-loop
 slice-write-out-2 c = comma-room (c .before .before .before .before .loop .inv) (c .before .before .before .loop-test .taken) (sym (c .before .is-split .ensures) ∙ c .if1 .taken)
@@ -43,14 +31,8 @@ add-to-2 : tie.Need-add-to-2 Inv-loop μ-loop
 add-to-2 c =
     omega (arith, simp length-set at (comma-room (c .before .before .before .before .loop .inv) (c .before .before .before .loop-test .taken) (sym (c .before .is-split .ensures) ∙ c .if1 .taken)))
 
-loop-less : tie.Need-loop-less Inv-loop μ-loop
-loop-less c = search needs
-
 loop-again : tie.Need-loop-again Inv-loop μ-loop
 loop-again c = group-split (c .before .before .before .before .loop .inv) (c .before .before .before .loop-test .taken) (sym (c .before .is-split .ensures) ∙ c .if1 .taken)
-
-loop-less-2 : tie.Need-loop-less-2 Inv-loop μ-loop
-loop-less-2 c = search needs
 
 loop-again-2 : tie.Need-loop-again-2 Inv-loop μ-loop
 loop-again-2 c = group-plain (c .before .before .before .before .loop .inv) (c .before .before .before .loop-test .taken) (sym (c .before .is-split .ensures) ∙ c .if1 .left)
@@ -68,17 +50,17 @@ write-grouped-spec =
     Inv-loop
     μ-loop
     loop-holds
-    shared-slice-read-out
+    (λ c. search needs)
     slice-write-out
-    add-i
+    (λ c. search needs)
     add-to
-    sub-left
-    is-split-requires
+    (λ c. search needs)
+    (λ c κs. search needs)
     slice-write-out-2
     add-to-2
-    loop-less
+    (λ c. search needs)
     loop-again
-    loop-less-2
+    (λ c. search needs)
     loop-again-2
     same-length
     returns)

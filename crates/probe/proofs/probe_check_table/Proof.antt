@@ -5,15 +5,6 @@ use borrow.Author.Needs.{needs}
 use Rattle.probe.proofs.probe_check_table.Statement.{statement}
 use Rattle.probe.proofs.probe_check_table.Tie as tie
 
-check-table-requires : tie.Need-check-table-requires
-check-table-requires c κs = search needs
-
-enum-told : tie.Need-enum-told
-enum-told c = search needs
-
-enum-known-verdict : tie.Need-enum-known-verdict
-enum-known-verdict c = search needs
-
 returns : tie.Need-returns
 returns c =
     let e = sym (c .enum-told .given .1) ∙ c .before .before .check-table .ensures in
@@ -26,4 +17,4 @@ returns-2 c =
 
 pub probe-check-table-spec : {M : Type 1} → statement M
 probe-check-table-spec =
-    tie.close (tie.spec check-table-requires enum-told enum-known-verdict returns returns-2)
+    tie.close (tie.spec (λ c κs. search needs) (λ c. search needs) (λ c. search needs) returns returns-2)

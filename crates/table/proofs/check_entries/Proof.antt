@@ -27,9 +27,6 @@ mul-refused c = omega arith
 add-refused : tie.Need-add-refused Inv-loop μ-loop
 add-refused c = omega arith
 
-refused-requires : tie.Need-refused-requires Inv-loop μ-loop
-refused-requires c κs = search needs
-
 returns : tie.Need-returns Inv-loop μ-loop
 returns c =
     let b = c .before .before in
@@ -62,7 +59,7 @@ check-entries-spec =
     entry-right-requires
     mul-refused
     add-refused
-    refused-requires
+    (λ c κs. search needs)
     returns
     add-i
     loop-less

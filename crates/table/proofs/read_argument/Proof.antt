@@ -45,27 +45,12 @@ be32-requires-2 c κs = omega (arith, inside (c .before .before))
 shared-slice-read-tag : tie.Need-shared-slice-read-tag
 shared-slice-read-tag c = omega (arith, inside (c .before .before .before .before))
 
-signed-requires : tie.Need-signed-requires
-signed-requires c κs = search needs
-
 cast-t15 : tie.Need-cast-t15
 cast-t15 c =
     omega (arith, character-small (at-entry (c .before .before)) (c .match .keys3))
 
 entry-count-requires : tie.Need-entry-count-requires
 entry-count-requires c κs = omega (arith, inside (c .before .before .before .before .before))
-
-mul-start : tie.Need-mul-start
-mul-start c = search needs
-
-add-start : tie.Need-add-start
-add-start c = search needs
-
-add-start-2 : tie.Need-add-start-2
-add-start-2 c = search needs
-
-add-t16 : tie.Need-add-t16
-add-t16 c = search needs
 
 returns : tie.Need-returns
 returns c =
@@ -100,13 +85,13 @@ read-argument-spec =
     add-be32-2
     be32-requires-2
     shared-slice-read-tag
-    signed-requires
+    (λ c κs. search needs)
     cast-t15
     entry-count-requires
-    mul-start
-    add-start
-    add-start-2
-    add-t16
+    (λ c. search needs)
+    (λ c. search needs)
+    (λ c. search needs)
+    (λ c. search needs)
     returns
     returns-2
     returns-3

@@ -17,12 +17,6 @@ unknown-tag (suc (suc (suc zero))) n pool i high low a b c d e = absurd (d refl)
 unknown-tag (suc (suc (suc (suc zero)))) n pool i high low a b c d e = absurd (e refl)
 unknown-tag (suc (suc (suc (suc (suc k))))) n pool i high low a b c d e = refl
 
-add-result : tie.Need-add-result
-add-result c = search needs
-
-add-result-2 : tie.Need-add-result-2
-add-result-2 c = search needs
-
 returns : tie.Need-returns
 unfolding rightFor
 returns c = rw (c .before .match .keys1, rightFor, eq-eqb _ _ (c .if1 .taken))
@@ -64,8 +58,8 @@ pub right-for-spec : {M : Type 1} → statement M
 right-for-spec =
     tie.close
     (tie.spec
-    add-result
-    add-result-2
+    (λ c. search needs)
+    (λ c. search needs)
     returns
     returns-2
     returns-3

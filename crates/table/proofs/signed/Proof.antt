@@ -6,21 +6,6 @@ use Rattle.table.proofs.SignLaws.{lower-half, UpperHalf, upper-half}
 use Rattle.table.proofs.signed.Statement.{statement}
 use Rattle.table.proofs.signed.Tie as tie
 
-mul-bits : tie.Need-mul-bits
-mul-bits c = search needs
-
-add-bits : tie.Need-add-bits
-add-bits c = search needs
-
-cast-result : tie.Need-cast-result
-cast-result c = search needs
-
-sub-result : tie.Need-sub-result
-sub-result c = search needs
-
-cast-result-2 : tie.Need-cast-result-2
-cast-result-2 c = search needs
-
 negative : (c : tie.Else1) → UpperHalf (c .before .args .high * 4294967296 + c .before .args .low)
 negative c =
     upper-half (c .before .args .high * 4294967296 + c .before .args .low) (c .if1 .left) (omega arith)
@@ -37,4 +22,4 @@ returns-2 c = negative c .reads
 pub signed-spec : {M : Type 1} → statement M
 signed-spec =
     tie.close
-    (tie.spec mul-bits add-bits cast-result sub-result cast-result-2 sub-result-2 returns returns-2)
+    (tie.spec (λ c. search needs) (λ c. search needs) (λ c. search needs) (λ c. search needs) (λ c. search needs) sub-result-2 returns returns-2)

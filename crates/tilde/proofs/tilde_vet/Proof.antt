@@ -3,11 +3,8 @@ use borrow.Author.Needs.{needs}
 use Rattle.tilde.proofs.tilde_vet.Statement.{statement}
 use Rattle.tilde.proofs.tilde_vet.Tie as tie
 
-vet-format-requires : tie.Need-vet-format-requires
-vet-format-requires c κs = search needs
-
 returns : tie.Need-returns
 returns c = (c .vet-format .ensures)
 
 pub tilde-vet-spec : {M : Type 1} → statement M
-tilde-vet-spec = tie.close (tie.spec vet-format-requires returns)
+tilde-vet-spec = tie.close (tie.spec (λ c κs. search needs) returns)

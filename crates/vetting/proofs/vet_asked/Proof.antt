@@ -5,26 +5,11 @@ use Rattle.vetting.proofs.Asks.{not-read}
 use Rattle.vetting.proofs.vet_asked.Statement.{statement}
 use Rattle.vetting.proofs.vet_asked.Tie as tie
 
-check-text-requires : tie.Need-check-text-requires
-check-text-requires c κs = search needs
-
-enum-told : tie.Need-enum-told
-enum-told c = search needs
-
 vet-read-requires : tie.Need-vet-read-requires
 vet-read-requires c κs =
     let pre = c .before .before .before .before .before .pre in
     let check-text = c .before .before .check-text in
     (pre, sym (check-text .ensures) ∙ (c .enum-told .given .1))
-
-enum-known-text : tie.Need-enum-known-text
-enum-known-text c = search needs
-
-decline-requires : tie.Need-decline-requires
-decline-requires c κs = search needs
-
-returns : tie.Need-returns
-returns c = search needs
 
 returns-2 : tie.Need-returns-2
 returns-2 c =
@@ -39,10 +24,10 @@ pub vet-asked-spec : {M : Type 1} → statement M
 vet-asked-spec =
     tie.close
     (tie.spec
-    check-text-requires
-    enum-told
+    (λ c κs. search needs)
+    (λ c. search needs)
     vet-read-requires
-    enum-known-text
-    decline-requires
-    returns
+    (λ c. search needs)
+    (λ c κs. search needs)
+    (λ c. search needs)
     returns-2)

@@ -6,9 +6,6 @@ use Rattle.vetting.proofs.Asks.{not-asked, keeps}
 use Rattle.vetting.proofs.vet_format.Statement.{statement}
 use Rattle.vetting.proofs.vet_format.Tie as tie
 
-may-ask-requires : tie.Need-may-ask-requires
-may-ask-requires c κs = search needs
-
 vet-asked-requires : tie.Need-vet-asked-requires
 vet-asked-requires c κs = sym (c .before .may-ask .ensures) ∙ (c .if1 .taken)
 
@@ -16,9 +13,6 @@ returns : tie.Need-returns
 returns c =
     let args = c .before .before .before .before .before .args in
     keeps (args .format .now) (args .kinds .now) (args .longest) (c .vet-asked .ensures)
-
-decline-requires : tie.Need-decline-requires
-decline-requires c κs = search needs
 
 returns-2 : tie.Need-returns-2
 returns-2 c =
@@ -30,4 +24,4 @@ returns-2 c =
 
 pub vet-format-spec : {M : Type 1} → statement M
 vet-format-spec =
-    tie.close (tie.spec may-ask-requires vet-asked-requires returns decline-requires returns-2)
+    tie.close (tie.spec (λ c κs. search needs) vet-asked-requires returns (λ c κs. search needs) returns-2)

@@ -6,24 +6,12 @@ use Rattle.vetting.proofs.Asks.{not-vettable, ran}
 use Rattle.vetting.proofs.vet_read.Statement.{statement}
 use Rattle.vetting.proofs.vet_read.Tie as tie
 
-check-vettable-requires : tie.Need-check-vettable-requires
-check-vettable-requires c κs = search needs
-
-enum-told : tie.Need-enum-told
-enum-told c = search needs
-
 count-format-requires : tie.Need-count-format-requires
 count-format-requires c κs =
     let args = c .before .before .before .before .before .args in
     let pre = c .before .before .before .before .before .pre in
     let check-vettable = c .before .before .check-vettable in
     (asked-of (args .kinds .now) (args .longest) (pre .0), (pre .1, sym (check-vettable .ensures) ∙ (c .enum-told .given .1)))
-
-enum-known-vettable : tie.Need-enum-known-vettable
-enum-known-vettable c = search needs
-
-decline-requires : tie.Need-decline-requires
-decline-requires c κs = search needs
 
 returns : tie.Need-returns
 returns c =
@@ -46,10 +34,10 @@ pub vet-read-spec : {M : Type 1} → statement M
 vet-read-spec =
     tie.close
     (tie.spec
-    check-vettable-requires
-    enum-told
+    (λ c κs. search needs)
+    (λ c. search needs)
     count-format-requires
-    enum-known-vettable
-    decline-requires
+    (λ c. search needs)
+    (λ c κs. search needs)
     returns
     returns-2)

@@ -11,16 +11,10 @@ use borrow.Author.Needs.{needs}
 use Rattle.acting.proofs.acting.act_form.Statement.{statement}
 use Rattle.acting.proofs.acting.act_form.Tie as tie
 
-is-well-written-requires : tie.Need-is-well-written-requires
-is-well-written-requires c κs = search needs
-
 settle-directive-requires : tie.Need-settle-directive-requires
 settle-directive-requires c κs =
     let start = c .before .before .before .before in
     (all-supplied (start .pre .1 .1 .0), start .pre .1 .1 .1 .1)
-
-enum-known-settled : tie.Need-enum-known-settled
-enum-known-settled c = search needs
 
 write-form-requires : tie.Need-write-form-requires
 write-form-requires c κs =
@@ -29,15 +23,6 @@ write-form-requires c κs =
       worked-in (a .form) _ (c .before .before .before .before .before .before .before .before .before .pre .1 .0) (form-in-range (c .before .before .before .before .settle-directive .ensures) well (c .before .before .settled .given .1) (c .before .before .before .before .before .before .before .before .before .pre .0)),
       ((c .before .before .before .before .before .before .before .before .before .pre .1 .1 .0), ((c .before .before .before .before .before .before .before .before .before .pre .1 .1 .1 .0), next-reaches (c .before .before .before .before .settle-directive .ensures) (c .before .before .settled .given .1))),
     )
-
-enum-known-settled-2 : tie.Need-enum-known-settled-2
-enum-known-settled-2 c = search needs
-
-refuse-requires : tie.Need-refuse-requires
-refuse-requires c κs = search needs
-
-same-length : tie.Need-same-length
-same-length c = search needs
 
 returns : tie.Need-returns
 returns c =
@@ -59,9 +44,6 @@ returns-2 c =
     ∙ run-refused (c .before .before .before .before .settle-directive .ensures) well (a .spot .position) (a .spot .left) _ (c .before .before .settled2 .given .1))
     (c .before .before .before .before .before .before .before .before .before .pre .1 .1 .1 .0) (c .before .before .before .before .before .before .before .before .before .pre .1 .1 .1 .1)
 
-refuse-requires-2 : tie.Need-refuse-requires-2
-refuse-requires-2 c κs = search needs
-
 returns-3 : tie.Need-returns-3
 returns-3 c =
     let a = (c .before .before .before .before .before .args) in
@@ -76,14 +58,14 @@ pub act-form-spec : {M : Type 1} → statement M
 act-form-spec =
     tie.close
     (tie.spec
-    is-well-written-requires
+    (λ c κs. search needs)
     settle-directive-requires
-    enum-known-settled
+    (λ c. search needs)
     write-form-requires
-    enum-known-settled-2
-    refuse-requires
-    same-length
+    (λ c. search needs)
+    (λ c κs. search needs)
+    (λ c. search needs)
     returns
     returns-2
-    refuse-requires-2
+    (λ c κs. search needs)
     returns-3)

@@ -14,16 +14,10 @@ use borrow.Author.Needs.{needs}
 use Rattle.acting.proofs.acting.act_jump.Statement.{statement}
 use Rattle.acting.proofs.acting.act_jump.Tie as tie
 
-is-well-written-requires : tie.Need-is-well-written-requires
-is-well-written-requires c κs = search needs
-
 settle-directive-requires : tie.Need-settle-directive-requires
 settle-directive-requires c κs =
     let start = c .before .before .before in
     (all-supplied (start .pre .1 .0), start .pre .1 .1)
-
-enum-known-settled : tie.Need-enum-known-settled
-enum-known-settled c = search needs
 
 jump-requires : tie.Need-jump-requires
 jump-requires c κs =
@@ -32,12 +26,6 @@ jump-requires c κs =
       numbered ((c .before .settled .given .0 .0 .first)) (jump-in-range (c .before .before .before .settle-directive .ensures) well (c .before .settled .given .1) (c .before .before .before .before .before .before .before .pre .0)),
       (next-reaches (c .before .before .before .settle-directive .ensures) (c .before .settled .given .1), omega (arith, hand-small (c .before .before .before .before .before .before .before .pre .1 .0))),
     )
-
-enum-known-settled-2 : tie.Need-enum-known-settled-2
-enum-known-settled-2 c = search needs
-
-refuse-requires : tie.Need-refuse-requires
-refuse-requires c κs = search needs
 
 returns : tie.Need-returns
 returns c =
@@ -59,9 +47,6 @@ returns-2 c =
     ∙ run-refused (c .before .before .before .before .settle-directive .ensures) well (a .spot .position) (a .spot .left) _ (c .before .before .settled2 .given .1))
     l (c .before .before .before .before .before .before .before .before .pre .1 .1)
 
-refuse-requires-2 : tie.Need-refuse-requires-2
-refuse-requires-2 c κs = search needs
-
 returns-3 : tie.Need-returns-3
 returns-3 c =
     let a = (c .before .before .before .before .args) in
@@ -76,13 +61,13 @@ pub act-jump-spec : {M : Type 1} → statement M
 act-jump-spec =
     tie.close
     (tie.spec
-    is-well-written-requires
+    (λ c κs. search needs)
     settle-directive-requires
-    enum-known-settled
+    (λ c. search needs)
     jump-requires
-    enum-known-settled-2
-    refuse-requires
+    (λ c. search needs)
+    (λ c κs. search needs)
     returns
     returns-2
-    refuse-requires-2
+    (λ c κs. search needs)
     returns-3)

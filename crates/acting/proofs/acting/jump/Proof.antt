@@ -10,12 +10,6 @@ use borrow.Author.Needs.{needs}
 use Rattle.acting.proofs.acting.jump.Statement.{statement}
 use Rattle.acting.proofs.acting.jump.Tie as tie
 
-number-or-requires : tie.Need-number-or-requires
-number-or-requires c κs = search needs
-
-jump-to-requires : tie.Need-jump-to-requires
-jump-to-requires c κs = search needs
-
 returns : tie.Need-returns
 returns c =
     let a = (c .before .before .before .args) in
@@ -24,12 +18,6 @@ returns c =
     ∙ ap (λ (k : ℕ). jumpTo (a .count) k) (sym (c .before .number-or .ensures))))
     ((c .jump-to .ensures) value b l)
 
-number-or-requires-2 : tie.Need-number-or-requires-2
-number-or-requires-2 c κs = search needs
-
-jump-to-requires-2 : tie.Need-jump-to-requires-2
-jump-to-requires-2 c κs = search needs
-
 returns-2 : tie.Need-returns-2
 returns-2 c =
     let a = (c .before .before .before .before .before .args) in
@@ -37,9 +25,6 @@ returns-2 c =
     (λ on. ap (λ (u : Act). joined value (a .spot .position) (a .spot .left) u on) (jump-back (a .count) (a .d) (a .settings) (a .i .0) (c .before .before .before .before .if1 .left) (c .before .before .if2 .taken) (omega (arith, (c .before .if3 .taken), (c .before .before .before .number-or2 .ensures)))
     ∙ ap (λ (k : ℕ). jumpTo (a .count) (a .i .0 - k)) (sym (c .before .before .before .number-or2 .ensures))))
     ((c .jump-to2 .ensures) value b l)
-
-refuse-requires : tie.Need-refuse-requires
-refuse-requires c κs = search needs
 
 returns-3 : tie.Need-returns-3
 returns-3 c =
@@ -50,9 +35,6 @@ returns-3 c =
 
 add-jump-to : tie.Need-add-jump-to
 add-jump-to c = omega (arith, (c .before .number-or2 .ensures), or-else-small ((c .before .before .before .args .settings .first)) 1 (c .before .before .before .pre .0) (omega arith))
-
-jump-to-requires-3 : tie.Need-jump-to-requires-3
-jump-to-requires-3 c κs = search needs
 
 returns-4 : tie.Need-returns-4
 returns-4 c =
@@ -66,14 +48,14 @@ pub jump-spec : {M : Type 1} → statement M
 jump-spec =
     tie.close
     (tie.spec
-    number-or-requires
-    jump-to-requires
+    (λ c κs. search needs)
+    (λ c κs. search needs)
     returns
-    number-or-requires-2
-    jump-to-requires-2
+    (λ c κs. search needs)
+    (λ c κs. search needs)
     returns-2
-    refuse-requires
+    (λ c κs. search needs)
     returns-3
     add-jump-to
-    jump-to-requires-3
+    (λ c κs. search needs)
     returns-4)

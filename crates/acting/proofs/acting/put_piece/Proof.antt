@@ -11,35 +11,11 @@ use borrow.Author.Needs.{needs}
 use Rattle.acting.proofs.acting.put_piece.Statement.{statement}
 use Rattle.acting.proofs.acting.put_piece.Tie as tie
 
-piece-length-requires : tie.Need-piece-length-requires
-piece-length-requires c κs = search needs
-
-sub-if1 : tie.Need-sub-if1
-sub-if1 c = search needs
-
-add-end : tie.Need-add-end
-add-end c = search needs
-
-sub-write-whole : tie.Need-sub-write-whole
-sub-write-whole c = search needs
-
-part-write-whole-start : tie.Need-part-write-whole-start
-part-write-whole-start c = search needs
-
-part-write-whole-end : tie.Need-part-write-whole-end
-part-write-whole-end c = search needs
-
 write-whole-requires : tie.Need-write-whole-requires
 write-whole-requires c κs =
     let a = (c .before .before .before .before .before .args) in
     let w = bytesOf (a .table .now) (a .piece) in
     ((c .before .before .before .before .before .pre .0), lent-length (a .out .now) (a .spot .at) (c .before .before .piece-length .result) w ((c .before .before .piece-length .ensures .0) (a .table .now) (c .before .before .before .before .before .pre .0)) (c .before .if1 .taken) (c .before .before .before .before .before .pre .1 .0))
-
-go-on-requires : tie.Need-go-on-requires
-go-on-requires c κs = search needs
-
-same-length : tie.Need-same-length
-same-length c = search needs
 
 returns : tie.Need-returns
 returns c =
@@ -52,9 +28,6 @@ returns c =
           (c .before .before .before .before .before .before .before .before .before .pre .1 .1 .1),
       untouched-on _ (c .go-on .ensures),
     )
-
-refuse-requires : tie.Need-refuse-requires
-refuse-requires c κs = search needs
 
 returns-2 : tie.Need-returns-2
 returns-2 c =
@@ -69,15 +42,15 @@ pub put-piece-spec : {M : Type 1} → statement M
 put-piece-spec =
     tie.close
     (tie.spec
-    piece-length-requires
-    sub-if1
-    add-end
-    sub-write-whole
-    part-write-whole-start
-    part-write-whole-end
+    (λ c κs. search needs)
+    (λ c. search needs)
+    (λ c. search needs)
+    (λ c. search needs)
+    (λ c. search needs)
+    (λ c. search needs)
     write-whole-requires
-    go-on-requires
-    same-length
+    (λ c κs. search needs)
+    (λ c. search needs)
     returns
-    refuse-requires
+    (λ c κs. search needs)
     returns-2)

@@ -5,12 +5,6 @@ use Rattle.acting.proofs.Plans.{shown-reaches, shown, not-shown}
 use Rattle.acting.proofs.acting.write_form.Statement.{statement}
 use Rattle.acting.proofs.acting.write_form.Tie as tie
 
-plan-settled-requires : tie.Need-plan-settled-requires
-plan-settled-requires c κs = search needs
-
-enum-known-planned : tie.Need-enum-known-planned
-enum-known-planned c = search needs
-
 make-piece-requires : tie.Need-make-piece-requires
 make-piece-requires c κs =
     let k = shown-reaches (c .before .before .before .plan-settled .ensures) (c .before .planned .given .1) in
@@ -20,15 +14,6 @@ put-piece-requires : tie.Need-put-piece-requires
 put-piece-requires c κs =
     let k = shown-reaches (c .before .before .before .before .before .plan-settled .ensures) (c .before .before .before .planned .given .1) in
     (c .before .make-piece .ensures .good, (c .before .before .before .before .before .before .before .before .pre .1 .1 .0, (c .before .before .before .before .before .before .before .before .pre .1 .1 .1, k .1 .1)))
-
-enum-known-planned-2 : tie.Need-enum-known-planned-2
-enum-known-planned-2 c = search needs
-
-refuse-requires : tie.Need-refuse-requires
-refuse-requires c κs = search needs
-
-same-length : tie.Need-same-length
-same-length c = search needs
 
 returns : tie.Need-returns
 returns c =
@@ -52,12 +37,12 @@ pub write-form-spec : {M : Type 1} → statement M
 write-form-spec =
     tie.close
     (tie.spec
-    plan-settled-requires
-    enum-known-planned
+    (λ c κs. search needs)
+    (λ c. search needs)
     make-piece-requires
     put-piece-requires
-    enum-known-planned-2
-    refuse-requires
-    same-length
+    (λ c. search needs)
+    (λ c κs. search needs)
+    (λ c. search needs)
     returns
     returns-2)

@@ -19,26 +19,8 @@ use Rattle.acting.proofs.ActLaws.{untouched-on, untouched-refused}
 use Rattle.acting.proofs.direct.put_decimal.Statement.{statement}
 use Rattle.acting.proofs.direct.put_decimal.Tie as tie
 
-magnitude-requires : tie.Need-magnitude-requires
-magnitude-requires c κs = search needs
-
-count-decimal-requires : tie.Need-count-decimal-requires
-count-decimal-requires c κs = search needs
-
-sign-size-requires : tie.Need-sign-size-requires
-sign-size-requires c κs = search needs
-
 add-size : tie.Need-add-size
 add-size c = omega (arith, c .sign-size .ensures .1, c .before .count-decimal .ensures .1 .1)
-
-larger-requires : tie.Need-larger-requires
-larger-requires c κs = search needs
-
-sub-if1 : tie.Need-sub-if1
-sub-if1 c = search needs
-
-add-to : tie.Need-add-to
-add-to c = search needs
 
 -- what the code has at hand: the magnitude and the sizes
 digits-are : (c : tie.After-magnitude) → c .magnitude .result ≡ magnitudeOf (c .before .before .args .x)
@@ -51,27 +33,6 @@ counted-at c =
     let back = toZ-ofZ w64 (start .args .x) (start .fits .x) in
     counted (digits-are (c .before .before .before)) (c .before .before .count-decimal .ensures .0)
     ((c .before .sign-size .ensures .0) ∙ ap (λ (z : ℤ). length (signOf false z)) back) (c .larger .ensures)
-
-sub-first : tie.Need-sub-first
-sub-first c = search needs
-
-sub-digits : tie.Need-sub-digits
-sub-digits c = search needs
-
-sub-fill : tie.Need-sub-fill
-sub-fill c = search needs
-
-part-fill-start : tie.Need-part-fill-start
-part-fill-start c = search needs
-
-part-fill-end : tie.Need-part-fill-end
-part-fill-end c = search needs
-
-fill-requires : tie.Need-fill-requires
-fill-requires c κs = search needs
-
-slice-write-out : tie.Need-slice-write-out
-slice-write-out c = search needs
 
 -- what is put before the digits
 so-far : (c : tie.Joined2) → let a = c .before .before .before .before .before .before .before .before .before .before .before .args in
@@ -102,20 +63,8 @@ all c y e =
     let a = start .args in
     decimal-put (a .width) (a .pad) (counted-at (c .before .before .before .before .before .before)) (a .out .now) (a .spot .at) (start .pre) (c .before .before .before .before .before .if1 .taken) y (so-far c) (e ∙ ap (digitsOf 10) (digits-are (c .before .before .before .before .before .before .before .before .before)))
 
-sub-fill-decimal : tie.Need-sub-fill-decimal
-sub-fill-decimal c = search needs
-
-part-fill-decimal-start : tie.Need-part-fill-decimal-start
-part-fill-decimal-start c = search needs
-
 part-fill-decimal-end : tie.Need-part-fill-decimal-end
 part-fill-decimal-end c = omega (arith, so-far c .size, c .before .before .before .before .before .if1 .taken, c .before .before .before .before .before .before .before .before .before .before .before .pre)
-
-fill-decimal-requires : tie.Need-fill-decimal-requires
-fill-decimal-requires c κs = search needs
-
-go-on-requires : tie.Need-go-on-requires
-go-on-requires c κs = search needs
 
 same-length : tie.Need-same-length
 same-length c = all (c .before .before .before .before .before) _ (c .before .before .before .fill-decimal .ensures) .size
@@ -129,9 +78,6 @@ returns c =
       untouched-on _ (c .go-on .ensures),
     )
 
-refuse-requires : tie.Need-refuse-requires
-refuse-requires c κs = search needs
-
 returns-2 : tie.Need-returns-2
 returns-2 c =
     let a = c .before .before .before .before .before .before .before .args in (
@@ -144,26 +90,26 @@ pub put-decimal-spec : {M : Type 1} → statement M
 put-decimal-spec =
     tie.close
     (tie.spec
-    magnitude-requires
-    count-decimal-requires
-    sign-size-requires
+    (λ c κs. search needs)
+    (λ c κs. search needs)
+    (λ c κs. search needs)
     add-size
-    larger-requires
-    sub-if1
-    add-to
-    sub-first
-    sub-digits
-    sub-fill
-    part-fill-start
-    part-fill-end
-    fill-requires
-    slice-write-out
-    sub-fill-decimal
-    part-fill-decimal-start
+    (λ c κs. search needs)
+    (λ c. search needs)
+    (λ c. search needs)
+    (λ c. search needs)
+    (λ c. search needs)
+    (λ c. search needs)
+    (λ c. search needs)
+    (λ c. search needs)
+    (λ c κs. search needs)
+    (λ c. search needs)
+    (λ c. search needs)
+    (λ c. search needs)
     part-fill-decimal-end
-    fill-decimal-requires
-    go-on-requires
+    (λ c κs. search needs)
+    (λ c κs. search needs)
     same-length
     returns
-    refuse-requires
+    (λ c κs. search needs)
     returns-2)

@@ -7,30 +7,6 @@ use Rattle.acting.proofs.ActLaws.{untouched-on, untouched-refused}
 use Rattle.acting.proofs.direct.put_run.Statement.{statement}
 use Rattle.acting.proofs.direct.put_run.Tie as tie
 
-sub-if1 : tie.Need-sub-if1
-sub-if1 c = search needs
-
-add-end : tie.Need-add-end
-add-end c = search needs
-
-sub-fill : tie.Need-sub-fill
-sub-fill c = search needs
-
-part-fill-start : tie.Need-part-fill-start
-part-fill-start c = search needs
-
-part-fill-end : tie.Need-part-fill-end
-part-fill-end c = search needs
-
-fill-requires : tie.Need-fill-requires
-fill-requires c κs = search needs
-
-go-on-requires : tie.Need-go-on-requires
-go-on-requires c κs = search needs
-
-same-length : tie.Need-same-length
-same-length c = search needs
-
 returns : tie.Need-returns
 returns c =
     let start = c .before .before .before .before .before .before .before in
@@ -39,9 +15,6 @@ returns c =
           (run-put (a .out .now) (a .spot .at) (a .n) (a .byte) _ (start .pre) (c .before .before .before .before .before .if1 .taken) (c .before .before .before .fill .ensures)) k,
       untouched-on _ (c .go-on .ensures),
     )
-
-refuse-requires : tie.Need-refuse-requires
-refuse-requires c κs = search needs
 
 returns-2 : tie.Need-returns-2
 returns-2 c =
@@ -55,14 +28,14 @@ pub put-run-spec : {M : Type 1} → statement M
 put-run-spec =
     tie.close
     (tie.spec
-    sub-if1
-    add-end
-    sub-fill
-    part-fill-start
-    part-fill-end
-    fill-requires
-    go-on-requires
-    same-length
+    (λ c. search needs)
+    (λ c. search needs)
+    (λ c. search needs)
+    (λ c. search needs)
+    (λ c. search needs)
+    (λ c κs. search needs)
+    (λ c κs. search needs)
+    (λ c. search needs)
     returns
-    refuse-requires
+    (λ c κs. search needs)
     returns-2)

@@ -7,12 +7,6 @@ use borrow.Author.Needs.{needs}
 use Rattle.acting.proofs.planning.glyph_source.Statement.{statement}
 use Rattle.acting.proofs.planning.glyph_source.Tie as tie
 
-enum-told : tie.Need-enum-told
-enum-told c = search needs
-
-enum-known-setting : tie.Need-enum-known-setting
-enum-known-setting c = search needs
-
 cast-t4 : tie.Need-cast-t4
 cast-t4 c = omega (arith, coded-fits (c .before .setting .given .1) (c .before .before .before .pre))
 
@@ -23,4 +17,4 @@ returns-2 : tie.Need-returns-2
 returns-2 c = (λ t. sym (ap glyphSource ((c .before .setting .given .1))), λ t. tt)
 
 pub glyph-source-spec : {M : Type 1} → statement M
-glyph-source-spec = tie.close (tie.spec enum-told enum-known-setting cast-t4 returns returns-2)
+glyph-source-spec = tie.close (tie.spec (λ c. search needs) (λ c. search needs) cast-t4 returns returns-2)

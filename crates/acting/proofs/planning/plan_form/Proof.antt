@@ -9,16 +9,10 @@ use Rattle.acting.proofs.Plans.{plans-ill, plans-unsettled, plans-settl
 use Rattle.acting.proofs.planning.plan_form.Statement.{statement}
 use Rattle.acting.proofs.planning.plan_form.Tie as tie
 
-is-well-written-requires : tie.Need-is-well-written-requires
-is-well-written-requires c κs = search needs
-
 settle-directive-requires : tie.Need-settle-directive-requires
 settle-directive-requires c κs =
     let start = c .before .before .before in
     (all-supplied (start .pre .1 .1 .0), start .pre .1 .1 .1)
-
-enum-known-settled : tie.Need-enum-known-settled
-enum-known-settled c = search needs
 
 plan-settled-requires : tie.Need-plan-settled-requires
 plan-settled-requires c κs =
@@ -27,9 +21,6 @@ plan-settled-requires c κs =
       worked-in (start .args .form) _ (start .pre .1 .0) (form-in-range (c .before .before .before .settle-directive .ensures) well (c .before .settled .given .1) (start .pre .0)),
       (start .pre .1 .1 .0, next-reaches (c .before .before .before .settle-directive .ensures) (c .before .settled .given .1)),
     )
-
-enum-known-settled-2 : tie.Need-enum-known-settled-2
-enum-known-settled-2 c = search needs
 
 returns : tie.Need-returns
 returns c =
@@ -47,11 +38,11 @@ pub plan-form-spec : {M : Type 1} → statement M
 plan-form-spec =
     tie.close
     (tie.spec
-    is-well-written-requires
+    (λ c κs. search needs)
     settle-directive-requires
-    enum-known-settled
+    (λ c. search needs)
     plan-settled-requires
-    enum-known-settled-2
+    (λ c. search needs)
     returns
     returns-2
     returns-3)

@@ -6,24 +6,9 @@ use Rattle.acting.proofs.Plans.{plans-none, plans-shown, plans-other}
 use Rattle.acting.proofs.planning.plan_settled.Statement.{statement}
 use Rattle.acting.proofs.planning.plan_settled.Tie as tie
 
-source-of-requires : tie.Need-source-of-requires
-source-of-requires c κs = search needs
-
 take-argument-requires : tie.Need-take-argument-requires
 take-argument-requires c κs =
     (c .before .before .pre .1 .0, ((c .source-of .ensures .1) (c .before .before .args .table .now), c .before .before .pre .1 .1))
-
-enum-told : tie.Need-enum-told
-enum-told c = search needs
-
-enum-known-taken : tie.Need-enum-known-taken
-enum-known-taken c = search needs
-
-kind-of-requires : tie.Need-kind-of-requires
-kind-of-requires c κs = search needs
-
-takes-kind-requires : tie.Need-takes-kind-requires
-takes-kind-requires c κs = search needs
 
 returns : tie.Need-returns
 returns c =
@@ -46,12 +31,12 @@ pub plan-settled-spec : {M : Type 1} → statement M
 plan-settled-spec =
     tie.close
     (tie.spec
-    source-of-requires
+    (λ c κs. search needs)
     take-argument-requires
-    enum-told
-    enum-known-taken
-    kind-of-requires
-    takes-kind-requires
+    (λ c. search needs)
+    (λ c. search needs)
+    (λ c κs. search needs)
+    (λ c κs. search needs)
     returns
     returns-2
     returns-3)

@@ -6,21 +6,9 @@ use Rattle.rules.specs.Working.{sourceBy}
 use Rattle.acting.proofs.planning.source_by.Statement.{statement}
 use Rattle.acting.proofs.planning.source_by.Tie as tie
 
-enum-told : tie.Need-enum-told
-enum-told c = search needs
-
-enum-told-2 : tie.Need-enum-told-2
-enum-told-2 c = search needs
-
-enum-told-3 : tie.Need-enum-told-3
-enum-told-3 c = search needs
-
 returns : tie.Need-returns
 returns c =
     (λ t. sym (ap (λ (o : Origin). sourceBy o (c .before .before .before .args .colon) (c .before .before .before .args .settings)) (c .before .enum-told3 .given .1) ∙ rw (c .if1 .taken)), λ t. tt)
-
-enum-told-4 : tie.Need-enum-told-4
-enum-told-4 c = search needs
 
 glyph-source-requires : tie.Need-glyph-source-requires
 glyph-source-requires c κs =
@@ -46,11 +34,11 @@ pub source-by-spec : {M : Type 1} → statement M
 source-by-spec =
     tie.close
     (tie.spec
-    enum-told
-    enum-told-2
-    enum-told-3
+    (λ c. search needs)
+    (λ c. search needs)
+    (λ c. search needs)
     returns
-    enum-told-4
+    (λ c. search needs)
     glyph-source-requires
     returns-2
     returns-3

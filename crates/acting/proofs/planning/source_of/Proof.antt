@@ -8,9 +8,6 @@ use Rattle.acting.proofs.Sources.{origin-right}
 use Rattle.acting.proofs.planning.source_of.Statement.{statement}
 use Rattle.acting.proofs.planning.source_of.Tie as tie
 
-form-row-requires : tie.Need-form-row-requires
-form-row-requires c κs = search needs
-
 source-by-requires : tie.Need-source-by-requires
 source-by-requires c κs =
     rw (c .form-row .ensures) (origin-right (c .before .args .form) (c .before .pre))
@@ -20,4 +17,4 @@ returns c =
     (λ t. (c .source-by .ensures .0) t ∙ ap (λ (o : Origin). sourceBy o (c .before .before .args .colon) (c .before .before .args .settings)) (ap (λ (w : Row). w .origin) (c .before .form-row .ensures)), λ t. (c .source-by .ensures .1) t)
 
 pub source-of-spec : {M : Type 1} → statement M
-source-of-spec = tie.close (tie.spec form-row-requires source-by-requires returns)
+source-of-spec = tie.close (tie.spec (λ c κs. search needs) source-by-requires returns)

@@ -4,34 +4,13 @@ use borrow.Author.Needs.{needs}
 use Rattle.acting.proofs.planning.take_argument.Statement.{statement}
 use Rattle.acting.proofs.planning.take_argument.Tie as tie
 
-enum-told : tie.Need-enum-told
-enum-told c = search needs
-
 returns : tie.Need-returns
 returns c =
     takes-own-none (c .before .before .enum-told .given .1) (c .if1 .taken)
 
-argument-at-requires : tie.Need-argument-at-requires
-argument-at-requires c κs = search needs
-
-add-t10 : tie.Need-add-t10
-add-t10 c = search needs
-
-enum-told-2 : tie.Need-enum-told-2
-enum-told-2 c = search needs
-
 returns-2 : tie.Need-returns-2
 returns-2 c =
     takes-back-none (c .before .enum-told2 .given .1) (c .if2 .taken)
-
-sub-t14 : tie.Need-sub-t14
-sub-t14 c = search needs
-
-argument-at-requires-2 : tie.Need-argument-at-requires-2
-argument-at-requires-2 c κs = search needs
-
-enum-known-source : tie.Need-enum-known-source
-enum-known-source c = search needs
 
 returns-3 : tie.Need-returns-3
 returns-3 c =
@@ -49,15 +28,15 @@ pub take-argument-spec : {M : Type 1} → statement M
 take-argument-spec =
     tie.close
     (tie.spec
-    enum-told
+    (λ c. search needs)
     returns
-    argument-at-requires
-    add-t10
-    enum-told-2
+    (λ c κs. search needs)
+    (λ c. search needs)
+    (λ c. search needs)
     returns-2
-    sub-t14
-    argument-at-requires-2
-    enum-known-source
+    (λ c. search needs)
+    (λ c κs. search needs)
+    (λ c. search needs)
     returns-3
     returns-4
     returns-5)

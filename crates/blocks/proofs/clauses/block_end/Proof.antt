@@ -4,20 +4,11 @@ use borrow.Author.Needs.{needs}
 use Rattle.blocks.proofs.clauses.block_end.Statement.{statement}
 use Rattle.blocks.proofs.clauses.block_end.Tie as tie
 
-nearest-requires : tie.Need-nearest-requires
-nearest-requires c κs = search needs
-
-after-block-requires : tie.Need-after-block-requires
-after-block-requires c κs = search needs
-
 returns : tie.Need-returns
 returns c = inside-end (c .before .before .before .before .before .before .pre .1) (c .after-block .ensures)
 
 returns-2 : tie.Need-returns-2
 returns-2 c = end-known (c .before .before .before .before .nearest .ensures _ (c .before .before .before .before .before .before .before .pre .0)) (c .before .before .before .before .before .before .before .pre .1) (c .before .before .if1 .left) (c .if2 .taken)
-
-farther-requires : tie.Need-farther-requires
-farther-requires c κs = search needs
 
 after-block-requires-2 : tie.Need-after-block-requires-2
 after-block-requires-2 c κs = farther-inside (c .before .before .before .before .before .nearest .ensures _ (c .before .before .before .before .before .before .before .before .pre .0)) (c .before .before .before .before .before .before .before .before .pre .1) (c .before .before .before .if1 .left) (c .farther .ensures) .most
@@ -29,10 +20,10 @@ pub block-end-spec : {M : Type 1} → statement M
 block-end-spec =
     tie.close
     (tie.spec
-    nearest-requires
-    after-block-requires
+    (λ c κs. search needs)
+    (λ c κs. search needs)
     returns
     returns-2
-    farther-requires
+    (λ c κs. search needs)
     after-block-requires-2
     returns-3)

@@ -4,24 +4,6 @@ use borrow.Author.Needs.{needs}
 use Rattle.blocks.proofs.clauses.choose_clause.Statement.{statement}
 use Rattle.blocks.proofs.clauses.choose_clause.Tie as tie
 
-want-clause-requires : tie.Need-want-clause-requires
-want-clause-requires c κs = search needs
-
-enum-known-wanted : tie.Need-enum-known-wanted
-enum-known-wanted c = search needs
-
-find-clause-requires : tie.Need-find-clause-requires
-find-clause-requires c κs = search needs
-
-follow-requires : tie.Need-follow-requires
-follow-requires c κs = search needs
-
-enum-known-wanted-2 : tie.Need-enum-known-wanted-2
-enum-known-wanted-2 c = search needs
-
-enum-known-wanted-3 : tie.Need-enum-known-wanted-3
-enum-known-wanted-3 c = search needs
-
 returns : tie.Need-returns
 returns c = chosen-found (c .before .find-clause .result) (c .before .before .before .before .before .want-clause .ensures) (c .before .before .before .wanted .given .1) (c .before .find-clause .ensures) (c .follow .ensures)
 
@@ -35,12 +17,12 @@ pub choose-clause-spec : {M : Type 1} → statement M
 choose-clause-spec =
     tie.close
     (tie.spec
-    want-clause-requires
-    enum-known-wanted
-    find-clause-requires
-    follow-requires
-    enum-known-wanted-2
-    enum-known-wanted-3
+    (λ c κs. search needs)
+    (λ c. search needs)
+    (λ c κs. search needs)
+    (λ c κs. search needs)
+    (λ c. search needs)
+    (λ c. search needs)
     returns
     returns-2
     returns-3)

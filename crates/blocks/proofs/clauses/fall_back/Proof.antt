@@ -6,9 +6,6 @@ use borrow.Author.Needs.{needs}
 use Rattle.blocks.proofs.clauses.fall_back.Statement.{statement}
 use Rattle.blocks.proofs.clauses.fall_back.Tie as tie
 
-both-requires : tie.Need-both-requires
-both-requires c κs = search needs
-
 returns : tie.Need-returns
 returns c = ap (λ (x : Bool). cond x (At ((c .before .before) .args .z)) (Nothing ((c .before .before) .args .z))) (sym (c .if1 .taken) ∙ (c .before) .both .ensures)
 
@@ -16,4 +13,4 @@ returns-2 : tie.Need-returns-2
 returns-2 c = ap (λ (x : Bool). cond x (At ((c .before .before) .args .z)) (Nothing ((c .before .before) .args .z))) (sym (c .if1 .left) ∙ (c .before) .both .ensures)
 
 pub fall-back-spec : {M : Type 1} → statement M
-fall-back-spec = tie.close (tie.spec both-requires returns returns-2)
+fall-back-spec = tie.close (tie.spec (λ c κs. search needs) returns returns-2)

@@ -6,26 +6,11 @@ use borrow.Author.Needs.{needs}
 use Rattle.blocks.proofs.clauses.find_clause.Statement.{statement}
 use Rattle.blocks.proofs.clauses.find_clause.Tie as tie
 
-number-or-last-requires : tie.Need-number-or-last-requires
-number-or-last-requires c κs = search needs
-
-nearest-requires : tie.Need-nearest-requires
-nearest-requires c κs = search needs
-
-leads-requires : tie.Need-leads-requires
-leads-requires c κs = search needs
-
-less-requires : tie.Need-less-requires
-less-requires c κs = search needs
-
 seek-from-requires : tie.Need-seek-from-requires
 seek-from-requires c κs = led-sound (c .before .before .before .nearest .result) (c .before .before .before .before .before .before .before .args .start) (c .before .before .before .before .before .before .before .args .n) (c .before .before .before .before .before .before .before .args .counted) (c .before .before .before .nearest .ensures _ (c .before .before .before .before .before .before .before .pre .0)) (sym (c .before .before .leads .ensures) ∙ c .before .if1 .taken) (c .before .before .before .before .before .before .before .pre .1)
 
 returns : tie.Need-returns
 returns c = c .seek-from .ensures _ _ (led-seeks (c .before .before .before .before .nearest .result) (c .before .before .before .before .before .before .before .before .args .start) (c .before .before .before .before .before .before .before .before .args .n) (c .before .before .before .before .before .before .before .before .args .counted) (c .before .before .before .before .nearest .ensures _ (c .before .before .before .before .before .before .before .before .pre .0)) (sym (c .before .before .before .leads .ensures) ∙ c .before .before .if1 .taken) (c .before .before .before .before .before .before .before .before .pre .1) (c .before .before .before .before .before .before .before .before .args .fallback) (c .before .less .ensures))
-
-seek-clause-requires : tie.Need-seek-clause-requires
-seek-clause-requires c κs = search needs
 
 returns-2 : tie.Need-returns-2
 returns-2 c = c .seek-clause .ensures _ _ (seek-start (c .before .before .before .before .before .before .before .args .text .now) (c .before .before .before .before .before .before .before .args .start) (c .before .before .before .before .before .before .before .args .n) (c .before .before .before .before .before .before .before .args .counted) (c .before .before .before .before .before .before .before .args .fallback) (c .before .before .before .before .before .before .before .pre .1))
@@ -34,11 +19,11 @@ pub find-clause-spec : {M : Type 1} → statement M
 find-clause-spec =
     tie.close
     (tie.spec
-    number-or-last-requires
-    nearest-requires
-    leads-requires
-    less-requires
+    (λ c κs. search needs)
+    (λ c κs. search needs)
+    (λ c κs. search needs)
+    (λ c κs. search needs)
     seek-from-requires
     returns
-    seek-clause-requires
+    (λ c κs. search needs)
     returns-2)

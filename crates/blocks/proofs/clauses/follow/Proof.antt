@@ -6,12 +6,6 @@ use Rattle.blocks.specs.declared.clauses.Found.{Found}
 use Rattle.blocks.proofs.clauses.follow.Statement.{statement}
 use Rattle.blocks.proofs.clauses.follow.Tie as tie
 
-enum-known-found : tie.Need-enum-known-found
-enum-known-found c = search needs
-
-enum-known-found-2 : tie.Need-enum-known-found-2
-enum-known-found-2 c = search needs
-
 returns : tie.Need-returns
 returns c = sym (ap (λ (x : Found). followedBy x (c .before .before .before .args .next)) (c .before .found .given .1))
 
@@ -19,4 +13,4 @@ returns-2 : tie.Need-returns-2
 returns-2 c = sym (ap (λ (x : Found). followedBy x (c .before .before .before .args .next)) (c .before .found2 .given .1))
 
 pub follow-spec : {M : Type 1} → statement M
-follow-spec = tie.close (tie.spec enum-known-found enum-known-found-2 returns returns-2)
+follow-spec = tie.close (tie.spec (λ c. search needs) (λ c. search needs) returns returns-2)

@@ -21,29 +21,14 @@ abbrev μ-loop : tie.MeasureT-loop
 loop-holds : tie.Need-loop-holds Inv-loop μ-loop
 loop-holds c = (c .before .pre, λ i w s. s)
 
-both-requires : tie.Need-both-requires Inv-loop μ-loop
-both-requires c κs = search needs
-
 returns : tie.Need-returns Inv-loop μ-loop
 returns c = λ i w s. seek-here (c .before .before .loop .inv .1 i w s) (sym (c .before .both .ensures) ∙ c .if1 .taken)
 
 next-clause-requires : tie.Need-next-clause-requires Inv-loop μ-loop
 next-clause-requires c κs = c .before .before .loop .inv .0
 
-enum-told : tie.Need-enum-told Inv-loop μ-loop
-enum-told c = search needs
-
-fall-back-requires : tie.Need-fall-back-requires Inv-loop μ-loop
-fall-back-requires c κs = search needs
-
 returns-2 : tie.Need-returns-2 Inv-loop μ-loop
 returns-2 c = λ i w s. seek-last (c .before .before .before .before .before .before .loop .inv .1 i w s) (sym (c .before .before .before .before .before .both .ensures) ∙ c .before .before .before .before .if1 .left) ((subst (EndsClause (c .before .before .before .before .before .before .before .before .args .text .now) (c .before .before .before .before .before .before .loop .z)) (c .before .enum-told .given .1) (c .before .before .before .next-clause .ensures)) .more) (c .fall-back .ensures)
-
-enum-known-e : tie.Need-enum-known-e Inv-loop μ-loop
-enum-known-e c = search needs
-
-less-requires : tie.Need-less-requires Inv-loop μ-loop
-less-requires c κs = search needs
 
 loop-less : tie.Need-loop-less Inv-loop μ-loop
 loop-less c = seek-less (subst (EndsClause (c .before .before .before .before .before .before .before .before .before .args .text .now) (c .before .before .before .before .before .before .before .loop .z)) (c .before .before .e .given .1) (c .before .before .before .before .next-clause .ensures))
@@ -60,13 +45,13 @@ seek-clause-spec =
     Inv-loop
     μ-loop
     loop-holds
-    both-requires
+    (λ c κs. search needs)
     returns
     next-clause-requires
-    enum-told
-    fall-back-requires
+    (λ c. search needs)
+    (λ c κs. search needs)
     returns-2
-    enum-known-e
-    less-requires
+    (λ c. search needs)
+    (λ c κs. search needs)
     loop-less
     loop-again)

@@ -5,25 +5,13 @@ use borrow.Author.Needs.{needs}
 use Rattle.blocks.proofs.clauses.seek_from.Statement.{statement}
 use Rattle.blocks.proofs.clauses.seek_from.Tie as tie
 
-both-requires : tie.Need-both-requires
-both-requires c κs = search needs
-
 returns : tie.Need-returns
 returns c = λ i w s. seek-here s (sym (c .before .both .ensures) ∙ c .if1 .taken)
-
-fall-back-requires : tie.Need-fall-back-requires
-fall-back-requires c κs = search needs
 
 returns-2 : tie.Need-returns-2
 returns-2 c = λ i w s. seek-last s (sym (c .before .before .before .before .both .ensures) ∙ c .before .before .before .if1 .left) (c .before .before .before .before .before .before .pre .last (c .before .if2 .taken) .more) (c .fall-back .ensures)
 
-seek-clause-requires : tie.Need-seek-clause-requires
-seek-clause-requires c κs = search needs
-
-returns-3 : tie.Need-returns-3
-returns-3 c = search needs
-
 pub seek-from-spec : {M : Type 1} → statement M
 seek-from-spec =
     tie.close
-    (tie.spec both-requires returns fall-back-requires returns-2 seek-clause-requires returns-3)
+    (tie.spec (λ c κs. search needs) returns (λ c κs. search needs) returns-2 (λ c κs. search needs) (λ c. search needs))

@@ -7,9 +7,6 @@ use Rattle.blocks.proofs.EndLaws.{ends-item}
 use Rattle.blocks.proofs.ends.element_at.Statement.{statement}
 use Rattle.blocks.proofs.ends.element_at.Tie as tie
 
-closes-at-requires : tie.Need-closes-at-requires
-closes-at-requires c κs = search needs
-
 returns : tie.Need-returns
 returns c =
     let a = c .before .before .before .args in
@@ -17,9 +14,6 @@ returns c =
       ends = λ _. closes-end (a .text .now) (a .p) (sym (c .before .closes-at .ensures) ∙ c .if1 .taken);
       is = λ h. absurd (not-both-ways refl h);
     }
-
-item-at-requires : tie.Need-item-at-requires
-item-at-requires c κs = search needs
 
 returns-2 : tie.Need-returns-2
 returns-2 c =
@@ -30,4 +24,4 @@ returns-2 c =
     }
 
 pub element-at-spec : {M : Type 1} → statement M
-element-at-spec = tie.close (tie.spec closes-at-requires returns item-at-requires returns-2)
+element-at-spec = tie.close (tie.spec (λ c κs. search needs) returns (λ c κs. search needs) returns-2)

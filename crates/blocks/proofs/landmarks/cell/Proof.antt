@@ -6,15 +6,6 @@ use borrow.Author.Needs.{needs}
 use Rattle.blocks.proofs.landmarks.cell.Statement.{statement}
 use Rattle.blocks.proofs.landmarks.cell.Tie as tie
 
-mul-widened : tie.Need-mul-widened
-mul-widened c = search needs
-
-shared-slice-read-widened : tie.Need-shared-slice-read-widened
-shared-slice-read-widened c = search needs
-
-widened-requires : tie.Need-widened-requires
-widened-requires c κs = search needs
-
 returns : tie.Need-returns
 returns c = c .widened .ensures .0 ∙ cell-is (c .before .before .before .before .args .marks .now) (c .before .before .before .before .args .i) (c .before .before .if1 .taken)
 
@@ -23,4 +14,4 @@ returns-2 c = sym (List·getD-eq-default ((c .before .before) .args .marks .now)
 
 pub cell-spec : {M : Type 1} → statement M
 cell-spec =
-    tie.close (tie.spec mul-widened shared-slice-read-widened widened-requires returns returns-2)
+    tie.close (tie.spec (λ c. search needs) (λ c. search needs) (λ c κs. search needs) returns returns-2)

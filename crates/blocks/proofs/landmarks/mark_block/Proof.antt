@@ -21,12 +21,6 @@ loop-holds c = marking-first (c .before .before .args .text .now) (c .before .be
 next-clause-requires : tie.Need-next-clause-requires Inv-loop μ-loop
 next-clause-requires c κs = c .loop .inv .here .inside .most
 
-enum-known-e : tie.Need-enum-known-e Inv-loop μ-loop
-enum-known-e c = search needs
-
-ending-requires : tie.Need-ending-requires Inv-loop μ-loop
-ending-requires c κs = search needs
-
 lay-far-requires : tie.Need-lay-far-requires Inv-loop μ-loop
 lay-far-requires c κs = (c .before .before .before .before .before .before .loop .inv .few, last-small (c .before .before .before .before .before .before .loop .inv) (c .before .before .before .before .before .before .before .before .before .pre .1 .0) (subst (EndsClause (c .before .before .before .before .before .before .before .before .before .args .text .now) (c .before .before .before .before .before .before .loop .l .place)) (c .before .before .before .e .given .1) (c .before .before .before .before .before .next-clause .ensures)) (c .ending .ensures))
 
@@ -36,17 +30,11 @@ same-length c = (c .before .before .lay-far .ensures .0 .size) ∙ c .before .be
 returns : tie.Need-returns Inv-loop μ-loop
 returns c = (marking-last (c .before .before .before .before .before .before .before .before .before .loop .inv) (c .before .before .before .before .before .before .before .before .before .before .before .before .pre .1 .0) (subst (EndsClause (c .before .before .before .before .before .before .before .before .before .before .before .before .args .text .now) (c .before .before .before .before .before .before .before .before .before .loop .l .place)) (c .before .before .before .before .before .before .e .given .1) (c .before .before .before .before .before .before .before .before .next-clause .ensures)) (c .before .before .before .ending .ensures) (c .before .before .lay-far .ensures .0), c .before .before .lay-far .ensures .1)
 
-enum-known-e-2 : tie.Need-enum-known-e-2 Inv-loop μ-loop
-enum-known-e-2 c = search needs
-
 another-requires : tie.Need-another-requires Inv-loop μ-loop
 another-requires c κs = another-fits (c .before .before .before .before .loop .inv) (c .before .before .before .before .before .before .before .pre .1 .0)
 
 lay-far-requires-2 : tie.Need-lay-far-requires-2 Inv-loop μ-loop
 lay-far-requires-2 c κs = (c .before .before .before .before .before .before .loop .inv .few, another-small (c .before .before .before .before .before .before .loop .inv) (c .before .before .before .before .before .before .before .before .before .pre .1 .0) (subst (EndsClause (c .before .before .before .before .before .before .before .before .before .args .text .now) (c .before .before .before .before .before .before .loop .l .place)) (c .before .before .before .e2 .given .1) (c .before .before .before .before .before .next-clause .ensures)) (c .before .another .ensures))
-
-later-requires : tie.Need-later-requires Inv-loop μ-loop
-later-requires c κs = search needs
 
 loop-less : tie.Need-loop-less Inv-loop μ-loop
 loop-less c =
@@ -64,14 +52,14 @@ mark-block-spec =
     μ-loop
     loop-holds
     next-clause-requires
-    enum-known-e
-    ending-requires
+    (λ c. search needs)
+    (λ c κs. search needs)
     lay-far-requires
     same-length
     returns
-    enum-known-e-2
+    (λ c. search needs)
     another-requires
     lay-far-requires-2
-    later-requires
+    (λ c κs. search needs)
     loop-less
     loop-again)

@@ -21,32 +21,17 @@ returns c = record { sound = c .before .before .before .pre; size = refl }
 loop-holds : tie.Need-loop-holds Inv-loop μ-loop
 loop-holds c = (record { sound = c .before .before .before .pre; size = refl }, (omega arith, omega arith))
 
-skip-short-requires : tie.Need-skip-short-requires Inv-loop μ-loop
-skip-short-requires c κs = search needs
-
-shape-at-requires : tie.Need-shape-at-requires Inv-loop μ-loop
-shape-at-requires c κs = search needs
-
-enum-told : tie.Need-enum-told Inv-loop μ-loop
-enum-told c = search needs
-
 same-length : tie.Need-same-length Inv-loop μ-loop
 same-length c = c .before .before .before .before .loop .inv .0 .size
 
 returns-2 : tie.Need-returns-2 Inv-loop μ-loop
 returns-2 c = c .before .before .before .before .loop .inv .0
 
-enum-known-s : tie.Need-enum-known-s Inv-loop μ-loop
-enum-known-s c = search needs
-
 loop-less : tie.Need-loop-less Inv-loop μ-loop
 loop-less c = omega (arith, c .before .before .before .before .skip-short .ensures .over .least, (shaped (c .before .before .before .before .before .before .before .before .before .args .text .now) (c .before .before .before .before .skip-short .result) _ (sym (c .before .before .before .shape-at .ensures) ∙ c .before .s .given .1) .place) .above, (shaped (c .before .before .before .before .before .before .before .before .before .args .text .now) (c .before .before .before .before .skip-short .result) _ (sym (c .before .before .before .shape-at .ensures) ∙ c .before .s .given .1) .place) .most)
 
 loop-again : tie.Need-loop-again Inv-loop μ-loop
 loop-again c = (c .before .before .before .before .before .loop .inv .0, ((shaped (c .before .before .before .before .before .before .before .before .before .args .text .now) (c .before .before .before .before .skip-short .result) _ (sym (c .before .before .before .shape-at .ensures) ∙ c .before .s .given .1) .place) .most, c .before .before .before .before .before .loop .inv .1 .1))
-
-enum-known-s-2 : tie.Need-enum-known-s-2 Inv-loop μ-loop
-enum-known-s-2 c = search needs
 
 mark-block-requires : tie.Need-mark-block-requires Inv-loop μ-loop
 mark-block-requires c κs = ((shaped (c .before .before .before .before .before .before .before .before .before .before .args .text .now) (c .before .before .before .before .before .skip-short .result) _ (sym (c .before .before .before .before .shape-at .ensures) ∙ c .before .before .s2 .given .1) .place) .most, (c .before .before .before .before .before .before .before .if1 .left, (c .before .before .before .before .before .before .loop .inv .0 .sound, c .before .before .before .before .before .before .loop .inv .1 .1)))
@@ -57,17 +42,11 @@ loop-less-2 c = omega (arith, c .before .before .before .before .before .before 
 loop-again-2 : tie.Need-loop-again-2 Inv-loop μ-loop
 loop-again-2 c = (record { sound = c .before .before .mark-block .ensures .0 .sound; size = c .before .before .mark-block .ensures .0 .size ∙ c .before .before .before .before .before .before .before .before .before .loop .inv .0 .size }, ((shaped (c .before .before .before .before .before .before .before .before .before .before .before .before .before .args .text .now) (c .before .before .before .before .before .before .before .before .skip-short .result) _ (sym (c .before .before .before .before .before .before .before .shape-at .ensures) ∙ c .before .before .before .before .before .s2 .given .1) .place) .most, c .before .before .mark-block .ensures .1))
 
-enum-known-s-3 : tie.Need-enum-known-s-3 Inv-loop μ-loop
-enum-known-s-3 c = search needs
-
 loop-less-3 : tie.Need-loop-less-3 Inv-loop μ-loop
 loop-less-3 c = omega (arith, c .before .before .before .before .skip-short .ensures .over .least, (shaped (c .before .before .before .before .before .before .before .before .before .args .text .now) (c .before .before .before .before .skip-short .result) _ (sym (c .before .before .before .shape-at .ensures) ∙ c .before .s3 .given .1) .place) .above, (shaped (c .before .before .before .before .before .before .before .before .before .args .text .now) (c .before .before .before .before .skip-short .result) _ (sym (c .before .before .before .shape-at .ensures) ∙ c .before .s3 .given .1) .place) .most)
 
 loop-again-3 : tie.Need-loop-again-3 Inv-loop μ-loop
 loop-again-3 c = (c .before .before .before .before .before .loop .inv .0, ((shaped (c .before .before .before .before .before .before .before .before .before .args .text .now) (c .before .before .before .before .skip-short .result) _ (sym (c .before .before .before .shape-at .ensures) ∙ c .before .s3 .given .1) .place) .most, c .before .before .before .before .before .loop .inv .1 .1))
-
-enum-known-s-4 : tie.Need-enum-known-s-4 Inv-loop μ-loop
-enum-known-s-4 c = search needs
 
 loop-less-4 : tie.Need-loop-less-4 Inv-loop μ-loop
 loop-less-4 c = omega (arith, c .before .before .before .before .skip-short .ensures .over .least, (shaped (c .before .before .before .before .before .before .before .before .before .args .text .now) (c .before .before .before .before .skip-short .result) _ (sym (c .before .before .before .shape-at .ensures) ∙ c .before .s4 .given .1) .place) .above, (shaped (c .before .before .before .before .before .before .before .before .before .args .text .now) (c .before .before .before .before .skip-short .result) _ (sym (c .before .before .before .shape-at .ensures) ∙ c .before .s4 .given .1) .place) .most)
@@ -83,21 +62,21 @@ mark-text-spec =
     μ-loop
     returns
     loop-holds
-    skip-short-requires
-    shape-at-requires
-    enum-told
+    (λ c κs. search needs)
+    (λ c κs. search needs)
+    (λ c. search needs)
     same-length
     returns-2
-    enum-known-s
+    (λ c. search needs)
     loop-less
     loop-again
-    enum-known-s-2
+    (λ c. search needs)
     mark-block-requires
     loop-less-2
     loop-again-2
-    enum-known-s-3
+    (λ c. search needs)
     loop-less-3
     loop-again-3
-    enum-known-s-4
+    (λ c. search needs)
     loop-less-4
     loop-again-4)

@@ -4,17 +4,8 @@ use borrow.Author.Needs.{needs}
 use Rattle.blocks.proofs.landmarks.nearest.Statement.{statement}
 use Rattle.blocks.proofs.landmarks.nearest.Tie as tie
 
-landmark-at-requires : tie.Need-landmark-at-requires
-landmark-at-requires c κs = search needs
-
 returns : tie.Need-returns
 returns c = near-sound (c .before .before .before .args .marks .now) 0 (c .landmark-at .ensures)
-
-last-before-requires : tie.Need-last-before-requires
-last-before-requires c κs = search needs
-
-landmark-at-requires-2 : tie.Need-landmark-at-requires-2
-landmark-at-requires-2 c κs = search needs
 
 returns-2 : tie.Need-returns-2
 returns-2 c = near-sound (c .before .before .before .before .args .marks .now) _ (c .landmark-at2 .ensures)
@@ -22,4 +13,4 @@ returns-2 c = near-sound (c .before .before .before .before .args .marks .now) _
 pub nearest-spec : {M : Type 1} → statement M
 nearest-spec =
     tie.close
-    (tie.spec landmark-at-requires returns last-before-requires landmark-at-requires-2 returns-2)
+    (tie.spec (λ c κs. search needs) returns (λ c κs. search needs) (λ c κs. search needs) returns-2)

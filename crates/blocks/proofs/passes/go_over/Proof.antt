@@ -14,18 +14,6 @@ returns c = let a = c .before .before .args in over-same (a .table .now) (a .han
 returns-2 : tie.Need-returns-2
 returns-2 c = let a = c .before .before .before .before .before .args in over-lacks (a .table .now) (a .hand) (a .i) (c .before .before .before .if1 .left) (c .if2 .taken)
 
-argument-at-requires : tie.Need-argument-at-requires
-argument-at-requires c κs = search needs
-
-list-of-requires : tie.Need-list-of-requires
-list-of-requires c κs = search needs
-
-enum-told : tie.Need-enum-told
-enum-told c = search needs
-
-enum-known-listed : tie.Need-enum-known-listed
-enum-known-listed c = search needs
-
 returns-3 : tie.Need-returns-3
 returns-3 c = let a = c .before .before .before .before .before .before .before .before .before .args in let w = subst (ListsTo (a .table .now) (a .hand .first .0 + a .i .0) (c .before .before .before .argument-at .result)) (c .enum-told .given .1) ((c .before .before .list-of .ensures) (a .table .now) (a .hand .first .0 + a .i .0)) in over-not (a .table .now) (a .hand) (a .i) (c .before .before .before .before .before .before .before .if1 .left) (c .before .before .before .before .if2 .left) (meant (a .table .now) (c .before .before .before .argument-at .result)) (c .before .before .before .argument-at .ensures .1) w
 
@@ -38,9 +26,9 @@ go-over-spec =
     (tie.spec
     returns
     returns-2
-    argument-at-requires
-    list-of-requires
-    enum-told
-    enum-known-listed
+    (λ c κs. search needs)
+    (λ c κs. search needs)
+    (λ c. search needs)
+    (λ c. search needs)
     returns-3
     returns-4)

@@ -8,21 +8,6 @@ use borrow.Author.Needs.{needs}
 use Rattle.blocks.proofs.passes.list_of.Statement.{statement}
 use Rattle.blocks.proofs.passes.list_of.Tie as tie
 
-enum-told : tie.Need-enum-told
-enum-told c = search needs
-
-enum-told-2 : tie.Need-enum-told-2
-enum-told-2 c = search needs
-
-enum-told-3 : tie.Need-enum-told-3
-enum-told-3 c = search needs
-
-enum-told-4 : tie.Need-enum-told-4
-enum-told-4 c = search needs
-
-enum-known-argument : tie.Need-enum-known-argument
-enum-known-argument c = search needs
-
 returns : tie.Need-returns
 returns c = λ t i. ap (λ (x : Argument). isListValue (meant t x)) (c .enum-told .given .1)
 
@@ -42,11 +27,11 @@ pub list-of-spec : {M : Type 1} → statement M
 list-of-spec =
     tie.close
     (tie.spec
-    enum-told
-    enum-told-2
-    enum-told-3
-    enum-told-4
-    enum-known-argument
+    (λ c. search needs)
+    (λ c. search needs)
+    (λ c. search needs)
+    (λ c. search needs)
+    (λ c. search needs)
     returns
     returns-2
     returns-3

@@ -6,11 +6,8 @@ use Rattle.blocks.proofs.passes.next_after.Tie as tie
 returns : tie.Need-returns
 returns c = rw (c .if1 .taken)
 
-add-t5 : tie.Need-add-t5
-add-t5 c = search needs
-
 returns-2 : tie.Need-returns-2
 returns-2 c = rw (c .before .if1 .left)
 
 pub next-after-spec : {M : Type 1} → statement M
-next-after-spec = tie.close (tie.spec returns add-t5 returns-2)
+next-after-spec = tie.close (tie.spec returns (λ c. search needs) returns-2)

@@ -8,25 +8,13 @@ use borrow.Author.Needs.{needs}
 use Rattle.blocks.proofs.passes.one_less.Statement.{statement}
 use Rattle.blocks.proofs.passes.one_less.Tie as tie
 
-enum-told : tie.Need-enum-told
-enum-told c = search needs
-
-enum-known-passes : tie.Need-enum-known-passes
-enum-known-passes c = search needs
-
 returns : tie.Need-returns
 returns c =
     let z : _≡_ {A = ℕ} 0 ((c .before .before .passes .given .0 .0) - 1) = omega arith in
     ap Is z ∙ sym (ap oneLess (c .before .before .passes .given .1))
 
-sub-t5 : tie.Need-sub-t5
-sub-t5 c = search needs
-
-returns-2 : tie.Need-returns-2
-returns-2 c = search needs
-
 returns-3 : tie.Need-returns-3
 returns-3 c = sym (ap oneLess (c .before .before .passes .given .1))
 
 pub one-less-spec : {M : Type 1} → statement M
-one-less-spec = tie.close (tie.spec enum-told enum-known-passes returns sub-t5 returns-2 returns-3)
+one-less-spec = tie.close (tie.spec (λ c. search needs) (λ c. search needs) returns (λ c. search needs) (λ c. search needs) returns-3)

@@ -7,24 +7,6 @@ use borrow.Author.Needs.{needs}
 use Rattle.blocks.proofs.wanting.is_false.Statement.{statement}
 use Rattle.blocks.proofs.wanting.is_false.Tie as tie
 
-enum-known-argument : tie.Need-enum-known-argument
-enum-known-argument c = search needs
-
-not-requires : tie.Need-not-requires
-not-requires c κs = search needs
-
-enum-told : tie.Need-enum-told
-enum-told c = search needs
-
-enum-told-2 : tie.Need-enum-told-2
-enum-told-2 c = search needs
-
-enum-told-3 : tie.Need-enum-told-3
-enum-told-3 c = search needs
-
-enum-told-4 : tie.Need-enum-told-4
-enum-told-4 c = search needs
-
 returns : tie.Need-returns
 returns c = λ t. (c .not .ensures) ∙ sym (ap (λ (x : Argument). isFalse (meant t x)) (c .before .before .argument .given .1))
 
@@ -44,12 +26,12 @@ pub is-false-spec : {M : Type 1} → statement M
 is-false-spec =
     tie.close
     (tie.spec
-    enum-known-argument
-    not-requires
-    enum-told
-    enum-told-2
-    enum-told-3
-    enum-told-4
+    (λ c. search needs)
+    (λ c κs. search needs)
+    (λ c. search needs)
+    (λ c. search needs)
+    (λ c. search needs)
+    (λ c. search needs)
     returns
     returns-2
     returns-3

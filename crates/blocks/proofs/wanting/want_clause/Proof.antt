@@ -6,20 +6,11 @@ use Rattle.blocks.proofs.ClauseLaws.{wants-as}
 use Rattle.blocks.proofs.wanting.want_clause.Statement.{statement}
 use Rattle.blocks.proofs.wanting.want_clause.Tie as tie
 
-want-two-requires : tie.Need-want-two-requires
-want-two-requires c κs = search needs
-
 returns : tie.Need-returns
 returns c = wants-as _ (λ p m j cs on. choose-yes _ _ (c .before .if1 .taken)) (c .want-two .ensures)
 
-want-one-requires : tie.Need-want-one-requires
-want-one-requires c κs = search needs
-
 returns-2 : tie.Need-returns-2
 returns-2 c = wants-as _ (λ p m j cs on. choose-no _ _ (c .before .before .if1 .left) ∙ choose-yes _ _ (c .before .if2 .taken)) (c .want-one .ensures)
-
-want-numbered-requires : tie.Need-want-numbered-requires
-want-numbered-requires c κs = search needs
 
 returns-3 : tie.Need-returns-3
 returns-3 c = wants-as _ (λ p m j cs on. choose-no _ _ (c .before .before .if1 .left) ∙ choose-no _ _ (c .before .if2 .left)) (c .want-numbered .ensures)
@@ -28,9 +19,9 @@ pub want-clause-spec : {M : Type 1} → statement M
 want-clause-spec =
     tie.close
     (tie.spec
-    want-two-requires
+    (λ c κs. search needs)
     returns
-    want-one-requires
+    (λ c κs. search needs)
     returns-2
-    want-numbered-requires
+    (λ c κs. search needs)
     returns-3)

@@ -10,15 +10,6 @@ use Rattle.blocks.proofs.ClauseLaws.{wants-as, wants-one}
 use Rattle.blocks.proofs.wanting.want_numbered.Statement.{statement}
 use Rattle.blocks.proofs.wanting.want_numbered.Tie as tie
 
-enum-told : tie.Need-enum-told
-enum-told c = search needs
-
-want-own-requires : tie.Need-want-own-requires
-want-own-requires c κs = search needs
-
-enum-known-number : tie.Need-enum-known-number
-enum-known-number c = search needs
-
 returns : tie.Need-returns
 returns c = let a = c .before .before .before .before .args in wants-as _ (λ p m j cs on. ap (λ (x : Setting). pickNumbered (viewOf (a .table .now)) p m cs (handAt (a .hand) j) (a .i .0) on x) (c .before .enum-told .given .1)) (c .want-own .ensures)
 
@@ -27,4 +18,4 @@ returns-2 c = let a = c .before .before .before .before .args in wants-one _ tru
 
 pub want-numbered-spec : {M : Type 1} → statement M
 want-numbered-spec =
-    tie.close (tie.spec enum-told want-own-requires enum-known-number returns returns-2)
+    tie.close (tie.spec (λ c. search needs) (λ c κs. search needs) (λ c. search needs) returns returns-2)

@@ -11,15 +11,6 @@ use Rattle.blocks.proofs.wanting.want_one.Tie as tie
 returns : tie.Need-returns
 returns c = let a = c .before .before .before .args in wants-wrong 6 (one-lacks (viewOf (a .table .now)) (a .hand) (a .i .0) (c .if1 .taken))
 
-argument-at-requires : tie.Need-argument-at-requires
-argument-at-requires c κs = search needs
-
-add-t8 : tie.Need-add-t8
-add-t8 c = search needs
-
-is-false-requires : tie.Need-is-false-requires
-is-false-requires c κs = search needs
-
 returns-2 : tie.Need-returns-2
 returns-2 c = let a = c .before .before .before .before .before .before .args in let own : IsOwn (a .table .now) (a .hand) (a .i .0) (c .before .before .argument-at .result) = record { below = c .before .before .before .if1 .left; value = c .before .before .argument-at .ensures .1 } in wants-nothing _ (omega (arith, own .below)) (one-false own (sym ((c .before .is-false .ensures) (a .table .now)) ∙ (c .if2 .taken)))
 
@@ -28,4 +19,4 @@ returns-3 c = let a = c .before .before .before .before .before .before .args in
 
 pub want-one-spec : {M : Type 1} → statement M
 want-one-spec =
-    tie.close (tie.spec returns argument-at-requires add-t8 is-false-requires returns-2 returns-3)
+    tie.close (tie.spec returns (λ c κs. search needs) (λ c. search needs) (λ c κs. search needs) returns-2 returns-3)

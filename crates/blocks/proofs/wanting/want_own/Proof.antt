@@ -13,36 +13,6 @@ use Rattle.blocks.proofs.wanting.want_own.Tie as tie
 returns : tie.Need-returns
 returns c = let a = c .before .before .before .args in wants-wrong 6 (own-lacks (viewOf (a .table .now)) (a .hand) (a .i .0) (c .if1 .taken))
 
-argument-at-requires : tie.Need-argument-at-requires
-argument-at-requires c κs = search needs
-
-enum-told : tie.Need-enum-told
-enum-told c = search needs
-
-enum-known-argument : tie.Need-enum-known-argument
-enum-known-argument c = search needs
-
-magnitude-requires : tie.Need-magnitude-requires
-magnitude-requires c κs = search needs
-
-is-negative-requires : tie.Need-is-negative-requires
-is-negative-requires c κs = search needs
-
-not-requires : tie.Need-not-requires
-not-requires c κs = search needs
-
-add-t13 : tie.Need-add-t13
-add-t13 c = search needs
-
-enum-told-2 : tie.Need-enum-told-2
-enum-told-2 c = search needs
-
-enum-told-3 : tie.Need-enum-told-3
-enum-told-3 c = search needs
-
-enum-told-4 : tie.Need-enum-told-4
-enum-told-4 c = search needs
-
 returns-2 : tie.Need-returns-2
 returns-2 c = let a = c .before .before .before .before .before .before .args in let own : IsOwn (a .table .now) (a .hand) (a .i .0) (c .before .before .argument-at .result) = record { below = c .before .before .before .if1 .left; value = c .before .before .argument-at .ensures .1 } in wants-wrong 7 (own-other own (c .enum-told .given .1) (λ p m j cs on. refl))
 
@@ -63,16 +33,16 @@ want-own-spec =
     tie.close
     (tie.spec
     returns
-    argument-at-requires
-    enum-told
-    enum-known-argument
-    magnitude-requires
-    is-negative-requires
-    not-requires
-    add-t13
-    enum-told-2
-    enum-told-3
-    enum-told-4
+    (λ c κs. search needs)
+    (λ c. search needs)
+    (λ c. search needs)
+    (λ c κs. search needs)
+    (λ c κs. search needs)
+    (λ c κs. search needs)
+    (λ c. search needs)
+    (λ c. search needs)
+    (λ c. search needs)
+    (λ c. search needs)
     returns-2
     returns-3
     returns-4

@@ -10,22 +10,10 @@ use Rattle.blocks.proofs.wanting.want_two.Tie as tie
 returns : tie.Need-returns
 returns c = let a = c .before .before .before .args in wants-wrong 6 (two-lacks (viewOf (a .table .now)) (a .hand) (a .i .0) (c .if1 .taken))
 
-argument-at-requires : tie.Need-argument-at-requires
-argument-at-requires c κs = search needs
-
-is-false-requires : tie.Need-is-false-requires
-is-false-requires c κs = search needs
-
-number-of-requires : tie.Need-number-of-requires
-number-of-requires c κs = search needs
-
-add-t8 : tie.Need-add-t8
-add-t8 c = search needs
-
 returns-2 : tie.Need-returns-2
 returns-2 c = let a = c .before .before .before .before .before .before .args in let own : IsOwn (a .table .now) (a .hand) (a .i .0) (c .before .before .argument-at .result) = record { below = c .before .before .before .if1 .left; value = c .before .before .argument-at .ensures .1 } in wants-one _ true false _ (omega (arith, own .below)) (two-is own ((c .before .is-false .ensures) (a .table .now)) (c .number-of .ensures))
 
 pub want-two-spec : {M : Type 1} → statement M
 want-two-spec =
     tie.close
-    (tie.spec returns argument-at-requires is-false-requires number-of-requires add-t8 returns-2)
+    (tie.spec returns (λ c κs. search needs) (λ c κs. search needs) (λ c κs. search needs) (λ c. search needs) returns-2)

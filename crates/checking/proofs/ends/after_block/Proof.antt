@@ -21,14 +21,8 @@ loop-holds c = block-start (c .before .args .text .now) (c .before .args .start)
 next-clause-requires : tie.Need-next-clause-requires Inv-loop μ-loop
 next-clause-requires c κs = c .loop .inv .most
 
-enum-known-e : tie.Need-enum-known-e Inv-loop μ-loop
-enum-known-e c = search needs
-
 returns : tie.Need-returns Inv-loop μ-loop
 returns c = block-after (c .before .before .before .before .loop .inv) (subst (EndsClause (c .before .before .before .before .before .before .args .text .now) (c .before .before .before .before .loop .z)) (c .before .e .given .1) (c .before .before .before .next-clause .ensures))
-
-enum-known-e-2 : tie.Need-enum-known-e-2 Inv-loop μ-loop
-enum-known-e-2 c = search needs
 
 loop-less : tie.Need-loop-less Inv-loop μ-loop
 loop-less c = let w = (subst (EndsClause (c .before .before .before .before .before .before .args .text .now) (c .before .before .before .before .loop .z)) (c .before .e2 .given .1) (c .before .before .before .next-clause .ensures)) in omega (arith, w .here .least, w .least, w .most)
@@ -44,8 +38,8 @@ after-block-spec =
     μ-loop
     loop-holds
     next-clause-requires
-    enum-known-e
+    (λ c. search needs)
     returns
-    enum-known-e-2
+    (λ c. search needs)
     loop-less
     loop-again)

@@ -18,29 +18,14 @@ abbrev μ-loop : tie.MeasureT-loop
 loop-holds : tie.Need-loop-holds Inv-loop μ-loop
 loop-holds c = clause-start (c .before .args .text .now) (c .before .args .start) (c .before .pre)
 
-skip-short-requires : tie.Need-skip-short-requires Inv-loop μ-loop
-skip-short-requires c κs = search needs
-
-shape-at-requires : tie.Need-shape-at-requires Inv-loop μ-loop
-shape-at-requires c κs = search needs
-
-enum-told : tie.Need-enum-told Inv-loop μ-loop
-enum-told c = search needs
-
 returns : tie.Need-returns Inv-loop μ-loop
 returns c = clause-stops (clause-over (c .before .before .before .before .loop .inv) (c .before .before .before .skip-short .ensures .over)) (shaped (c .before .before .before .before .before .before .args .text .now) (c .before .before .before .skip-short .result) _ (sym (c .before .before .shape-at .ensures) ∙ (c .enum-told .given .1)))
-
-enum-known-s : tie.Need-enum-known-s Inv-loop μ-loop
-enum-known-s c = search needs
 
 loop-less : tie.Need-loop-less Inv-loop μ-loop
 loop-less c = omega (arith, c .before .before .before .before .skip-short .ensures .over, (shaped (c .before .before .before .before .before .before .before .args .text .now) (c .before .before .before .before .skip-short .result) _ (sym (c .before .before .before .shape-at .ensures) ∙ (c .before .s .given .1))) .place)
 
 loop-again : tie.Need-loop-again Inv-loop μ-loop
 loop-again c = clause-passes (clause-over (c .before .before .before .before .before .loop .inv) (c .before .before .before .before .skip-short .ensures .over)) (shaped (c .before .before .before .before .before .before .before .args .text .now) (c .before .before .before .before .skip-short .result) _ (sym (c .before .before .before .shape-at .ensures) ∙ (c .before .s .given .1)))
-
-enum-known-s-2 : tie.Need-enum-known-s-2 Inv-loop μ-loop
-enum-known-s-2 c = search needs
 
 add-depth : tie.Need-add-depth Inv-loop μ-loop
 add-depth c = omega (arith, (shaped (c .before .before .before .before .before .before .before .args .text .now) (c .before .before .before .before .skip-short .result) _ (sym (c .before .before .before .shape-at .ensures) ∙ (c .before .s2 .given .1))) .place, (clause-over (c .before .before .before .before .before .loop .inv) (c .before .before .before .before .skip-short .ensures .over)) .few, c .before .before .before .before .before .before .before .good)
@@ -51,9 +36,6 @@ loop-less-2 c = omega (arith, c .before .before .before .before .skip-short .ens
 loop-again-2 : tie.Need-loop-again-2 Inv-loop μ-loop
 loop-again-2 c = clause-begins (clause-over (c .before .before .before .before .before .loop .inv) (c .before .before .before .before .skip-short .ensures .over)) (shaped (c .before .before .before .before .before .before .before .args .text .now) (c .before .before .before .before .skip-short .result) _ (sym (c .before .before .before .shape-at .ensures) ∙ (c .before .s2 .given .1)))
 
-enum-known-s-3 : tie.Need-enum-known-s-3 Inv-loop μ-loop
-enum-known-s-3 c = search needs
-
 returns-2 : tie.Need-returns-2 Inv-loop μ-loop
 returns-2 c = clause-splits (clause-over (c .before .before .before .before .before .before .loop .inv) (c .before .before .before .before .before .skip-short .ensures .over)) (c .if1 .taken) (shaped (c .before .before .before .before .before .before .before .before .args .text .now) (c .before .before .before .before .before .skip-short .result) _ (sym (c .before .before .before .before .shape-at .ensures) ∙ (c .before .before .s3 .given .1)))
 
@@ -62,9 +44,6 @@ loop-less-3 c = omega (arith, c .before .before .before .before .before .skip-sh
 
 loop-again-3 : tie.Need-loop-again-3 Inv-loop μ-loop
 loop-again-3 c = clause-splits-below (clause-over (c .before .before .before .before .before .before .loop .inv) (c .before .before .before .before .before .skip-short .ensures .over)) (c .if1 .left) (shaped (c .before .before .before .before .before .before .before .before .args .text .now) (c .before .before .before .before .before .skip-short .result) _ (sym (c .before .before .before .before .shape-at .ensures) ∙ (c .before .before .s3 .given .1)))
-
-enum-known-s-4 : tie.Need-enum-known-s-4 Inv-loop μ-loop
-enum-known-s-4 c = search needs
 
 returns-3 : tie.Need-returns-3 Inv-loop μ-loop
 returns-3 c = clause-finishes (clause-over (c .before .before .before .before .before .before .loop .inv) (c .before .before .before .before .before .skip-short .ensures .over)) (c .if2 .taken) (shaped (c .before .before .before .before .before .before .before .before .args .text .now) (c .before .before .before .before .before .skip-short .result) _ (sym (c .before .before .before .before .shape-at .ensures) ∙ (c .before .before .s4 .given .1)))
@@ -85,22 +64,22 @@ next-clause-spec =
     Inv-loop
     μ-loop
     loop-holds
-    skip-short-requires
-    shape-at-requires
-    enum-told
+    (λ c κs. search needs)
+    (λ c κs. search needs)
+    (λ c. search needs)
     returns
-    enum-known-s
+    (λ c. search needs)
     loop-less
     loop-again
-    enum-known-s-2
+    (λ c. search needs)
     add-depth
     loop-less-2
     loop-again-2
-    enum-known-s-3
+    (λ c. search needs)
     returns-2
     loop-less-3
     loop-again-3
-    enum-known-s-4
+    (λ c. search needs)
     returns-3
     sub-depth
     loop-less-4

@@ -12,9 +12,6 @@ use lib.Dec.{eqb}
 use Rattle.checking.proofs.ends.shape_at.Statement.{statement}
 use Rattle.checking.proofs.ends.shape_at.Tie as tie
 
-mark-at-requires : tie.Need-mark-at-requires
-mark-at-requires c κs = search needs
-
 after-mark-requires : tie.Need-after-mark-requires
 after-mark-requires c κs = let a = c .before .before .before .args in let i = mark-is (a .text .now) (a .p) _ (c .before .mark-at .ensures) (c .if1 .taken) in omega (arith, stands (a .text .now) (a .p) (Written _) (i .item), c .before .before .before .good)
 
@@ -25,29 +22,8 @@ returns : tie.Need-returns
 unfolding markDirective
 returns c = let a = c .before .before .before .before .before .args in let i = mark-is (a .text .now) (a .p) _ (c .before .before .before .mark-at .ensures) (c .before .before .if1 .taken) in (c .shape-of-mark .ensures) ∙ ap (λ (n : ℕ). shapeOfCode (markCode (c .before .before .before .mark-at .result)) (eqb (c .before .before .before .mark-at .result) 5) n) (c .before .after-mark .ensures) ∙ sym (ap (shapeOf (a .p)) (i .item))
 
-item-at-requires : tie.Need-item-at-requires
-item-at-requires c κs = search needs
-
-enum-told : tie.Need-enum-told
-enum-told c = search needs
-
-enum-told-2 : tie.Need-enum-told-2
-enum-told-2 c = search needs
-
 add-t10 : tie.Need-add-t10
 add-t10 c = omega (arith, stands (c .before .before .before .before .before .before .args .text .now) (c .before .before .before .before .before .before .args .p) (Literal _) (sym (c .before .before .item-at .ensures) ∙ (c .enum-told2 .given .1)), c .before .before .before .before .before .before .good)
-
-enum-known-i : tie.Need-enum-known-i
-enum-known-i c = search needs
-
-shape-of-requires : tie.Need-shape-of-requires
-shape-of-requires c κs = search needs
-
-enum-told-3 : tie.Need-enum-told-3
-enum-told-3 c = search needs
-
-enum-told-4 : tie.Need-enum-told-4
-enum-told-4 c = search needs
 
 returns-2 : tie.Need-returns-2
 returns-2 c = sym (ap (shapeOf (c .before .before .before .before .before .before .args .p)) (sym (c .before .before .item-at .ensures) ∙ (c .enum-told .given .1)))
@@ -68,18 +44,18 @@ pub shape-at-spec : {M : Type 1} → statement M
 shape-at-spec =
     tie.close
     (tie.spec
-    mark-at-requires
+    (λ c κs. search needs)
     after-mark-requires
     shape-of-mark-requires
     returns
-    item-at-requires
-    enum-told
-    enum-told-2
+    (λ c κs. search needs)
+    (λ c. search needs)
+    (λ c. search needs)
     add-t10
-    enum-known-i
-    shape-of-requires
-    enum-told-3
-    enum-told-4
+    (λ c. search needs)
+    (λ c κs. search needs)
+    (λ c. search needs)
+    (λ c. search needs)
     returns-2
     returns-3
     returns-4

@@ -11,31 +11,19 @@ use Rattle.checking.specs.Checks.{metMark}
 use Rattle.checking.proofs.meeting.meet.Statement.{statement}
 use Rattle.checking.proofs.meeting.meet.Tie as tie
 
-mark-at-requires : tie.Need-mark-at-requires
-mark-at-requires c κs = search needs
-
 after-mark-requires : tie.Need-after-mark-requires
 after-mark-requires c κs = let a = c .before .before .before .args in let i = mark-is (a .text .now) (a .p) _ (c .before .mark-at .ensures) (c .if1 .taken) in omega (arith, stands (a .text .now) (a .p) (Written _) (i .item), c .before .before .before .good)
 
-meet-mark-requires : tie.Need-meet-mark-requires
-meet-mark-requires c κs = search needs
-
 returns : tie.Need-returns
 returns c = let a = c .before .before .before .before .before .args in c .meet-mark .ensures ∙ ap (λ (x : ℕ). metMark (a .p) x (c .before .before .before .mark-at .result) (a .s)) (c .before .after-mark .ensures) ∙ mark-met (a .text .now) (a .p) (c .before .before .before .mark-at .result) (a .s) (mark-is (a .text .now) (a .p) _ (c .before .before .before .mark-at .ensures) (c .before .before .if1 .taken))
-
-meet-item-requires : tie.Need-meet-item-requires
-meet-item-requires c κs = search needs
-
-returns-2 : tie.Need-returns-2
-returns-2 c = search needs
 
 pub meet-spec : {M : Type 1} → statement M
 meet-spec =
     tie.close
     (tie.spec
-    mark-at-requires
+    (λ c κs. search needs)
     after-mark-requires
-    meet-mark-requires
+    (λ c κs. search needs)
     returns
-    meet-item-requires
-    returns-2)
+    (λ c κs. search needs)
+    (λ c. search needs))

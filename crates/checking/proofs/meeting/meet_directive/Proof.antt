@@ -8,60 +8,6 @@ use mathlib.Core.Path.{refl, ap, _∙_}
 use Rattle.checking.proofs.meeting.meet_directive.Statement.{statement}
 use Rattle.checking.proofs.meeting.meet_directive.Tie as tie
 
-is-well-written-requires : tie.Need-is-well-written-requires
-is-well-written-requires c κs = search needs
-
-enum-told : tie.Need-enum-told
-enum-told c = search needs
-
-unless-requires : tie.Need-unless-requires
-unless-requires c κs = search needs
-
-enum-told-2 : tie.Need-enum-told-2
-enum-told-2 c = search needs
-
-unless-requires-2 : tie.Need-unless-requires-2
-unless-requires-2 c κs = search needs
-
-enum-told-3 : tie.Need-enum-told-3
-enum-told-3 c = search needs
-
-unless-requires-3 : tie.Need-unless-requires-3
-unless-requires-3 c κs = search needs
-
-enum-known-code : tie.Need-enum-known-code
-enum-known-code c = search needs
-
-block-by-requires : tie.Need-block-by-requires
-block-by-requires c κs = search needs
-
-meet-opener-requires : tie.Need-meet-opener-requires
-meet-opener-requires c κs = search needs
-
-enum-told-4 : tie.Need-enum-told-4
-enum-told-4 c = search needs
-
-meet-separator-requires : tie.Need-meet-separator-requires
-meet-separator-requires c κs = search needs
-
-enum-known-code-2 : tie.Need-enum-known-code-2
-enum-known-code-2 c = search needs
-
-enum-told-5 : tie.Need-enum-told-5
-enum-told-5 c = search needs
-
-meet-end-conditional-requires : tie.Need-meet-end-conditional-requires
-meet-end-conditional-requires c κs = search needs
-
-enum-told-6 : tie.Need-enum-told-6
-enum-told-6 c = search needs
-
-meet-end-iteration-requires : tie.Need-meet-end-iteration-requires
-meet-end-iteration-requires c κs = search needs
-
-enum-told-7 : tie.Need-enum-told-7
-enum-told-7 c = search needs
-
 returns : tie.Need-returns
 unfolding metBy
 returns c = let a = c .before .before .before .before .args in directive-by (a .p) (a .d) (a .s) (Writes _) (c .before .enum-told .given .1) (c .before .before .before .is-well-written .ensures) (c .unless .ensures)
@@ -98,24 +44,24 @@ pub meet-directive-spec : {M : Type 1} → statement M
 meet-directive-spec =
     tie.close
     (tie.spec
-    is-well-written-requires
-    enum-told
-    unless-requires
-    enum-told-2
-    unless-requires-2
-    enum-told-3
-    unless-requires-3
-    enum-known-code
-    block-by-requires
-    meet-opener-requires
-    enum-told-4
-    meet-separator-requires
-    enum-known-code-2
-    enum-told-5
-    meet-end-conditional-requires
-    enum-told-6
-    meet-end-iteration-requires
-    enum-told-7
+    (λ c κs. search needs)
+    (λ c. search needs)
+    (λ c κs. search needs)
+    (λ c. search needs)
+    (λ c κs. search needs)
+    (λ c. search needs)
+    (λ c κs. search needs)
+    (λ c. search needs)
+    (λ c κs. search needs)
+    (λ c κs. search needs)
+    (λ c. search needs)
+    (λ c κs. search needs)
+    (λ c. search needs)
+    (λ c. search needs)
+    (λ c κs. search needs)
+    (λ c. search needs)
+    (λ c κs. search needs)
+    (λ c. search needs)
     returns
     returns-2
     returns-3

@@ -4,21 +4,6 @@ use borrow.Author.Needs.{needs}
 use Rattle.checking.proofs.meeting.meet_end.Statement.{statement}
 use Rattle.checking.proofs.meeting.meet_end.Tie as tie
 
-has-clauses-requires : tie.Need-has-clauses-requires
-has-clauses-requires c κs = search needs
-
-is-repeated-requires : tie.Need-is-repeated-requires
-is-repeated-requires c κs = search needs
-
-either-requires : tie.Need-either-requires
-either-requires c κs = search needs
-
-not-requires : tie.Need-not-requires
-not-requires c κs = search needs
-
-unless-requires : tie.Need-unless-requires
-unless-requires c κs = search needs
-
 returns : tie.Need-returns
 returns c = rw (c .unless .ensures, c .before .not .ensures, c .before .before .either .ensures, c .before .before .before .is-repeated .ensures, c .before .before .before .before .has-clauses .ensures) (end-by (c .before .before .before .before .before .args .around) (c .before .before .before .before .before .args .opened))
 
@@ -26,9 +11,9 @@ pub meet-end-spec : {M : Type 1} → statement M
 meet-end-spec =
     tie.close
     (tie.spec
-    has-clauses-requires
-    is-repeated-requires
-    either-requires
-    not-requires
-    unless-requires
+    (λ c κs. search needs)
+    (λ c κs. search needs)
+    (λ c κs. search needs)
+    (λ c κs. search needs)
+    (λ c κs. search needs)
     returns)

@@ -8,32 +8,8 @@ use native.Mathlib.Omega.{arith}
 use Rattle.checking.proofs.meeting.meet_item.Statement.{statement}
 use Rattle.checking.proofs.meeting.meet_item.Tie as tie
 
-item-at-requires : tie.Need-item-at-requires
-item-at-requires c κs = search needs
-
-enum-told : tie.Need-enum-told
-enum-told c = search needs
-
-meet-end-requires : tie.Need-meet-end-requires
-meet-end-requires c κs = search needs
-
-enum-told-2 : tie.Need-enum-told-2
-enum-told-2 c = search needs
-
 add-t8 : tie.Need-add-t8
 add-t8 c = omega (arith, stands (c .before .before .before .before .args .text .now) (c .before .before .before .before .args .p) (Literal _) (sym (c .before .before .item-at .ensures) ∙ (c .enum-told2 .given .1)), c .before .before .before .before .good)
-
-enum-told-3 : tie.Need-enum-told-3
-enum-told-3 c = search needs
-
-enum-told-4 : tie.Need-enum-told-4
-enum-told-4 c = search needs
-
-enum-known-i : tie.Need-enum-known-i
-enum-known-i c = search needs
-
-meet-directive-requires : tie.Need-meet-directive-requires
-meet-directive-requires c κs = search needs
 
 returns : tie.Need-returns
 returns c = c .meet-end .ensures ∙ sym (ap (λ x. metItem (c .before .before .before .before .before .args .p) x (c .before .before .before .before .before .args .s)) (sym (c .before .before .before .item-at .ensures) ∙ (c .before .enum-told .given .1)))
@@ -54,15 +30,15 @@ pub meet-item-spec : {M : Type 1} → statement M
 meet-item-spec =
     tie.close
     (tie.spec
-    item-at-requires
-    enum-told
-    meet-end-requires
-    enum-told-2
+    (λ c κs. search needs)
+    (λ c. search needs)
+    (λ c κs. search needs)
+    (λ c. search needs)
     add-t8
-    enum-told-3
-    enum-told-4
-    enum-known-i
-    meet-directive-requires
+    (λ c. search needs)
+    (λ c. search needs)
+    (λ c. search needs)
+    (λ c κs. search needs)
     returns
     returns-2
     returns-3

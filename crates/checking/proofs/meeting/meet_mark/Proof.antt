@@ -5,32 +5,17 @@ use Rattle.checking.specs.Checks.{metBy}
 use Rattle.checking.proofs.meeting.meet_mark.Statement.{statement}
 use Rattle.checking.proofs.meeting.meet_mark.Tie as tie
 
-meet-separator-requires : tie.Need-meet-separator-requires
-meet-separator-requires c κs = search needs
-
 returns : tie.Need-returns
 unfolding metBy
 returns c = rw (c .meet-separator .ensures, c .before .if1 .taken)
-
-meet-end-conditional-requires : tie.Need-meet-end-conditional-requires
-meet-end-conditional-requires c κs = search needs
 
 returns-2 : tie.Need-returns-2
 unfolding metBy
 returns-2 c = rw (c .meet-end-conditional .ensures, c .before .if2 .taken)
 
-meet-end-iteration-requires : tie.Need-meet-end-iteration-requires
-meet-end-iteration-requires c κs = search needs
-
 returns-3 : tie.Need-returns-3
 unfolding metBy
 returns-3 c = rw (c .meet-end-iteration .ensures, c .before .if3 .taken)
-
-block-of-mark-requires : tie.Need-block-of-mark-requires
-block-of-mark-requires c κs = search needs
-
-meet-opener-requires : tie.Need-meet-opener-requires
-meet-opener-requires c κs = search needs
 
 returns-4 : tie.Need-returns-4
 returns-4 c = rw (c .meet-opener .ensures, c .before .block-of-mark .ensures) (mark-opens (c .before .before .before .before .before .args .p) (c .before .before .before .before .before .args .next) (c .before .before .before .before .before .args .mark) (c .before .before .before .before .before .args .s) (c .before .before .before .before .if1 .left) (c .before .before .before .if2 .left) (c .before .before .if3 .left))
@@ -39,12 +24,12 @@ pub meet-mark-spec : {M : Type 1} → statement M
 meet-mark-spec =
     tie.close
     (tie.spec
-    meet-separator-requires
+    (λ c κs. search needs)
     returns
-    meet-end-conditional-requires
+    (λ c κs. search needs)
     returns-2
-    meet-end-iteration-requires
+    (λ c κs. search needs)
     returns-3
-    block-of-mark-requires
-    meet-opener-requires
+    (λ c κs. search needs)
+    (λ c κs. search needs)
     returns-4)

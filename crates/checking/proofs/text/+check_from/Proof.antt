@@ -43,35 +43,15 @@ check-from-loop-holds : (t : ℕ)
 check-from-loop-holds t c =
     check-start (c .before .args .text .now) (c .before .args .start) (c .before .args .room) (c .before .args .around) (c .before .args .opened)
 
-check-from-skip-short-requires : (t : ℕ)
-    → check-from-lts.Need-skip-short-requires (check-from-claims t) (check-from-at t) check-from.Post check-from-Inv-loop check-from-μ-loop
-check-from-skip-short-requires t c κs = search needs
-
-check-from-meet-requires : (t : ℕ)
-    → check-from-lts.Need-meet-requires (check-from-claims t) (check-from-at t) check-from.Post check-from-Inv-loop check-from-μ-loop
-check-from-meet-requires t c κs = search needs
-
-check-from-enum-known-m : (t : ℕ)
-    → check-from-lts.Need-enum-known-m (check-from-claims t) (check-from-at t) check-from.Post check-from-Inv-loop check-from-μ-loop
-check-from-enum-known-m t c = search needs
-
 check-from-returns : (t : ℕ)
     → check-from-lts.Need-returns (check-from-claims t) (check-from-at t) check-from.Post check-from-Inv-loop check-from-μ-loop
 check-from-returns t c =
     check-wrong (check-skips (c .before .before .before .before .before .loop .inv) (c .before .before .before .before .skip-short .ensures .over)) (c .before .before .before .meet .ensures) (c .before .m .given .1)
 
-check-from-enum-told : (t : ℕ)
-    → check-from-lts.Need-enum-told (check-from-claims t) (check-from-at t) check-from.Post check-from-Inv-loop check-from-μ-loop
-check-from-enum-told t c = search needs
-
 check-from-returns-2 : (t : ℕ)
     → check-from-lts.Need-returns-2 (check-from-claims t) (check-from-at t) check-from.Post check-from-Inv-loop check-from-μ-loop
 check-from-returns-2 t c =
     check-ends (check-skips (c .before .before .before .before .loop .inv) (c .before .before .before .skip-short .ensures .over)) (c .before .before .meet .ensures) (c .enum-told .given .1)
-
-check-from-enum-known-m-2 : (t : ℕ)
-    → check-from-lts.Need-enum-known-m-2 (check-from-claims t) (check-from-at t) check-from.Post check-from-Inv-loop check-from-μ-loop
-check-from-enum-known-m-2 t c = search needs
 
 check-from-loop-less : (t : ℕ)
     → check-from-lts.Need-loop-less (check-from-claims t) (check-from-at t) check-from.Post check-from-Inv-loop check-from-μ-loop
@@ -82,10 +62,6 @@ check-from-loop-again : (t : ℕ)
     → check-from-lts.Need-loop-again (check-from-claims t) (check-from-at t) check-from.Post check-from-Inv-loop check-from-μ-loop
 check-from-loop-again t c =
     check-stays (check-skips (c .before .before .before .before .before .loop .inv) (c .before .before .before .before .skip-short .ensures .over)) (c .before .before .before .meet .ensures) (c .before .m2 .given .1)
-
-check-from-enum-known-m-3 : (t : ℕ)
-    → check-from-lts.Need-enum-known-m-3 (check-from-claims t) (check-from-at t) check-from.Post check-from-Inv-loop check-from-μ-loop
-check-from-enum-known-m-3 t c = search needs
 
 check-from-add-separators : (t : ℕ)
     → check-from-lts.Need-add-separators (check-from-claims t) (check-from-at t) check-from.Post check-from-Inv-loop check-from-μ-loop
@@ -102,18 +78,10 @@ check-from-loop-again-2 : (t : ℕ)
 check-from-loop-again-2 t c =
     check-parts (check-skips (c .before .before .before .before .before .loop .inv) (c .before .before .before .before .skip-short .ensures .over)) (c .before .before .before .meet .ensures) (c .before .m3 .given .1)
 
-check-from-enum-known-m-4 : (t : ℕ)
-    → check-from-lts.Need-enum-known-m-4 (check-from-claims t) (check-from-at t) check-from.Post check-from-Inv-loop check-from-μ-loop
-check-from-enum-known-m-4 t c = search needs
-
 check-from-returns-3 : (t : ℕ)
     → check-from-lts.Need-returns-3 (check-from-claims t) (check-from-at t) check-from.Post check-from-Inv-loop check-from-μ-loop
 check-from-returns-3 t c =
     check-leaves (check-skips (c .before .before .before .before .before .loop .inv) (c .before .before .before .before .skip-short .ensures .over)) (c .before .before .before .meet .ensures) (c .before .m4 .given .1)
-
-check-from-enum-known-m-5 : (t : ℕ)
-    → check-from-lts.Need-enum-known-m-5 (check-from-claims t) (check-from-at t) check-from.Post check-from-Inv-loop check-from-μ-loop
-check-from-enum-known-m-5 t c = search needs
 
 check-from-sub-check-from : (t : ℕ)
     → check-from-lts.Need-sub-check-from (check-from-claims t) (check-from-at t) check-from.Post check-from-Inv-loop check-from-μ-loop
@@ -125,18 +93,10 @@ check-from-check-from-requires : (t : ℕ)
 check-from-check-from-requires t c κs =
     (omega (arith, check-room (check-skips (c .before .before .before .before .before .loop .inv) (c .before .before .before .before .skip-short .ensures .over)) (c .before .before .before .meet .ensures) (c .before .m5 .given .1), c .before .before .before .before .before .before .before .pre .0), tt)
 
-check-from-enum-known-r : (t : ℕ)
-    → check-from-lts.Need-enum-known-r (check-from-claims t) (check-from-at t) check-from.Post check-from-Inv-loop check-from-μ-loop
-check-from-enum-known-r t c = search needs
-
 check-from-returns-4 : (t : ℕ)
     → check-from-lts.Need-returns-4 (check-from-claims t) (check-from-at t) check-from.Post check-from-Inv-loop check-from-μ-loop
 check-from-returns-4 t c =
     check-ended (check-skips (c .before .before .before .before .before .before .before .before .before .loop .inv) (c .before .before .before .before .before .before .before .before .skip-short .ensures .over)) (c .before .before .before .before .before .before .before .meet .ensures) (c .before .before .before .before .before .m5 .given .1) (c .before .before .before .check-from .ensures) (c .before .r .given .1)
-
-check-from-enum-known-r-2 : (t : ℕ)
-    → check-from-lts.Need-enum-known-r-2 (check-from-claims t) (check-from-at t) check-from.Post check-from-Inv-loop check-from-μ-loop
-check-from-enum-known-r-2 t c = search needs
 
 check-from-loop-less-3 : (t : ℕ)
     → check-from-lts.Need-loop-less-3 (check-from-claims t) (check-from-at t) check-from.Post check-from-Inv-loop check-from-μ-loop
@@ -155,26 +115,26 @@ pub +check-from-spec : {M : Type 1} → statement M
     check-from-Inv-loop
     check-from-μ-loop
     (check-from-loop-holds t)
-    (check-from-skip-short-requires t)
-    (check-from-meet-requires t)
-    (check-from-enum-known-m t)
+    (λ c κs. search needs)
+    (λ c κs. search needs)
+    (λ c. search needs)
     (check-from-returns t)
-    (check-from-enum-told t)
+    (λ c. search needs)
     (check-from-returns-2 t)
-    (check-from-enum-known-m-2 t)
+    (λ c. search needs)
     (check-from-loop-less t)
     (check-from-loop-again t)
-    (check-from-enum-known-m-3 t)
+    (λ c. search needs)
     (check-from-add-separators t)
     (check-from-loop-less-2 t)
     (check-from-loop-again-2 t)
-    (check-from-enum-known-m-4 t)
+    (λ c. search needs)
     (check-from-returns-3 t)
-    (check-from-enum-known-m-5 t)
+    (λ c. search needs)
     (check-from-sub-check-from t)
     (check-from-check-from-requires t)
-    (check-from-enum-known-r t)
+    (λ c. search needs)
     (check-from-returns-4 t)
-    (check-from-enum-known-r-2 t)
+    (λ c. search needs)
     (check-from-loop-less-3 t)
     (check-from-loop-again-3 t)

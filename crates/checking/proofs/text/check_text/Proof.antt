@@ -7,15 +7,6 @@ use Rattle.checking.proofs.text.check_text.Tie as tie
 returns : tie.Need-returns
 returns c = text-long (c .before .before .args .text .now) (c .if1 .taken)
 
-check-from-requires : tie.Need-check-from-requires
-check-from-requires c κs = search needs
-
-enum-known-v : tie.Need-enum-known-v
-enum-known-v c = search needs
-
-enum-told : tie.Need-enum-told
-enum-told c = search needs
-
 returns-2 : tie.Need-returns-2
 returns-2 c =
     text-ended (c .before .before .before .check-from .ensures) (c .before .before .before .before .if1 .left)
@@ -26,4 +17,4 @@ returns-3 c = absurd (text-open (c .before .before .check-from .ensures) (c .enu
 
 pub check-text-spec : {M : Type 1} → statement M
 check-text-spec =
-    tie.close (tie.spec returns check-from-requires enum-known-v enum-told returns-2 returns-3)
+    tie.close (tie.spec returns (λ c κs. search needs) (λ c. search needs) (λ c. search needs) returns-2 returns-3)

@@ -5,24 +5,6 @@ use borrow.Author.Needs.{needs}
 use Rattle.engine.proofs.formatting.format_text.Statement.{statement}
 use Rattle.engine.proofs.formatting.format_text.Tie as tie
 
-check-table-requires : tie.Need-check-table-requires
-check-table-requires c κs = search needs
-
-enum-known-tables : tie.Need-enum-known-tables
-enum-known-tables c = search needs
-
-enum-told : tie.Need-enum-told
-enum-told c = search needs
-
-check-text-requires : tie.Need-check-text-requires
-check-text-requires c κs = search needs
-
-enum-known-texts : tie.Need-enum-known-texts
-enum-known-texts c = search needs
-
-enum-told-2 : tie.Need-enum-told-2
-enum-told-2 c = search needs
-
 run-text-requires : tie.Need-run-text-requires
 run-text-requires c κs = (sym (c .before .before .before .before .before .before .check-table .ensures) ∙ (c .before .before .before .before .enum-told .given .1), sym (c .before .before .before .check-text .ensures) ∙ (c .before .enum-told2 .given .1))
 
@@ -36,24 +18,18 @@ returns-2 c =
     let a = (c .before .before .before .before .before .before .before .before .before .before .args) in
     text-refused (a .format .now) (a .table .now) (a .out .now) _ _ (sym (c .before .before .before .before .before .before .check-table .ensures) ∙ (c .before .before .before .before .enum-told .given .1)) (sym (c .before .before .before .check-text .ensures) ∙ (c .before .texts .given .1))
 
-same-length : tie.Need-same-length
-same-length c = search needs
-
-returns-3 : tie.Need-returns-3
-returns-3 c = search needs
-
 pub format-text-spec : {M : Type 1} → statement M
 format-text-spec =
     tie.close
     (tie.spec
-    check-table-requires
-    enum-known-tables
-    enum-told
-    check-text-requires
-    enum-known-texts
-    enum-told-2
+    (λ c κs. search needs)
+    (λ c. search needs)
+    (λ c. search needs)
+    (λ c κs. search needs)
+    (λ c. search needs)
+    (λ c. search needs)
     run-text-requires
     returns
     returns-2
-    same-length
-    returns-3)
+    (λ c. search needs)
+    (λ c. search needs))

@@ -3,18 +3,6 @@ use borrow.Author.Needs.{needs}
 use Rattle.engine.proofs.formatting.outcome_of.Statement.{statement}
 use Rattle.engine.proofs.formatting.outcome_of.Tie as tie
 
-sub-steps : tie.Need-sub-steps
-sub-steps c = search needs
-
-enum-told : tie.Need-enum-told
-enum-told c = search needs
-
-enum-told-2 : tie.Need-enum-told-2
-enum-told-2 c = search needs
-
-enum-known-stop : tie.Need-enum-known-stop
-enum-known-stop c = search needs
-
 returns : tie.Need-returns
 returns c = rw ((c .enum-told .given .1))
 
@@ -27,4 +15,4 @@ returns-3 c = rw ((c .before .stop .given .1))
 pub outcome-of-spec : {M : Type 1} → statement M
 outcome-of-spec =
     tie.close
-    (tie.spec sub-steps enum-told enum-told-2 enum-known-stop returns returns-2 returns-3)
+    (tie.spec (λ c. search needs) (λ c. search needs) (λ c. search needs) (λ c. search needs) returns returns-2 returns-3)

@@ -7,17 +7,11 @@ use borrow.Author.Needs.{needs}
 use Rattle.engine.proofs.formatting.run_long.Statement.{statement}
 use Rattle.engine.proofs.formatting.run_long.Tie as tie
 
-slice-aggregate-mark-text : tie.Need-slice-aggregate-mark-text
-slice-aggregate-mark-text c = search needs
-
 mark-text-requires : tie.Need-mark-text-requires
 mark-text-requires c κs = none-laid-in (c .before .before .before .before .args .format .now) 2050 (sound-start (c .before .before .before .before .args .format .now) (c .before .before .before .before .pre .1) .0)
 
 argument-count-requires : tie.Need-argument-count-requires
 argument-count-requires c κs = has-header (c .before .before .before .before .before .before .args .table .now) (c .before .before .before .before .before .before .pre .0)
-
-slice-aggregate-run-sequence : tie.Need-slice-aggregate-run-sequence
-slice-aggregate-run-sequence c = search needs
 
 run-sequence-requires : tie.Need-run-sequence-requires
 run-sequence-requires c κs = (c .before .before .before .before .mark-text .ensures .sound, (record { held = all-in-hand (c .before .before .before .before .before .before .before .before .before .args .table .now) _ (c .before .before .before .before .before .before .before .before .before .pre .0) (c .before .before .argument-count .ensures .0); reaches = omega arith; written = omega arith }, omega arith))
@@ -37,10 +31,10 @@ pub run-long-spec : {M : Type 1} → statement M
 run-long-spec =
     tie.close
     (tie.spec
-    slice-aggregate-mark-text
+    (λ c. search needs)
     mark-text-requires
     argument-count-requires
-    slice-aggregate-run-sequence
+    (λ c. search needs)
     run-sequence-requires
     outcome-of-requires
     same-length

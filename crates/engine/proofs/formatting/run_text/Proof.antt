@@ -7,23 +7,8 @@ use borrow.Author.Needs.{needs}
 use Rattle.engine.proofs.formatting.run_text.Statement.{statement}
 use Rattle.engine.proofs.formatting.run_text.Tie as tie
 
-is-worth-landmarks-requires : tie.Need-is-worth-landmarks-requires
-is-worth-landmarks-requires c κs = search needs
-
-run-long-requires : tie.Need-run-long-requires
-run-long-requires c κs = search needs
-
-same-length : tie.Need-same-length
-same-length c = search needs
-
-returns : tie.Need-returns
-returns c = search needs
-
 argument-count-requires : tie.Need-argument-count-requires
 argument-count-requires c κs = has-header (c .before .before .before .before .before .args .table .now) (c .before .before .before .before .before .pre .0)
-
-slice-aggregate-run-sequence : tie.Need-slice-aggregate-run-sequence
-slice-aggregate-run-sequence c = search needs
 
 run-sequence-requires : tie.Need-run-sequence-requires
 run-sequence-requires c κs = (none-laid (c .before .before .before .before .before .before .before .before .args .format .now) (sound-start (c .before .before .before .before .before .before .before .before .args .format .now) (c .before .before .before .before .before .before .before .before .pre .1) .0), (record { held = all-in-hand (c .before .before .before .before .before .before .before .before .args .table .now) _ (c .before .before .before .before .before .before .before .before .pre .0) (c .before .before .argument-count .ensures .0); reaches = omega arith; written = omega arith }, omega arith))
@@ -43,12 +28,12 @@ pub run-text-spec : {M : Type 1} → statement M
 run-text-spec =
     tie.close
     (tie.spec
-    is-worth-landmarks-requires
-    run-long-requires
-    same-length
-    returns
+    (λ c κs. search needs)
+    (λ c κs. search needs)
+    (λ c. search needs)
+    (λ c. search needs)
     argument-count-requires
-    slice-aggregate-run-sequence
+    (λ c. search needs)
     run-sequence-requires
     outcome-of-requires
     same-length-2

@@ -190,19 +190,10 @@ run-sequence-below t =
 abbrev run-block-claims : ℕ → run-block-lts.Claims
 run-block-claims t = (spot-at-reads.Asked, spot-at-reads.Learnt, refuse-reads.Asked, refuse-reads.Learnt, begin-reads.Asked, begin-reads.Learnt, run-opened-below t, run-opened.Post)
 
-run-block-spot-at-requires : (t : ℕ) → run-block-lts.Need-spot-at-requires (run-block-claims t) (run-block-at t) run-block.Post
-run-block-spot-at-requires t c κs = search needs
-
-run-block-refuse-requires : (t : ℕ) → run-block-lts.Need-refuse-requires (run-block-claims t) (run-block-at t) run-block.Post
-run-block-refuse-requires t c κs = search needs
-
 run-block-returns : (t : ℕ) → run-block-lts.Need-returns (run-block-claims t) (run-block-at t) run-block.Post
 run-block-returns t c =
     let a = c .before .before .before .before .before .before .before .before .before .args in
     block-deep (a .text .now) (viewOf (a .table .now)) (a .stand .hand .first .0) (a .stand .hand .count) (a .level) (a .p) (a .stand .next .0) (a .stand .left) (a .stand .at) (a .out .now) (a .d) (c .before .before .before .before .before .before .before .before .before .pre .1 .1 .1 .0) _ (c .before .before .before .before .before .before .before .before .before .pre .1 .1 .1 .1) (c .before .if1 .taken) (refused-at (c .refuse .ensures) (c .before .before .spot-at .ensures)) (c .before .before .before .before .before .before .before .before .before .pre .1 .1 .0 .written) (c .before .before .before .before .before .before .before .before .before .pre .1 .1 .0 .reaches)
-
-run-block-refuse-requires-2 : (t : ℕ) → run-block-lts.Need-refuse-requires-2 (run-block-claims t) (run-block-at t) run-block.Post
-run-block-refuse-requires-2 t c κs = search needs
 
 run-block-returns-2 : (t : ℕ) → run-block-lts.Need-returns-2 (run-block-claims t) (run-block-at t) run-block.Post
 run-block-returns-2 t c =
@@ -211,9 +202,6 @@ run-block-returns-2 t c =
 
 run-block-begin-requires : (t : ℕ) → run-block-lts.Need-begin-requires (run-block-claims t) (run-block-at t) run-block.Post
 run-block-begin-requires t c κs = omega (arith, left-at (c .before .before .before .spot-at .ensures), c .if2 .left)
-
-run-block-sub-run-opened : (t : ℕ) → run-block-lts.Need-sub-run-opened (run-block-claims t) (run-block-at t) run-block.Post
-run-block-sub-run-opened t c = search needs
 
 run-block-run-opened-requires : (t : ℕ) → run-block-lts.Need-run-opened-requires (run-block-claims t) (run-block-at t) run-block.Post
 run-block-run-opened-requires t c κs =
@@ -235,17 +223,8 @@ run-clause-claims t = (run-sequence-below t, run-sequence.Post, block-end-reads.
 run-clause-run-sequence-requires : (t : ℕ) → run-clause-lts.Need-run-sequence-requires (run-clause-claims t) (run-clause-at t) run-clause.Post
 run-clause-run-sequence-requires t c κs = (omega (arith, c .before .before .before .before .before .pre .0), (c .before .before .before .before .before .pre .1 .0, (c .before .before .before .before .before .pre .1 .1 .0, c .before .before .before .before .before .pre .1 .1 .1 .most)))
 
-run-clause-enum-told : (t : ℕ) → run-clause-lts.Need-enum-told (run-clause-claims t) (run-clause-at t) run-clause.Post
-run-clause-enum-told t c = search needs
-
 run-clause-block-end-requires : (t : ℕ) → run-clause-lts.Need-block-end-requires (run-clause-claims t) (run-clause-at t) run-clause.Post
 run-clause-block-end-requires t c κs = (c .before .before .before .before .before .before .before .before .before .before .before .pre .1 .0, ends-inside (c .before .before .before .before .before .before .before .before .before .before .before .pre .1 .1 .1) ((c .before .before .before .before .before .run-sequence .ensures .ends) (c .enum-told .given .1)))
-
-run-clause-enum-told-2 : (t : ℕ) → run-clause-lts.Need-enum-told-2 (run-clause-claims t) (run-clause-at t) run-clause.Post
-run-clause-enum-told-2 t c = search needs
-
-run-clause-enum-told-3 : (t : ℕ) → run-clause-lts.Need-enum-told-3 (run-clause-claims t) (run-clause-at t) run-clause.Post
-run-clause-enum-told-3 t c = search needs
 
 run-clause-same-length : (t : ℕ) → run-clause-lts.Need-same-length (run-clause-claims t) (run-clause-at t) run-clause.Post
 run-clause-same-length t c = (c .before .before .before .before .before .before .run-sequence .ensures .does .size)
@@ -280,29 +259,17 @@ run-conditional-claims t = (choose-clause-reads.Asked, choose-clause-reads.Learn
 run-conditional-choose-clause-requires : (t : ℕ) → run-conditional-lts.Need-choose-clause-requires (run-conditional-claims t) (run-conditional-at t) run-conditional.Post
 run-conditional-choose-clause-requires t c κs = ((c .before .before .before .before .pre .1 .0), (c .before .before .before .before .pre .1 .1 .0, (c .before .before .before .before .pre .1 .1 .1 .0, c .before .before .before .before .pre .1 .1 .1 .1 .0)))
 
-run-conditional-enum-known-chosen : (t : ℕ) → run-conditional-lts.Need-enum-known-chosen (run-conditional-claims t) (run-conditional-at t) run-conditional.Post
-run-conditional-enum-known-chosen t c = search needs
-
 run-conditional-run-clause-requires : (t : ℕ) → run-conditional-lts.Need-run-clause-requires (run-conditional-claims t) (run-conditional-at t) run-conditional.Post
 run-conditional-run-clause-requires t c κs =
     let a = c .before .before .before .before .before .before .before .before .before .args in
     let w = subst (ChosenIn (a .text .now) (a .d .next) (a .hand .count)) (c .before .before .chosen .given .1) (c .before .before .before .before .choose-clause .ensures .inside) in
     (omega (arith, c .before .before .before .before .before .before .before .before .before .pre .0), (c .before .before .before .before .before .before .before .before .before .pre .1 .0, (record { held = c .before .before .before .before .before .before .before .before .before .pre .1 .1 .0; reaches = w .1; written = c .before .before .before .before .before .before .before .before .before .pre .1 .1 .1 .1 .1 }, w .0)))
 
-run-conditional-enum-known-chosen-2 : (t : ℕ) → run-conditional-lts.Need-enum-known-chosen-2 (run-conditional-claims t) (run-conditional-at t) run-conditional.Post
-run-conditional-enum-known-chosen-2 t c = search needs
-
 run-conditional-end-block-requires : (t : ℕ) → run-conditional-lts.Need-end-block-requires (run-conditional-claims t) (run-conditional-at t) run-conditional.Post
 run-conditional-end-block-requires t c κs =
     let a = c .before .before .before .before .before .before .before .before .args in
     let w = subst (ChosenIn (a .text .now) (a .d .next) (a .hand .count)) (c .before .chosen2 .given .1) (c .before .before .before .choose-clause .ensures .inside) in
     (c .before .before .before .before .before .before .before .before .pre .1 .0, w .0)
-
-run-conditional-enum-known-chosen-3 : (t : ℕ) → run-conditional-lts.Need-enum-known-chosen-3 (run-conditional-claims t) (run-conditional-at t) run-conditional.Post
-run-conditional-enum-known-chosen-3 t c = search needs
-
-run-conditional-refuse-requires : (t : ℕ) → run-conditional-lts.Need-refuse-requires (run-conditional-claims t) (run-conditional-at t) run-conditional.Post
-run-conditional-refuse-requires t c κs = search needs
 
 run-conditional-same-length : (t : ℕ) → run-conditional-lts.Need-same-length (run-conditional-claims t) (run-conditional-at t) run-conditional.Post
 run-conditional-same-length t c =
@@ -335,18 +302,9 @@ run-conditional-returns-3 t c =
 abbrev run-item-claims : ℕ → run-item-lts.Claims
 run-item-claims t = (put-literal-reads.Asked, put-literal-reads.Learnt, opens-block-reads.Asked, opens-block-reads.Learnt, run-block-below t, run-block.Post, act-reads.Asked, act-reads.Learnt, spot-at-reads.Asked, spot-at-reads.Learnt, refuse-reads.Asked, refuse-reads.Learnt)
 
-run-item-enum-known-item : (t : ℕ) → run-item-lts.Need-enum-known-item (run-item-claims t) (run-item-at t) run-item.Post
-run-item-enum-known-item t c = search needs
-
 run-item-put-literal-requires : (t : ℕ) → run-item-lts.Need-put-literal-requires (run-item-claims t) (run-item-at t) run-item.Post
 run-item-put-literal-requires t c κs =
     (c .before .before .before .before .before .before .before .before .before .pre .1 .1 .0 .reaches, (c .before .before .before .before .before .before .before .before .before .pre .1 .1 .0 .written, omega (arith, literal-inside (c .before .before .before .before .before .before .before .before .before .args .text .now) (c .before .before .before .before .before .before .before .before .before .args .p) (c .before .before .before .before .before .before .before .before .before .pre .1 .1 .1 .0) (c .before .before .item .given .1))))
-
-run-item-enum-known-item-2 : (t : ℕ) → run-item-lts.Need-enum-known-item-2 (run-item-claims t) (run-item-at t) run-item.Post
-run-item-enum-known-item-2 t c = search needs
-
-run-item-opens-block-requires : (t : ℕ) → run-item-lts.Need-opens-block-requires (run-item-claims t) (run-item-at t) run-item.Post
-run-item-opens-block-requires t c κs = search needs
 
 run-item-run-block-requires : (t : ℕ) → run-item-lts.Need-run-block-requires (run-item-claims t) (run-item-at t) run-item.Post
 run-item-run-block-requires t c κs =
@@ -365,12 +323,6 @@ run-item-act-requires t c κs =
       acts-alone (c .before .before .before .before .item2 .given .0 .0 .code) (code-right (a .text .now) (a .p) (c .before .before .before .before .item2 .given .0 .0) e) (sym (c .before .before .opens-block .ensures) ∙ c .before .if1 .left) (sym (ap endsAt (c .before .before .before .before .item2 .given .1)) ∙ c .before .before .before .before .before .before .before .before .before .before .before .pre .1 .1 .1 .1),
       c .before .before .before .before .before .before .before .before .before .before .before .pre .1 .1 .0,
     )
-
-run-item-spot-at-requires : (t : ℕ) → run-item-lts.Need-spot-at-requires (run-item-claims t) (run-item-at t) run-item.Post
-run-item-spot-at-requires t c κs = search needs
-
-run-item-refuse-requires : (t : ℕ) → run-item-lts.Need-refuse-requires (run-item-claims t) (run-item-at t) run-item.Post
-run-item-refuse-requires t c κs = search needs
 
 run-item-same-length-2 : (t : ℕ) → run-item-lts.Need-same-length-2 (run-item-claims t) (run-item-at t) run-item.Post
 run-item-same-length-2 t c =
@@ -403,18 +355,6 @@ run-item-returns-4 t c = absurd (no-other _ (c .before .before .before .before .
 abbrev run-iteration-claims : ℕ → run-iteration-lts.Claims
 run-iteration-claims t = (go-over-reads.Asked, go-over-reads.Learnt, refuse-reads.Asked, refuse-reads.Learnt, run-passes-below t, run-passes.Post, next-after-reads.Asked, next-after-reads.Learnt)
 
-run-iteration-go-over-requires : (t : ℕ) → run-iteration-lts.Need-go-over-requires (run-iteration-claims t) (run-iteration-at t) run-iteration.Post
-run-iteration-go-over-requires t c κs = search needs
-
-run-iteration-enum-known-over : (t : ℕ) → run-iteration-lts.Need-enum-known-over (run-iteration-claims t) (run-iteration-at t) run-iteration.Post
-run-iteration-enum-known-over t c = search needs
-
-run-iteration-refuse-requires : (t : ℕ) → run-iteration-lts.Need-refuse-requires (run-iteration-claims t) (run-iteration-at t) run-iteration.Post
-run-iteration-refuse-requires t c κs = search needs
-
-run-iteration-enum-known-over-2 : (t : ℕ) → run-iteration-lts.Need-enum-known-over-2 (run-iteration-claims t) (run-iteration-at t) run-iteration.Post
-run-iteration-enum-known-over-2 t c = search needs
-
 run-iteration-run-passes-requires : (t : ℕ) → run-iteration-lts.Need-run-passes-requires (run-iteration-claims t) (run-iteration-at t) run-iteration.Post
 run-iteration-run-passes-requires t c κs =
     let a = c .before .before .before .before .before .before .before .before .before .args in
@@ -445,12 +385,6 @@ run-iteration-returns-2 t c =
 abbrev run-opened-claims : ℕ → run-opened-lts.Claims
 run-opened-claims t = (is-well-written-reads.Asked, is-well-written-reads.Learnt, refuse-reads.Asked, refuse-reads.Learnt, settle-directive-reads.Asked, settle-directive-reads.Learnt, is-iteration-reads.Asked, is-iteration-reads.Learnt, run-iteration-below t, run-iteration.Post, run-conditional-below t, run-conditional.Post)
 
-run-opened-is-well-written-requires : (t : ℕ) → run-opened-lts.Need-is-well-written-requires (run-opened-claims t) (run-opened-at t) run-opened.Post
-run-opened-is-well-written-requires t c κs = search needs
-
-run-opened-refuse-requires : (t : ℕ) → run-opened-lts.Need-refuse-requires (run-opened-claims t) (run-opened-at t) run-opened.Post
-run-opened-refuse-requires t c κs = search needs
-
 run-opened-returns : (t : ℕ) → run-opened-lts.Need-returns (run-opened-claims t) (run-opened-at t) run-opened.Post
 run-opened-returns t c =
     let a = c .before .before .before .before .before .before .before .args in
@@ -460,18 +394,6 @@ run-opened-settle-directive-requires : (t : ℕ) → run-opened-lts.Need-settle-
 run-opened-settle-directive-requires t c κs =
     let start = c .before .before .before .before .before .before in
     (all-supplied (start .pre .1 .1 .0), start .pre .1 .1 .1 .0)
-
-run-opened-enum-known-settled : (t : ℕ) → run-opened-lts.Need-enum-known-settled (run-opened-claims t) (run-opened-at t) run-opened.Post
-run-opened-enum-known-settled t c = search needs
-
-run-opened-refuse-requires-2 : (t : ℕ) → run-opened-lts.Need-refuse-requires-2 (run-opened-claims t) (run-opened-at t) run-opened.Post
-run-opened-refuse-requires-2 t c κs = search needs
-
-run-opened-enum-known-settled-2 : (t : ℕ) → run-opened-lts.Need-enum-known-settled-2 (run-opened-claims t) (run-opened-at t) run-opened.Post
-run-opened-enum-known-settled-2 t c = search needs
-
-run-opened-is-iteration-requires : (t : ℕ) → run-opened-lts.Need-is-iteration-requires (run-opened-claims t) (run-opened-at t) run-opened.Post
-run-opened-is-iteration-requires t c κs = search needs
 
 run-opened-run-iteration-requires : (t : ℕ) → run-opened-lts.Need-run-iteration-requires (run-opened-claims t) (run-opened-at t) run-opened.Post
 run-opened-run-iteration-requires t c κs = (omega (arith, c .before .before .before .before .before .before .before .before .before .before .before .before .before .pre .0), (c .before .before .before .before .before .before .before .before .before .before .before .before .before .pre .1 .0, (c .before .before .before .before .before .before .before .before .before .before .before .before .before .pre .1 .1 .0, (next-reaches (c .before .before .before .before .before .before .settle-directive .ensures) (c .before .before .before .before .settled2 .given .1), (c .before .before .before .before .before .before .before .before .before .before .before .before .before .pre .1 .1 .1 .1 .0, c .before .before .before .before .before .before .before .before .before .before .before .before .before .pre .1 .1 .1 .1 .1)))))
@@ -513,16 +435,10 @@ run-passes-μ-loop text marks table level p q out₀ hand passes₀ next₀ on�
 abbrev run-passes-claims : ℕ → run-passes-lts.Claims
 run-passes-claims t = (spot-at-reads.Asked, spot-at-reads.Learnt, is-over-reads.Asked, is-over-reads.Learnt, end-block-reads.Asked, end-block-reads.Learnt, refuse-reads.Asked, refuse-reads.Learnt, begin-reads.Asked, begin-reads.Learnt, run-sequence-below t, run-sequence.Post, has-ended-reads.Asked, has-ended-reads.Learnt, leave-passes-reads.Asked, leave-passes-reads.Learnt, one-less-reads.Asked, one-less-reads.Learnt)
 
-run-passes-spot-at-requires : (t : ℕ) → run-passes-lts.Need-spot-at-requires (run-passes-claims t) (run-passes-at t) run-passes.Post run-passes-Inv-loop run-passes-μ-loop
-run-passes-spot-at-requires t c κs = search needs
-
 run-passes-loop-holds : (t : ℕ) → run-passes-lts.Need-loop-holds (run-passes-claims t) (run-passes-at t) run-passes.Post run-passes-Inv-loop run-passes-μ-loop
 run-passes-loop-holds t c =
     let o = c .spot-at .ensures in
     (record { ends = λ e r k. k; size = refl; fits = written-inside o (c .before .before .before .before .before .before .before .pre .1 .1 .0 .written); falls = omega arith; inside = c .before .before .before .before .before .before .before .pre .1 .1 .0 .reaches }, place-at o (inside-start _ _ (c .before .before .before .before .before .before .before .pre .1 .1 .1)))
-
-run-passes-is-over-requires : (t : ℕ) → run-passes-lts.Need-is-over-requires (run-passes-claims t) (run-passes-at t) run-passes.Post run-passes-Inv-loop run-passes-μ-loop
-run-passes-is-over-requires t c κs = search needs
 
 run-passes-end-block-requires : (t : ℕ) → run-passes-lts.Need-end-block-requires (run-passes-claims t) (run-passes-at t) run-passes.Post run-passes-Inv-loop run-passes-μ-loop
 run-passes-end-block-requires t c κs = (c .before .before .before .before .before .before .before .before .before .before .pre .1 .0, c .before .before .loop .inv .1)
@@ -535,9 +451,6 @@ run-passes-returns t c =
     let a = c .before .before .before .before .before .before .before .before .before .before .before .args in
     let l = c .before .before .before .loop in
     passes-from (c .before .before .before .before .spot-at .ensures) (l .inv .0 .ends _ _ (passes-over-told (levelsAt (a .text .now)) (length (a .text .now)) (viewOf (a .table .now)) (a .first .hand .first .0) (a .first .hand .count) (a .level) (a .q) (l .next .0) (l .passes) (l .on) (l .out) (sym (c .before .before .is-over .ensures) ∙ c .before .if1 .taken) (c .end-block .ensures) (l .inv .0 .fits) (l .inv .0 .inside)))
-
-run-passes-refuse-requires : (t : ℕ) → run-passes-lts.Need-refuse-requires (run-passes-claims t) (run-passes-at t) run-passes.Post run-passes-Inv-loop run-passes-μ-loop
-run-passes-refuse-requires t c κs = search needs
 
 run-passes-same-length-2 : (t : ℕ) → run-passes-lts.Need-same-length-2 (run-passes-claims t) (run-passes-at t) run-passes.Post run-passes-Inv-loop run-passes-μ-loop
 run-passes-same-length-2 t c = c .before .before .before .before .before .loop .inv .0 .size
@@ -556,9 +469,6 @@ run-passes-run-sequence-requires t c κs =
     let i = c .before .before .before .before .before .before .loop .inv .0 in
     (omega (arith, c .before .before .before .before .before .before .before .before .before .before .before .before .before .before .pre .0), (c .before .before .before .before .before .before .before .before .before .before .before .before .before .before .pre .1 .0, (record { held = c .before .before .before .before .before .before .before .before .before .before .before .before .before .before .pre .1 .1 .0 .held; reaches = i .inside; written = written-inside (c .before .begin .ensures) (i .fits) }, c .before .before .before .before .before .before .before .before .before .before .before .before .before .before .pre .1 .1 .1)))
 
-run-passes-has-ended-requires : (t : ℕ) → run-passes-lts.Need-has-ended-requires (run-passes-claims t) (run-passes-at t) run-passes.Post run-passes-Inv-loop run-passes-μ-loop
-run-passes-has-ended-requires t c κs = search needs
-
 run-passes-leave-passes-requires : (t : ℕ) → run-passes-lts.Need-leave-passes-requires (run-passes-claims t) (run-passes-at t) run-passes.Post run-passes-Inv-loop run-passes-μ-loop
 run-passes-leave-passes-requires t c κs = (c .before .before .before .before .before .before .before .before .before .before .before .before .before .before .before .before .before .before .before .pre .1 .0, c .before .before .before .before .before .before .before .before .before .before .before .loop .inv .1)
 
@@ -570,12 +480,6 @@ run-passes-returns-3 t c =
     let a = c .before .before .before .before .before .before .before .before .before .before .before .before .before .before .before .before .before .before .before .before .args in
     let l = c .before .before .before .before .before .before .before .before .before .before .before .before .loop in
     passes-from (c .before .before .before .before .before .before .before .before .before .before .before .before .before .spot-at .ensures) (l .inv .0 .ends _ _ (passes-stopped (levelsAt (a .text .now)) (length (a .text .now)) (viewOf (a .table .now)) (a .first .hand .first .0) (a .first .hand .count) (a .level) (a .q) (l .next .0) (l .passes) (l .on) (l .out) (sym (c .before .before .before .before .before .before .before .before .before .before .before .is-over .ensures) ∙ c .before .before .before .before .before .before .before .before .before .before .if1 .left) (c .before .before .before .before .before .before .before .before .if2 .left) (c .before .before .before .before .before .before .before .begin .ensures) (c .before .before .before .before .before .run-sequence .ensures) (sym (c .before .before .has-ended .ensures) ∙ not-true _ (c .before .if3 .taken)) (c .leave-passes .ensures)))
-
-run-passes-one-less-requires : (t : ℕ) → run-passes-lts.Need-one-less-requires (run-passes-claims t) (run-passes-at t) run-passes.Post run-passes-Inv-loop run-passes-μ-loop
-run-passes-one-less-requires t c κs = search needs
-
-run-passes-spot-at-requires-2 : (t : ℕ) → run-passes-lts.Need-spot-at-requires-2 (run-passes-claims t) (run-passes-at t) run-passes.Post run-passes-Inv-loop run-passes-μ-loop
-run-passes-spot-at-requires-2 t c κs = search needs
 
 run-passes-loop-less : (t : ℕ) → run-passes-lts.Need-loop-less (run-passes-claims t) (run-passes-at t) run-passes.Post run-passes-Inv-loop run-passes-μ-loop
 run-passes-loop-less t c = omega (arith, left-at (c .spot-at2 .ensures), left-at (c .before .before .before .before .before .before .before .before .before .begin .ensures), c .before .before .before .before .before .before .before .run-sequence .ensures .does .falls, c .before .before .before .before .before .before .before .before .before .before .if2 .left)
@@ -616,12 +520,6 @@ run-sequence-loop-holds t c = (record { ends = λ e r k. k; size = refl; fits = 
 run-sequence-run-short-requires : (t : ℕ) → run-sequence-lts.Need-run-short-requires (run-sequence-claims t) (run-sequence-at t) run-sequence.Post run-sequence-Inv-loop run-sequence-μ-loop
 run-sequence-run-short-requires t c κs = (record { held = c .before .before .before .before .before .before .before .before .pre .1 .1 .0 .held; reaches = c .before .loop .inv .0 .inside; written = c .before .loop .inv .0 .fits }, c .before .loop .inv .1)
 
-run-sequence-item-after-requires : (t : ℕ) → run-sequence-lts.Need-item-after-requires (run-sequence-claims t) (run-sequence-at t) run-sequence.Post run-sequence-Inv-loop run-sequence-μ-loop
-run-sequence-item-after-requires t c κs = search needs
-
-run-sequence-ends-here-requires : (t : ℕ) → run-sequence-lts.Need-ends-here-requires (run-sequence-claims t) (run-sequence-at t) run-sequence.Post run-sequence-Inv-loop run-sequence-μ-loop
-run-sequence-ends-here-requires t c κs = search needs
-
 run-sequence-same-length : (t : ℕ) → run-sequence-lts.Need-same-length (run-sequence-claims t) (run-sequence-at t) run-sequence.Post run-sequence-Inv-loop run-sequence-μ-loop
 run-sequence-same-length t c = (c .before .before .before .before .before .run-short .ensures .0) (c .before .before .before .before .before .before .before .before .before .before .before .before .before .before .args .level) .does .size ∙ c .before .before .before .before .before .before .before .loop .inv .0 .size
 
@@ -640,9 +538,6 @@ run-sequence-run-item-requires t c κs =
     let w = (c .before .before .before .before .before .before .before .run-short .ensures .0) (c .before .before .before .before .before .before .before .before .before .before .before .before .before .before .before .before .args .level) in
     let h = sym (c .before .before .before .ends-here .ensures) ∙ c .before .before .if1 .left in
     (omega (arith, c .before .before .before .before .before .before .before .before .before .before .before .before .before .before .before .before .pre .0), (c .before .before .before .before .before .before .before .before .before .before .before .before .before .before .before .before .pre .1 .0, (record { held = c .before .before .before .before .before .before .before .before .before .before .before .before .before .before .before .before .pre .1 .1 .0 .held; reaches = w .does .inside; written = omega (arith, w .does .most, w .does .size) }, (c .before .before .before .before .item-after .ensures .is h, h))))
-
-run-sequence-has-ended-requires : (t : ℕ) → run-sequence-lts.Need-has-ended-requires (run-sequence-claims t) (run-sequence-at t) run-sequence.Post run-sequence-Inv-loop run-sequence-μ-loop
-run-sequence-has-ended-requires t c κs = search needs
 
 run-sequence-same-length-2 : (t : ℕ) → run-sequence-lts.Need-same-length-2 (run-sequence-claims t) (run-sequence-at t) run-sequence.Post run-sequence-Inv-loop run-sequence-μ-loop
 run-sequence-same-length-2 t c = c .before .before .before .before .run-item .ensures .does .size ∙ (c .before .before .before .before .before .before .before .before .before .before .before .before .run-short .ensures .0) (c .before .before .before .before .before .before .before .before .before .before .before .before .before .before .before .before .before .before .before .before .before .args .level) .does .size ∙ c .before .before .before .before .before .before .before .before .before .before .before .before .before .before .loop .inv .0 .size
@@ -713,13 +608,13 @@ pub +run-block+run-clause+run-conditional+run-item+run-iteration+run-opened+run-
     )
     (run-block-at t)
     run-block.Post
-    (run-block-spot-at-requires t)
-    (run-block-refuse-requires t)
+    (λ c κs. search needs)
+    (λ c κs. search needs)
     (run-block-returns t)
-    (run-block-refuse-requires-2 t)
+    (λ c κs. search needs)
     (run-block-returns-2 t)
     (run-block-begin-requires t)
-    (run-block-sub-run-opened t)
+    (λ c. search needs)
     (run-block-run-opened-requires t)
     (run-block-same-length t)
     (run-block-returns-3 t))
@@ -732,10 +627,10 @@ pub +run-block+run-clause+run-conditional+run-item+run-iteration+run-opened+run-
     (run-clause-at t)
     run-clause.Post
     (run-clause-run-sequence-requires t)
-    (run-clause-enum-told t)
+    (λ c. search needs)
     (run-clause-block-end-requires t)
-    (run-clause-enum-told-2 t)
-    (run-clause-enum-told-3 t)
+    (λ c. search needs)
+    (λ c. search needs)
     (run-clause-same-length t)
     (run-clause-returns t)
     (run-clause-same-length-2 t)
@@ -755,12 +650,12 @@ pub +run-block+run-clause+run-conditional+run-item+run-iteration+run-opened+run-
     (run-conditional-at t)
     run-conditional.Post
     (run-conditional-choose-clause-requires t)
-    (run-conditional-enum-known-chosen t)
+    (λ c. search needs)
     (run-conditional-run-clause-requires t)
-    (run-conditional-enum-known-chosen-2 t)
+    (λ c. search needs)
     (run-conditional-end-block-requires t)
-    (run-conditional-enum-known-chosen-3 t)
-    (run-conditional-refuse-requires t)
+    (λ c. search needs)
+    (λ c κs. search needs)
     (run-conditional-same-length t)
     (run-conditional-returns t)
     (run-conditional-returns-2 t)
@@ -781,16 +676,16 @@ pub +run-block+run-clause+run-conditional+run-item+run-iteration+run-opened+run-
     )
     (run-item-at t)
     run-item.Post
-    (run-item-enum-known-item t)
+    (λ c. search needs)
     (run-item-put-literal-requires t)
-    (run-item-enum-known-item-2 t)
-    (run-item-opens-block-requires t)
+    (λ c. search needs)
+    (λ c κs. search needs)
     (run-item-run-block-requires t)
     (run-item-same-length t)
     (run-item-returns t)
     (run-item-act-requires t)
-    (run-item-spot-at-requires t)
-    (run-item-refuse-requires t)
+    (λ c κs. search needs)
+    (λ c κs. search needs)
     (run-item-same-length-2 t)
     (run-item-returns-2 t)
     (run-item-same-length-3 t)
@@ -808,10 +703,10 @@ pub +run-block+run-clause+run-conditional+run-item+run-iteration+run-opened+run-
     )
     (run-iteration-at t)
     run-iteration.Post
-    (run-iteration-go-over-requires t)
-    (run-iteration-enum-known-over t)
-    (run-iteration-refuse-requires t)
-    (run-iteration-enum-known-over-2 t)
+    (λ c κs. search needs)
+    (λ c. search needs)
+    (λ c κs. search needs)
+    (λ c. search needs)
     (run-iteration-run-passes-requires t)
     (run-iteration-next-after-requires t)
     (run-iteration-returns t)
@@ -833,14 +728,14 @@ pub +run-block+run-clause+run-conditional+run-item+run-iteration+run-opened+run-
     )
     (run-opened-at t)
     run-opened.Post
-    (run-opened-is-well-written-requires t)
-    (run-opened-refuse-requires t)
+    (λ c κs. search needs)
+    (λ c κs. search needs)
     (run-opened-returns t)
     (run-opened-settle-directive-requires t)
-    (run-opened-enum-known-settled t)
-    (run-opened-refuse-requires-2 t)
-    (run-opened-enum-known-settled-2 t)
-    (run-opened-is-iteration-requires t)
+    (λ c. search needs)
+    (λ c κs. search needs)
+    (λ c. search needs)
+    (λ c κs. search needs)
     (run-opened-run-iteration-requires t)
     (run-opened-same-length t)
     (run-opened-returns-2 t)
@@ -872,23 +767,23 @@ pub +run-block+run-clause+run-conditional+run-item+run-iteration+run-opened+run-
     run-passes.Post
     run-passes-Inv-loop
     run-passes-μ-loop
-    (run-passes-spot-at-requires t)
+    (λ c κs. search needs)
     (run-passes-loop-holds t)
-    (run-passes-is-over-requires t)
+    (λ c κs. search needs)
     (run-passes-end-block-requires t)
     (run-passes-same-length t)
     (run-passes-returns t)
-    (run-passes-refuse-requires t)
+    (λ c κs. search needs)
     (run-passes-same-length-2 t)
     (run-passes-returns-2 t)
     (run-passes-begin-requires t)
     (run-passes-run-sequence-requires t)
-    (run-passes-has-ended-requires t)
+    (λ c κs. search needs)
     (run-passes-leave-passes-requires t)
     (run-passes-same-length-3 t)
     (run-passes-returns-3 t)
-    (run-passes-one-less-requires t)
-    (run-passes-spot-at-requires-2 t)
+    (λ c κs. search needs)
+    (λ c κs. search needs)
     (run-passes-loop-less t)
     (run-passes-loop-again t))
     λ t. run-sequence-lts.spec (
@@ -909,12 +804,12 @@ pub +run-block+run-clause+run-conditional+run-item+run-iteration+run-opened+run-
     run-sequence-μ-loop
     (run-sequence-loop-holds t)
     (run-sequence-run-short-requires t)
-    (run-sequence-item-after-requires t)
-    (run-sequence-ends-here-requires t)
+    (λ c κs. search needs)
+    (λ c κs. search needs)
     (run-sequence-same-length t)
     (run-sequence-returns t)
     (run-sequence-run-item-requires t)
-    (run-sequence-has-ended-requires t)
+    (λ c κs. search needs)
     (run-sequence-same-length-2 t)
     (run-sequence-returns-2 t)
     (run-sequence-loop-less t)

@@ -9,9 +9,6 @@ use Rattle.engine.proofs.RunnerLaws.{not-both}
 use Rattle.engine.proofs.runners.item_after.Statement.{statement}
 use Rattle.engine.proofs.runners.item_after.Tie as tie
 
-has-ended-requires : tie.Need-has-ended-requires
-has-ended-requires c κs = search needs
-
 returns : tie.Need-returns
 returns c =
     record {
@@ -19,9 +16,6 @@ returns c =
       ended = λ h. absurd (not-both refl h);
       is = λ h. absurd (not-both refl h);
     }
-
-element-at-requires : tie.Need-element-at-requires
-element-at-requires c κs = search needs
 
 returns-2 : tie.Need-returns-2
 returns-2 c =
@@ -35,4 +29,4 @@ returns-2 c =
 pub item-after-spec : {M : Type 1} → statement M
 item-after-spec =
     tie.close
-    (tie.spec has-ended-requires returns element-at-requires returns-2)
+    (tie.spec (λ c κs. search needs) returns (λ c κs. search needs) returns-2)

@@ -9,15 +9,6 @@ use Rattle.engine.proofs.RunnerLaws.{left-not-refused, not-left}
 use Rattle.engine.proofs.runners.leave_passes.Statement.{statement}
 use Rattle.engine.proofs.runners.leave_passes.Tie as tie
 
-enum-told : tie.Need-enum-told
-enum-told c = search needs
-
-spot-at-requires : tie.Need-spot-at-requires
-spot-at-requires c κs = search needs
-
-end-block-requires : tie.Need-end-block-requires
-end-block-requires c κs = search needs
-
 returns : tie.Need-returns
 returns c =
     let a = c .before .before .before .before .before .before .before .args in
@@ -35,4 +26,4 @@ returns-2 c =
 
 pub leave-passes-spec : {M : Type 1} → statement M
 leave-passes-spec =
-    tie.close (tie.spec enum-told spot-at-requires end-block-requires returns returns-2)
+    tie.close (tie.spec (λ c. search needs) (λ c κs. search needs) (λ c κs. search needs) returns returns-2)

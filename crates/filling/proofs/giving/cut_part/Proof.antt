@@ -6,31 +6,10 @@ use borrow.Author.Needs.{needs}
 use Rattle.filling.proofs.giving.cut_part.Statement.{statement}
 use Rattle.filling.proofs.giving.cut_part.Tie as tie
 
-sub-write-part : tie.Need-sub-write-part
-sub-write-part c = search needs
-
-part-write-part-start : tie.Need-part-write-part-start
-part-write-part-start c = search needs
-
-part-write-part-end : tie.Need-part-write-part-end
-part-write-part-end c = search needs
-
-write-part-requires : tie.Need-write-part-requires
-write-part-requires c κs = search needs
-
-sub-t10 : tie.Need-sub-t10
-sub-t10 c = search needs
-
 add-t14 : tie.Need-add-t14
 add-t14 c =
     let start = c .before .before .before .before .before .before in
     omega (arith, start .pre .1 .1, piece-small (start .args .table .now) (start .args .piece) (start .pre .0))
-
-no-rest-requires : tie.Need-no-rest-requires
-no-rest-requires c κs = search needs
-
-same-length : tie.Need-same-length
-same-length c = search needs
 
 returns : tie.Need-returns
 returns c =
@@ -44,12 +23,12 @@ pub cut-part-spec : {M : Type 1} → statement M
 cut-part-spec =
     tie.close
     (tie.spec
-    sub-write-part
-    part-write-part-start
-    part-write-part-end
-    write-part-requires
-    sub-t10
+    (λ c. search needs)
+    (λ c. search needs)
+    (λ c. search needs)
+    (λ c κs. search needs)
+    (λ c. search needs)
     add-t14
-    no-rest-requires
-    same-length
+    (λ c κs. search needs)
+    (λ c. search needs)
     returns)

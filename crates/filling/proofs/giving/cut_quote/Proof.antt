@@ -4,9 +4,6 @@ use borrow.Author.Needs.{needs}
 use Rattle.filling.proofs.giving.cut_quote.Statement.{statement}
 use Rattle.filling.proofs.giving.cut_quote.Tie as tie
 
-quote-rest-requires : tie.Need-quote-rest-requires
-quote-rest-requires c κs = search needs
-
 write-rest-requires : tie.Need-write-rest-requires
 write-rest-requires c κs =
     let start = c .before .before .before .before in
@@ -14,9 +11,6 @@ write-rest-requires c κs =
       quote-in (a .table .now) (a .piece) (start .pre .0) (start .pre .1 .0) (c .before .quote-rest .ensures),
       start .pre .1 .1 .0,
     )
-
-same-length : tie.Need-same-length
-same-length c = search needs
 
 returns : tie.Need-returns
 returns c =
@@ -27,4 +21,4 @@ returns c =
     (start .pre .1 .1 .0) (start .pre .1 .1 .1) (c .before .before .before .write-rest .ensures)
 
 pub cut-quote-spec : {M : Type 1} → statement M
-cut-quote-spec = tie.close (tie.spec quote-rest-requires write-rest-requires same-length returns)
+cut-quote-spec = tie.close (tie.spec (λ c κs. search needs) write-rest-requires (λ c. search needs) returns)

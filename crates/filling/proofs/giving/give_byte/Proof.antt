@@ -17,9 +17,6 @@ use Rattle.filling.proofs.giving.on.Reads as on-reads
 use Rattle.filling.proofs.giving.over.Reads as over-reads
 use Rattle.filling.proofs.giving.stepped.Reads as stepped-reads
 
-over-requires : tie.Need-over-requires
-over-requires c κs = search needs
-
 returns : tie.Need-returns
 returns c =
     let a = c .before .before .before .before .args in
@@ -33,36 +30,15 @@ stepped-requires : tie.Need-stepped-requires
 stepped-requires c κs =
     omega (arith, c .before .before .if1 .left)
 
-sub-on : tie.Need-sub-on
-sub-on c = search needs
-
-on-requires : tie.Need-on-requires
-on-requires c κs = search needs
-
 returns-2 : tie.Need-returns-2
 returns-2 c =
     let a = c .before .before .before .before .before .before .before .before .args in
     λ t table. byte-given (a .byte) (a .here) (a .given) (a .at) (c .before .before .before .before .before .if1 .left) (c .before .before .stepped .ensures) t table (c .before .if2 .taken) (c .before .before .before .before .before .before .before .before .pre .0) (c .on .ensures)
 
-no-rest-requires : tie.Need-no-rest-requires
-no-rest-requires c κs = search needs
-
 returns-3 : tie.Need-returns-3
 returns-3 c =
     let a = c .before .before .before .before .before .before .before .before .before .args in
     λ t table. byte-full (a .byte) (a .here) (a .given) (a .at) (c .before .before .before .before .before .before .if1 .left) (c .before .before .before .stepped .ensures) t table (omega (arith, c .before .before .if2 .left)) (c .before .before .before .before .before .before .before .before .before .pre .0) (c .before .if3 .taken) (ap (λ (x : QuoteRest). record { reach = Full; here = a .here; given = 0; rest = x; at = a .at }) (c .no-rest .ensures))
-
-slice-write-window : tie.Need-slice-write-window
-slice-write-window c = search needs
-
-add-on : tie.Need-add-on
-add-on c = search needs
-
-on-requires-2 : tie.Need-on-requires-2
-on-requires-2 c κs = search needs
-
-same-length : tie.Need-same-length
-same-length c = search needs
 
 returns-4 : tie.Need-returns-4
 returns-4 c =
@@ -73,17 +49,17 @@ pub give-byte-spec : {M : Type 1} → statement M
 give-byte-spec =
     tie.close
     (tie.spec
-    over-requires
+    (λ c κs. search needs)
     returns
     add-stepped
     stepped-requires
-    sub-on
-    on-requires
+    (λ c. search needs)
+    (λ c κs. search needs)
     returns-2
-    no-rest-requires
+    (λ c κs. search needs)
     returns-3
-    slice-write-window
-    add-on
-    on-requires-2
-    same-length
+    (λ c. search needs)
+    (λ c. search needs)
+    (λ c κs. search needs)
+    (λ c. search needs)
     returns-4)

@@ -16,9 +16,6 @@ use Rattle.filling.proofs.giving.over.Reads as over-reads
 use Rattle.filling.proofs.giving.stepped.Reads as stepped-reads
 use Rattle.making.proofs.making.make_piece.Reads as make-piece-reads
 
-over-requires : tie.Need-over-requires
-over-requires c κs = search needs
-
 returns : tie.Need-returns
 returns c =
     let a = c .before .before .before .before .before .args in
@@ -27,9 +24,6 @@ returns c =
 plan-form-requires : tie.Need-plan-form-requires
 plan-form-requires c κs =
     (c .before .before .before .before .before .before .pre .0, (c .before .before .before .before .before .before .pre .1 .0, (c .before .before .before .before .before .before .pre .1 .1 .0, c .before .before .before .before .before .before .pre .1 .1 .1 .0)))
-
-enum-known-planned : tie.Need-enum-known-planned
-enum-known-planned c = search needs
 
 make-piece-requires : tie.Need-make-piece-requires
 make-piece-requires c κs =
@@ -45,18 +39,9 @@ give-piece-requires : tie.Need-give-piece-requires
 give-piece-requires c κs =
     (c .before .before .make-piece .ensures .good, c .before .before .before .before .before .before .before .before .before .before .before .before .before .pre .1 .1 .1 .1)
 
-enum-known-planned-2 : tie.Need-enum-known-planned-2
-enum-known-planned-2 c = search needs
-
 stepped-requires-2 : tie.Need-stepped-requires-2
 stepped-requires-2 c κs =
     omega (arith, c .before .before .before .before .before .before .if1 .left)
-
-over-requires-2 : tie.Need-over-requires-2
-over-requires-2 c κs = search needs
-
-same-length : tie.Need-same-length
-same-length c = search needs
 
 returns-2 : tie.Need-returns-2
 returns-2 c =
@@ -72,16 +57,16 @@ pub give-form-spec : {M : Type 1} → statement M
 give-form-spec =
     tie.close
     (tie.spec
-    over-requires
+    (λ c κs. search needs)
     returns
     plan-form-requires
-    enum-known-planned
+    (λ c. search needs)
     make-piece-requires
     stepped-requires
     give-piece-requires
-    enum-known-planned-2
+    (λ c. search needs)
     stepped-requires-2
-    over-requires-2
-    same-length
+    (λ c κs. search needs)
+    (λ c. search needs)
     returns-2
     returns-3)

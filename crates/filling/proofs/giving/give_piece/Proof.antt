@@ -12,12 +12,6 @@ use borrow.Author.Needs.{needs}
 use Rattle.filling.proofs.giving.give_piece.Statement.{statement}
 use Rattle.filling.proofs.giving.give_piece.Tie as tie
 
-piece-length-requires : tie.Need-piece-length-requires
-piece-length-requires c κs = search needs
-
-on-requires : tie.Need-on-requires
-on-requires c κs = search needs
-
 returns : tie.Need-returns
 returns c =
     let start = c .before .before .before .before .before in
@@ -27,35 +21,11 @@ returns c =
     given-before w (a .here) (a .after) (a .given) (a .at) (a .window .now) (a .table .now) n (c .before .if1 .taken) (start .pre .1)
     (c .on .ensures)
 
-sub-left : tie.Need-sub-left
-sub-left c = search needs
-
-sub-if2 : tie.Need-sub-if2
-sub-if2 c = search needs
-
 cut-piece-requires : tie.Need-cut-piece-requires
 cut-piece-requires c κs =
     let start = c .before .before .before .before .before .before in
     let n = c .before .before .before .piece-length .ensures .0 (start .args .table .now) (start .pre .0) in
     (start .pre .0, (start .pre .1, omega (arith, n, c .before .before .if1 .left, c .before .if2 .taken)))
-
-same-length : tie.Need-same-length
-same-length c = search needs
-
-returns-2 : tie.Need-returns-2
-returns-2 c = search needs
-
-add-end : tie.Need-add-end
-add-end c = search needs
-
-sub-write-whole : tie.Need-sub-write-whole
-sub-write-whole c = search needs
-
-part-write-whole-start : tie.Need-part-write-whole-start
-part-write-whole-start c = search needs
-
-part-write-whole-end : tie.Need-part-write-whole-end
-part-write-whole-end c = search needs
 
 -- what is left has room
 left-fits : (c : tie.Else2) → let a = c .before .before .before .before .before .args in
@@ -81,15 +51,6 @@ write-whole-requires c κs =
     let start = c .before .before .before .before .before .before .before in
     (start .pre .0, lent-left (c .before .before) ∙ rw (c .before .if3 .taken))
 
-sub-write-part : tie.Need-sub-write-part
-sub-write-part c = search needs
-
-part-write-part-start : tie.Need-part-write-part-start
-part-write-part-start c = search needs
-
-part-write-part-end : tie.Need-part-write-part-end
-part-write-part-end c = search needs
-
 write-part-requires : tie.Need-write-part-requires
 write-part-requires c κs =
     let start = c .before .before .before .before .before .before .before in
@@ -97,9 +58,6 @@ write-part-requires c κs =
     let w = bytesOf (a .table .now) (a .piece) in
     let n = c .before .before .before .before .piece-length .ensures .0 (a .table .now) (start .pre .0) in
     (start .pre .0, omega (arith, n, c .before .before .before .if1 .left, lent-left (c .before .before), length-drop (a .given) w))
-
-on-requires-2 : tie.Need-on-requires-2
-on-requires-2 c κs = search needs
 
 -- whichever writer wrote it
 written : (c : tie.Joined3) → let a = c .before .before .before .before .before .before .args in
@@ -131,23 +89,23 @@ pub give-piece-spec : {M : Type 1} → statement M
 give-piece-spec =
     tie.close
     (tie.spec
-    piece-length-requires
-    on-requires
+    (λ c κs. search needs)
+    (λ c κs. search needs)
     returns
-    sub-left
-    sub-if2
+    (λ c. search needs)
+    (λ c. search needs)
     cut-piece-requires
-    same-length
-    returns-2
-    add-end
-    sub-write-whole
-    part-write-whole-start
-    part-write-whole-end
+    (λ c. search needs)
+    (λ c. search needs)
+    (λ c. search needs)
+    (λ c. search needs)
+    (λ c. search needs)
+    (λ c. search needs)
     write-whole-requires
-    sub-write-part
-    part-write-part-start
-    part-write-part-end
+    (λ c. search needs)
+    (λ c. search needs)
+    (λ c. search needs)
     write-part-requires
-    on-requires-2
+    (λ c κs. search needs)
     same-length-2
     returns-3)

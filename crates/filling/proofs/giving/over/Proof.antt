@@ -3,11 +3,8 @@ use borrow.Author.Needs.{needs}
 use Rattle.filling.proofs.giving.over.Statement.{statement}
 use Rattle.filling.proofs.giving.over.Tie as tie
 
-no-rest-requires : tie.Need-no-rest-requires
-no-rest-requires c κs = search needs
-
 returns : tie.Need-returns
 returns c = rw (c .no-rest .ensures)
 
 pub over-spec : {M : Type 1} → statement M
-over-spec = tie.close (tie.spec no-rest-requires returns)
+over-spec = tie.close (tie.spec (λ c κs. search needs) returns)

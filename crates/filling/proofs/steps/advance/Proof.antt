@@ -20,30 +20,15 @@ run-ahead-requires c κs =
     let y = c .before .before .before .before .before .pre .1 in
     ((hand-in (a .table .now) (a .here .hand) (a .here .next .0) (y .accepted) (y .sound .hand)), ((next-in (a .table .now) (a .here .hand) (a .here .next .0) (y .sound .hand)), (y .sound .place, (y .sound .left, y .room))))
 
-enum-known-stop : tie.Need-enum-known-stop
-enum-known-stop c = search needs
-
-over-requires : tie.Need-over-requires
-over-requires c κs = search needs
-
-put-step-requires : tie.Need-put-step-requires
-put-step-requires c κs = search needs
-
 step-item-requires : tie.Need-step-item-requires
 step-item-requires c κs =
     let a = c .before .before .before .before .before .before .before .before .before .before .before .before .args in
     (c .before .before .before .before .before .before .before .before .before .before .before .before .pre .0, ahead-standing (a .text .now) (a .table .now) (a .here) (a .nest) (a .given) (a .at) (a .window .now) _ (c .before .before .before .before .before .before .run-ahead .result) (c .before .before .before .before .before .before .before .before .before .before .before .before .pre .1) (c .before .before .before .before .before .before .run-ahead .ensures) (ended-stop _ (c .before .before .before .before .before .before .run-ahead .result .stop) refl (c .before .before .before .before .before .before .run-ahead .ensures .stays) (c .before .match .keys2)))
 
-same-length : tie.Need-same-length
-same-length c = search needs
-
 returns : tie.Need-returns
 returns c =
     let a = c .before .before .before .before .before .before .before .before .before .before .before .before .before .before .before .args in
     ahead-refused (a .text .now) (a .table .now) (a .here) (a .nest) (a .given) (a .at) (a .window .now) _ (c .before .before .before .before .before .before .before .before .before .run-ahead .result) (c .before .before .before .before .before .before .before .before .before .before .before .before .before .before .before .pre .1) (c .before .before .before .before .before .before .before .before .before .run-ahead .ensures) (c .before .before .before .stop .given .1) (c .put-step .ensures ∙ ap (stepOf (a .nest)) (c .before .over .ensures))
-
-same-length-2 : tie.Need-same-length-2
-same-length-2 c = search needs
 
 returns-2 : tie.Need-returns-2
 returns-2 c =
@@ -55,11 +40,11 @@ advance-spec =
     tie.close
     (tie.spec
     run-ahead-requires
-    enum-known-stop
-    over-requires
-    put-step-requires
+    (λ c. search needs)
+    (λ c κs. search needs)
+    (λ c κs. search needs)
     step-item-requires
-    same-length
+    (λ c. search needs)
     returns
-    same-length-2
+    (λ c. search needs)
     returns-2)

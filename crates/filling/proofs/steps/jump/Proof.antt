@@ -14,9 +14,6 @@ use Rattle.acting.proofs.acting.act_jump.Reads as act-jump-reads
 use Rattle.filling.proofs.giving.on.Reads as on-reads
 use Rattle.filling.proofs.giving.over.Reads as over-reads
 
-over-requires : tie.Need-over-requires
-over-requires c κs = search needs
-
 returns : tie.Need-returns
 returns c =
     let a = c .before .before .before .before .args in
@@ -29,15 +26,6 @@ sub-t16 c =
 act-jump-requires : tie.Need-act-jump-requires
 act-jump-requires c κs =
     (c .before .before .before .before .before .before .pre .0, (c .before .before .before .before .before .before .pre .1 .0, c .before .before .before .before .before .before .pre .1 .1))
-
-enum-known-stop : tie.Need-enum-known-stop
-enum-known-stop c = search needs
-
-over-requires-2 : tie.Need-over-requires-2
-over-requires-2 c κs = search needs
-
-on-requires : tie.Need-on-requires
-on-requires c κs = search needs
 
 returns-2 : tie.Need-returns-2
 returns-2 c =
@@ -53,12 +41,12 @@ pub jump-spec : {M : Type 1} → statement M
 jump-spec =
     tie.close
     (tie.spec
-    over-requires
+    (λ c κs. search needs)
     returns
     sub-t16
     act-jump-requires
-    enum-known-stop
-    over-requires-2
-    on-requires
+    (λ c. search needs)
+    (λ c κs. search needs)
+    (λ c κs. search needs)
     returns-2
     returns-3)

@@ -13,15 +13,6 @@ returns : tie.Need-returns
 returns c =
     record { sound = c .before .before .before .pre; size = refl }
 
-add-if2 : tie.Need-add-if2
-add-if2 c = search needs
-
-mark-text-requires : tie.Need-mark-text-requires
-mark-text-requires c κs = search needs
-
-add-result : tie.Need-add-result
-add-result c = search needs
-
 laid : (c : tie.Joined2) → Marks (c .before .before .before .before .args .text .now) (c .before .before .before .before .args .marks .now) (c .if2 .marks)
 laid c =
     elim (c .if2 .came) [
@@ -39,4 +30,4 @@ returns-2 c =
 
 pub lay-in-time-spec : {M : Type 1} → statement M
 lay-in-time-spec =
-    tie.close (tie.spec returns add-if2 mark-text-requires add-result same-length returns-2)
+    tie.close (tie.spec returns (λ c. search needs) (λ c κs. search needs) (λ c. search needs) same-length returns-2)

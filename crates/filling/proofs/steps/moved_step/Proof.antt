@@ -8,15 +8,9 @@ use Rattle.filling.proofs.steps.moved_step.Lts as lts
 use Rattle.filling.proofs.giving.no_rest.Reads as no-rest-reads
 use Rattle.filling.proofs.steps.reach_of.Reads as reach-of-reads
 
-reach-of-requires : tie.Need-reach-of-requires
-reach-of-requires c κs = search needs
-
-no-rest-requires : tie.Need-no-rest-requires
-no-rest-requires c κs = search needs
-
 returns : tie.Need-returns
 returns c =
     moved-is (c .before .before .before .before .args .r) (c .before .before .before .before .args .given) (c .before .before .before .before .args .at) (c .before .reach-of .ensures) (c .no-rest .ensures)
 
 pub moved-step-spec : {M : Type 1} → statement M
-moved-step-spec = tie.close (tie.spec reach-of-requires no-rest-requires returns)
+moved-step-spec = tie.close (tie.spec (λ c κs. search needs) (λ c κs. search needs) returns)

@@ -7,18 +7,9 @@ use Rattle.filling.proofs.steps.reach_of.Tie as tie
 use Rattle.filling.proofs.steps.reach_of.Reads as reads
 use Rattle.filling.proofs.steps.reach_of.Lts as lts
 
-enum-told : tie.Need-enum-told
-enum-told c = search needs
-
-enum-known-how : tie.Need-enum-known-how
-enum-known-how c = search needs
-
-returns : tie.Need-returns
-returns c = search needs
-
 returns-2 : tie.Need-returns-2
 returns-2 c =
     sym (ap reachOf (c .before .how .given .1))
 
 pub reach-of-spec : {M : Type 1} → statement M
-reach-of-spec = tie.close (tie.spec enum-told enum-known-how returns returns-2)
+reach-of-spec = tie.close (tie.spec (λ c. search needs) (λ c. search needs) (λ c. search needs) returns-2)

@@ -19,9 +19,6 @@ unhold-requires : tie.Need-unhold-requires
 unhold-requires c κs =
     omega (arith, c .before .before .run-short .ensures .0 0 .does .falls, c .before .before .before .before .before .before .before .before .before .before .pre .1 .1 .1 .0)
 
-same-length : tie.Need-same-length
-same-length c = search needs
-
 returns : tie.Need-returns
 returns c =
     let a = c .before .before .before .before .before .before .before .before .before .before .before .args in
@@ -34,4 +31,4 @@ returns-2 c =
 
 pub run-ahead-spec : {M : Type 1} → statement M
 run-ahead-spec =
-    tie.close (tie.spec run-short-requires unhold-requires same-length returns returns-2)
+    tie.close (tie.spec run-short-requires unhold-requires (λ c. search needs) returns returns-2)

@@ -21,24 +21,15 @@ use Rattle.filling.proofs.steps.moved_step.Reads as moved-step-reads
 use Rattle.filling.proofs.steps.put_step.Reads as put-step-reads
 use Rattle.nesting.proofs.moves.open_block.Reads as open-block-reads
 
-opens-block-requires : tie.Need-opens-block-requires
-opens-block-requires c κs = search needs
-
 open-block-requires : tie.Need-open-block-requires
 open-block-requires c κs =
     let y = c .before .before .before .before .before .before .pre .1 .0 in
     (c .before .before .before .before .before .before .pre .0, (y .accepted, (y .sound, (c .before .before .before .before .before .before .pre .1 .1 .0, sym (c .before .opens-block .ensures) ∙ c .if1 .taken))))
 
-moved-step-requires : tie.Need-moved-step-requires
-moved-step-requires c κs = search needs
-
 returns : tie.Need-returns
 returns c =
     let a = c .before .before .before .before .before .before .before .before .args in
     advances-moved (a .text .now) (a .table .now) (comes (a .text .now) (a .table .now) (a .here) (a .nest)) (a .given) (a .here .left) (weight (a .here) (a .nest)) (a .at) (a .window .now) (c .moved-step .ensures) (c .before .open-block .ensures) (c .before .before .before .before .before .before .before .before .pre .1 .0 .room)
-
-enum-known-code : tie.Need-enum-known-code
-enum-known-code c = search needs
 
 give-form-requires : tie.Need-give-form-requires
 give-form-requires c κs =
@@ -47,32 +38,17 @@ give-form-requires c κs =
     let q = c .before .before .code .given .1 in
     (q, (subst CodeRight q (code-right (a .text .now) (a .here .place) (a .d) (c .before .before .before .before .before .before .before .before .before .before .pre .1 .1 .0)), ((hand-in (a .table .now) (a .here .hand) (a .here .next .0) (y .accepted) (y .sound .hand)), ((next-in (a .table .now) (a .here .hand) (a .here .next .0) (y .sound .hand)), y .room))))
 
-put-step-requires : tie.Need-put-step-requires
-put-step-requires c κs = search needs
-
-enum-told : tie.Need-enum-told
-enum-told c = search needs
-
 jump-requires : tie.Need-jump-requires
 jump-requires c κs =
     let a = c .before .before .before .before .before .before .before .before .args in
     let y = c .before .before .before .before .before .before .before .before .pre .1 .0 in
     (c .enum-told .given .1, ((hand-in (a .table .now) (a .here .hand) (a .here .next .0) (y .accepted) (y .sound .hand)), (next-in (a .table .now) (a .here .hand) (a .here .next .0) (y .sound .hand))))
 
-put-step-requires-2 : tie.Need-put-step-requires-2
-put-step-requires-2 c κs = search needs
-
 escape-requires : tie.Need-escape-requires
 escape-requires c κs =
     let a = c .before .before .before .before .before .before .before .args in
     let y = c .before .before .before .before .before .before .before .pre .1 .0 in
     (c .before .before .before .before .before .before .before .pre .0, (y .accepted, (y .sound, (c .before .before .before .before .before .before .before .pre .1 .1 .0, escape-code _ (a .d .code) refl (sym (c .before .before .opens-block .ensures) ∙ c .before .if1 .left) (c .before .before .before .before .before .before .before .pre .1 .1 .1) (c .match .keys3)))))
-
-moved-step-requires-2 : tie.Need-moved-step-requires-2
-moved-step-requires-2 c κs = search needs
-
-same-length : tie.Need-same-length
-same-length c = search needs
 
 returns-2 : tie.Need-returns-2
 returns-2 c =
@@ -97,19 +73,19 @@ pub step-directive-spec : {M : Type 1} → statement M
 step-directive-spec =
     tie.close
     (tie.spec
-    opens-block-requires
+    (λ c κs. search needs)
     open-block-requires
-    moved-step-requires
+    (λ c κs. search needs)
     returns
-    enum-known-code
+    (λ c. search needs)
     give-form-requires
-    put-step-requires
-    enum-told
+    (λ c κs. search needs)
+    (λ c. search needs)
     jump-requires
-    put-step-requires-2
+    (λ c κs. search needs)
     escape-requires
-    moved-step-requires-2
-    same-length
+    (λ c κs. search needs)
+    (λ c. search needs)
     returns-2
     returns-3
     returns-4)

@@ -24,27 +24,15 @@ use Rattle.filling.proofs.steps.put_step.Reads as put-step-reads
 use Rattle.filling.proofs.steps.step_directive.Reads as step-directive-reads
 use Rattle.nesting.proofs.moves.end_sequence.Reads as end-sequence-reads
 
-element-at-requires : tie.Need-element-at-requires
-element-at-requires c κs = search needs
-
-ends-here-requires : tie.Need-ends-here-requires
-ends-here-requires c κs = search needs
-
 end-sequence-requires : tie.Need-end-sequence-requires
 end-sequence-requires c κs =
     let y = c .before .before .before .before .before .before .before .pre .1 in
     (c .before .before .before .before .before .before .before .pre .0, (y .accepted, (y .sound, c .before .before .element-at .ensures .ends (sym (c .before .ends-here .ensures) ∙ c .if1 .taken))))
 
-moved-step-requires : tie.Need-moved-step-requires
-moved-step-requires c κs = search needs
-
 returns : tie.Need-returns
 returns c =
     let a = c .before .before .before .before .before .before .before .before .before .args in
     advances-moved (a .text .now) (a .table .now) (comes (a .text .now) (a .table .now) (a .here) (a .nest)) (a .given) (a .here .left) (weight (a .here) (a .nest)) (a .at) (a .window .now) (c .moved-step .ensures) (c .before .end-sequence .ensures) (c .before .before .before .before .before .before .before .before .before .pre .1 .room)
-
-enum-known-item : tie.Need-enum-known-item
-enum-known-item c = search needs
 
 give-byte-requires : tie.Need-give-byte-requires
 give-byte-requires c κs =
@@ -53,12 +41,6 @@ give-byte-requires c κs =
     let e = c .before .before .before .before .before .before .element-at .ensures .is (sym (c .before .before .before .before .before .ends-here .ensures) ∙ c .before .before .before .before .if1 .left) ∙ c .before .before .item .given .1 in
     (y .room, omega (arith, stands (a .text .now) (a .here .place) _ e, y .sound .short))
 
-put-step-requires : tie.Need-put-step-requires
-put-step-requires c κs = search needs
-
-enum-known-item-2 : tie.Need-enum-known-item-2
-enum-known-item-2 c = search needs
-
 step-directive-requires : tie.Need-step-directive-requires
 step-directive-requires c κs =
     let a = c .before .before .before .before .before .before .before .before .before .before .before .args in
@@ -66,24 +48,12 @@ step-directive-requires c κs =
     let q = c .before .before .item2 .given .1 in
     (c .before .before .before .before .before .before .before .before .before .before .before .pre .0, (c .before .before .before .before .before .before .before .before .before .before .before .pre .1, (c .before .before .before .before .before .before .element-at .ensures .is f ∙ q, subst (λ (x : Item). endsAt x ≡ false) q f)))
 
-over-requires : tie.Need-over-requires
-over-requires c κs = search needs
-
-put-step-requires-2 : tie.Need-put-step-requires-2
-put-step-requires-2 c κs = search needs
-
-same-length : tie.Need-same-length
-same-length c = search needs
-
 returns-2 : tie.Need-returns-2
 returns-2 c =
     let a = c .before .before .before .before .before .before .before .before .before .before .before .before .before .before .before .args in
     let y = c .before .before .before .before .before .before .before .before .before .before .before .before .before .before .before .pre .1 in
     let e = c .before .before .before .before .before .before .before .before .before .before .element-at .ensures .is (sym (c .before .before .before .before .before .before .before .before .before .ends-here .ensures) ∙ c .before .before .before .before .before .before .before .before .if1 .left) ∙ c .before .before .before .before .before .before .item .given .1 in
     puts-step (c .before .before .before .give-byte .ensures (a .text .now) (a .table .now)) (c .put-step .ensures) (y .sound) (literal-at (a .text .now) (a .here .place) _ e) (literal-ahead (a .text .now) (a .here .place) _ e .most)
-
-same-length-2 : tie.Need-same-length-2
-same-length-2 c = search needs
 
 returns-3 : tie.Need-returns-3
 returns-3 c =
@@ -97,20 +67,20 @@ pub step-item-spec : {M : Type 1} → statement M
 step-item-spec =
     tie.close
     (tie.spec
-    element-at-requires
-    ends-here-requires
+    (λ c κs. search needs)
+    (λ c κs. search needs)
     end-sequence-requires
-    moved-step-requires
+    (λ c κs. search needs)
     returns
-    enum-known-item
+    (λ c. search needs)
     give-byte-requires
-    put-step-requires
-    enum-known-item-2
+    (λ c κs. search needs)
+    (λ c. search needs)
     step-directive-requires
-    over-requires
-    put-step-requires-2
-    same-length
+    (λ c κs. search needs)
+    (λ c κs. search needs)
+    (λ c. search needs)
     returns-2
-    same-length-2
+    (λ c. search needs)
     returns-3
     returns-4)

@@ -7,12 +7,6 @@ use Rattle.filling.proofs.steps.unhold.Tie as tie
 use Rattle.filling.proofs.steps.unhold.Reads as reads
 use Rattle.filling.proofs.steps.unhold.Lts as lts
 
-enum-known-stop : tie.Need-enum-known-stop
-enum-known-stop c = search needs
-
-add-t9 : tie.Need-add-t9
-add-t9 c = search needs
-
 returns : tie.Need-returns
 returns c =
     unheld-full (c .before .before .before .before .before .before .args .r) (c .before .before .before .stop .given .1) (c .before .if1 .taken)
@@ -26,4 +20,4 @@ returns-3 c =
     unheld-same _ (c .before .before .args .r) refl (c .match .keys2)
 
 pub unhold-spec : {M : Type 1} → statement M
-unhold-spec = tie.close (tie.spec enum-known-stop add-t9 returns returns-2 returns-3)
+unhold-spec = tie.close (tie.spec (λ c. search needs) (λ c. search needs) returns returns-2 returns-3)

@@ -6,18 +6,9 @@ use Rattle.fitting.proofs.Tests.{bare-fits}
 use Rattle.fitting.proofs.places.fits_places.Statement.{statement}
 use Rattle.fitting.proofs.places.fits_places.Tie as tie
 
-is-bare-requires : tie.Need-is-bare-requires
-is-bare-requires c κs = search needs
-
 returns : tie.Need-returns
 returns c =
     rw (c .before .is-bare .ensures (c .if1 .taken)) (sym (bare-fits (placesIn (c .before .before .before .args .d))))
-
-row-in-requires : tie.Need-row-in-requires
-row-in-requires c κs = search needs
-
-fits-into-requires : tie.Need-fits-into-requires
-fits-into-requires c κs = search needs
 
 returns-2 : tie.Need-returns-2
 returns-2 c =
@@ -25,4 +16,4 @@ returns-2 c =
 
 pub fits-places-spec : {M : Type 1} → statement M
 fits-places-spec =
-    tie.close (tie.spec is-bare-requires returns row-in-requires fits-into-requires returns-2)
+    tie.close (tie.spec (λ c κs. search needs) returns (λ c κs. search needs) (λ c κs. search needs) returns-2)

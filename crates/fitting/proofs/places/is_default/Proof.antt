@@ -5,9 +5,6 @@ use Rattle.rules.proofs.Tests.{not-both-ways}
 use Rattle.fitting.proofs.places.is_default.Statement.{statement}
 use Rattle.fitting.proofs.places.is_default.Tie as tie
 
-enum-told : tie.Need-enum-told
-enum-told c = search needs
-
 returns : tie.Need-returns
 returns c = λ e. c .enum-told .given .1
 
@@ -15,4 +12,4 @@ returns-2 : tie.Need-returns-2
 returns-2 c = λ e. absurd (not-both-ways e refl)
 
 pub is-default-spec : {M : Type 1} → statement M
-is-default-spec = tie.close (tie.spec enum-told returns returns-2)
+is-default-spec = tie.close (tie.spec (λ c. search needs) returns returns-2)

@@ -5,12 +5,6 @@ use Rattle.rules.specs.Rows.{wellWritten}
 use Rattle.fitting.proofs.places.is_well_written.Statement.{statement}
 use Rattle.fitting.proofs.places.is_well_written.Tie as tie
 
-takes-modifiers-requires : tie.Need-takes-modifiers-requires
-takes-modifiers-requires c κs = search needs
-
-fits-places-requires : tie.Need-fits-places-requires
-fits-places-requires c κs = search needs
-
 returns : tie.Need-returns
 unfolding wellWritten
 returns c =
@@ -23,4 +17,4 @@ returns-2 c =
 
 pub is-well-written-spec : {M : Type 1} → statement M
 is-well-written-spec =
-    tie.close (tie.spec takes-modifiers-requires fits-places-requires returns returns-2)
+    tie.close (tie.spec (λ c κs. search needs) (λ c κs. search needs) returns returns-2)

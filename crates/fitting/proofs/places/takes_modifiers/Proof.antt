@@ -3,15 +3,9 @@ use borrow.Author.Needs.{needs}
 use Rattle.fitting.proofs.places.takes_modifiers.Statement.{statement}
 use Rattle.fitting.proofs.places.takes_modifiers.Tie as tie
 
-row-in-requires : tie.Need-row-in-requires
-row-in-requires c κs = search needs
-
-takes-requires : tie.Need-takes-requires
-takes-requires c κs = search needs
-
 returns : tie.Need-returns
 returns c =
     rw (c .takes .ensures, c .before .row-in .ensures)
 
 pub takes-modifiers-spec : {M : Type 1} → statement M
-takes-modifiers-spec = tie.close (tie.spec row-in-requires takes-requires returns)
+takes-modifiers-spec = tie.close (tie.spec (λ c κs. search needs) (λ c κs. search needs) returns)

@@ -3,18 +3,9 @@ use borrow.Author.Needs.{needs}
 use Rattle.fitting.proofs.rows.conditional_places.Statement.{statement}
 use Rattle.fitting.proofs.rows.conditional_places.Tie as tie
 
-no-places-requires : tie.Need-no-places-requires
-no-places-requires c κs = search needs
-
 returns : tie.Need-returns
 returns c =
     rw (c .no-places .ensures, c .before .if1 .taken)
-
-number-to-requires : tie.Need-number-to-requires
-number-to-requires c κs = search needs
-
-one-place-requires : tie.Need-one-place-requires
-one-place-requires c κs = search needs
 
 returns-2 : tie.Need-returns-2
 returns-2 c =
@@ -22,4 +13,4 @@ returns-2 c =
 
 pub conditional-places-spec : {M : Type 1} → statement M
 conditional-places-spec =
-    tie.close (tie.spec no-places-requires returns number-to-requires one-place-requires returns-2)
+    tie.close (tie.spec (λ c κs. search needs) returns (λ c κs. search needs) (λ c κs. search needs) returns-2)

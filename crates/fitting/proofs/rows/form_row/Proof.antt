@@ -3,57 +3,6 @@ use borrow.Author.Needs.{needs}
 use Rattle.fitting.proofs.rows.form_row.Statement.{statement}
 use Rattle.fitting.proofs.rows.form_row.Tie as tie
 
-number-to-requires : tie.Need-number-to-requires
-number-to-requires c κs = search needs
-
-number-to-requires-2 : tie.Need-number-to-requires-2
-number-to-requires-2 c κs = search needs
-
-enum-told : tie.Need-enum-told
-enum-told c = search needs
-
-four-places-requires : tie.Need-four-places-requires
-four-places-requires c κs = search needs
-
-enum-told-2 : tie.Need-enum-told-2
-enum-told-2 c = search needs
-
-four-places-requires-2 : tie.Need-four-places-requires-2
-four-places-requires-2 c κs = search needs
-
-enum-told-3 : tie.Need-enum-told-3
-enum-told-3 c = search needs
-
-number-to-requires-3 : tie.Need-number-to-requires-3
-number-to-requires-3 c κs = search needs
-
-one-place-requires : tie.Need-one-place-requires
-one-place-requires c κs = search needs
-
-enum-told-4 : tie.Need-enum-told-4
-enum-told-4 c = search needs
-
-no-places-requires : tie.Need-no-places-requires
-no-places-requires c κs = search needs
-
-enum-told-5 : tie.Need-enum-told-5
-enum-told-5 c = search needs
-
-one-place-requires-2 : tie.Need-one-place-requires-2
-one-place-requires-2 c κs = search needs
-
-no-argument-requires : tie.Need-no-argument-requires
-no-argument-requires c κs = search needs
-
-enum-told-6 : tie.Need-enum-told-6
-enum-told-6 c = search needs
-
-no-places-requires-2 : tie.Need-no-places-requires-2
-no-places-requires-2 c κs = search needs
-
-no-argument-requires-2 : tie.Need-no-argument-requires-2
-no-argument-requires-2 c κs = search needs
-
 returns : tie.Need-returns
 returns c =
     rw (c .four-places .ensures, c .before .before .before .number-to2 .ensures, c .before .before .before .before .number-to .ensures, c .before .enum-told .given .1)
@@ -82,23 +31,23 @@ pub form-row-spec : {M : Type 1} → statement M
 form-row-spec =
     tie.close
     (tie.spec
-    number-to-requires
-    number-to-requires-2
-    enum-told
-    four-places-requires
-    enum-told-2
-    four-places-requires-2
-    enum-told-3
-    number-to-requires-3
-    one-place-requires
-    enum-told-4
-    no-places-requires
-    enum-told-5
-    one-place-requires-2
-    no-argument-requires
-    enum-told-6
-    no-places-requires-2
-    no-argument-requires-2
+    (λ c κs. search needs)
+    (λ c κs. search needs)
+    (λ c. search needs)
+    (λ c κs. search needs)
+    (λ c. search needs)
+    (λ c κs. search needs)
+    (λ c. search needs)
+    (λ c κs. search needs)
+    (λ c κs. search needs)
+    (λ c. search needs)
+    (λ c κs. search needs)
+    (λ c. search needs)
+    (λ c κs. search needs)
+    (λ c κs. search needs)
+    (λ c. search needs)
+    (λ c κs. search needs)
+    (λ c κs. search needs)
     returns
     returns-2
     returns-3

@@ -3,21 +3,6 @@ use borrow.Author.Needs.{needs}
 use Rattle.fitting.proofs.rows.kind_taken.Statement.{statement}
 use Rattle.fitting.proofs.rows.kind_taken.Tie as tie
 
-enum-told : tie.Need-enum-told
-enum-told c = search needs
-
-enum-told-2 : tie.Need-enum-told-2
-enum-told-2 c = search needs
-
-enum-told-3 : tie.Need-enum-told-3
-enum-told-3 c = search needs
-
-enum-told-4 : tie.Need-enum-told-4
-enum-told-4 c = search needs
-
-returns : tie.Need-returns
-returns c = search needs
-
 returns-2 : tie.Need-returns-2
 returns-2 c =
     rw (c .enum-told2 .given .1)
@@ -33,4 +18,4 @@ returns-4 c =
 pub kind-taken-spec : {M : Type 1} → statement M
 kind-taken-spec =
     tie.close
-    (tie.spec enum-told enum-told-2 enum-told-3 enum-told-4 returns returns-2 returns-3 returns-4)
+    (tie.spec (λ c. search needs) (λ c. search needs) (λ c. search needs) (λ c. search needs) (λ c. search needs) returns-2 returns-3 returns-4)

@@ -3,27 +3,6 @@ use borrow.Author.Needs.{needs}
 use Rattle.fitting.proofs.rows.opener_row.Statement.{statement}
 use Rattle.fitting.proofs.rows.opener_row.Tie as tie
 
-enum-told : tie.Need-enum-told
-enum-told c = search needs
-
-conditional-places-requires : tie.Need-conditional-places-requires
-conditional-places-requires c κs = search needs
-
-no-argument-requires : tie.Need-no-argument-requires
-no-argument-requires c κs = search needs
-
-enum-told-2 : tie.Need-enum-told-2
-enum-told-2 c = search needs
-
-number-to-requires : tie.Need-number-to-requires
-number-to-requires c κs = search needs
-
-one-place-requires : tie.Need-one-place-requires
-one-place-requires c κs = search needs
-
-no-argument-requires-2 : tie.Need-no-argument-requires-2
-no-argument-requires-2 c κs = search needs
-
 returns : tie.Need-returns
 returns c =
     rw (c .no-argument .ensures, c .before .conditional-places .ensures, c .before .before .enum-told .given .1)
@@ -36,12 +15,12 @@ pub opener-row-spec : {M : Type 1} → statement M
 opener-row-spec =
     tie.close
     (tie.spec
-    enum-told
-    conditional-places-requires
-    no-argument-requires
-    enum-told-2
-    number-to-requires
-    one-place-requires
-    no-argument-requires-2
+    (λ c. search needs)
+    (λ c κs. search needs)
+    (λ c κs. search needs)
+    (λ c. search needs)
+    (λ c κs. search needs)
+    (λ c κs. search needs)
+    (λ c κs. search needs)
     returns
     returns-2)

@@ -3,15 +3,9 @@ use borrow.Author.Needs.{needs}
 use Rattle.fitting.proofs.rows.row_in.Statement.{statement}
 use Rattle.fitting.proofs.rows.row_in.Tie as tie
 
-either-requires : tie.Need-either-requires
-either-requires c κs = search needs
-
-row-of-requires : tie.Need-row-of-requires
-row-of-requires c κs = search needs
-
 returns : tie.Need-returns
 returns c =
     rw (c .row-of .ensures, c .before .either .ensures)
 
 pub row-in-spec : {M : Type 1} → statement M
-row-in-spec = tie.close (tie.spec either-requires row-of-requires returns)
+row-in-spec = tie.close (tie.spec (λ c κs. search needs) (λ c κs. search needs) returns)

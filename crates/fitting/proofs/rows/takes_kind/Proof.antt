@@ -3,15 +3,9 @@ use borrow.Author.Needs.{needs}
 use Rattle.fitting.proofs.rows.takes_kind.Statement.{statement}
 use Rattle.fitting.proofs.rows.takes_kind.Tie as tie
 
-form-row-requires : tie.Need-form-row-requires
-form-row-requires c κs = search needs
-
-kind-taken-requires : tie.Need-kind-taken-requires
-kind-taken-requires c κs = search needs
-
 returns : tie.Need-returns
 returns c =
     rw (c .kind-taken .ensures, c .before .form-row .ensures)
 
 pub takes-kind-spec : {M : Type 1} → statement M
-takes-kind-spec = tie.close (tie.spec form-row-requires kind-taken-requires returns)
+takes-kind-spec = tie.close (tie.spec (λ c κs. search needs) (λ c κs. search needs) returns)

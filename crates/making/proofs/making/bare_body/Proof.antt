@@ -11,38 +11,8 @@ use Rattle.making.proofs.Made.{makes-same}
 use Rattle.making.proofs.making.bare_body.Statement.{statement}
 use Rattle.making.proofs.making.bare_body.Tie as tie
 
-enum-known-argument : tie.Need-enum-known-argument
-enum-known-argument c = search needs
-
-flag-body-requires : tie.Need-flag-body-requires
-flag-body-requires c κs = search needs
-
-enum-known-argument-2 : tie.Need-enum-known-argument-2
-enum-known-argument-2 c = search needs
-
-figure-body-requires : tie.Need-figure-body-requires
-figure-body-requires c κs = search needs
-
-enum-known-argument-3 : tie.Need-enum-known-argument-3
-enum-known-argument-3 c = search needs
-
-written-body-requires : tie.Need-written-body-requires
-written-body-requires c κs = search needs
-
-run-body-requires : tie.Need-run-body-requires
-run-body-requires c κs = search needs
-
-enum-known-argument-4 : tie.Need-enum-known-argument-4
-enum-known-argument-4 c = search needs
-
 string-body-requires : tie.Need-string-body-requires
 string-body-requires c κs = rw (c .before .argument4 .given .1) at (c .before .before .before .before .pre)
-
-enum-told : tie.Need-enum-told
-enum-told c = search needs
-
-run-body-requires-2 : tie.Need-run-body-requires-2
-run-body-requires-2 c κs = search needs
 
 returns : tie.Need-returns
 returns c =
@@ -91,17 +61,17 @@ pub bare-body-spec : {M : Type 1} → statement M
 bare-body-spec =
     tie.close
     (tie.spec
-    enum-known-argument
-    flag-body-requires
-    enum-known-argument-2
-    figure-body-requires
-    enum-known-argument-3
-    written-body-requires
-    run-body-requires
-    enum-known-argument-4
+    (λ c. search needs)
+    (λ c κs. search needs)
+    (λ c. search needs)
+    (λ c κs. search needs)
+    (λ c. search needs)
+    (λ c κs. search needs)
+    (λ c κs. search needs)
+    (λ c. search needs)
     string-body-requires
-    enum-told
-    run-body-requires-2
+    (λ c. search needs)
+    (λ c κs. search needs)
     returns
     returns-2
     returns-3

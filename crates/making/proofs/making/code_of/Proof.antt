@@ -3,21 +3,6 @@ use borrow.Author.Needs.{needs}
 use Rattle.making.proofs.making.code_of.Statement.{statement}
 use Rattle.making.proofs.making.code_of.Tie as tie
 
-enum-told : tie.Need-enum-told
-enum-told c = search needs
-
-enum-told-2 : tie.Need-enum-told-2
-enum-told-2 c = search needs
-
-enum-known-argument : tie.Need-enum-known-argument
-enum-known-argument c = search needs
-
-enum-told-3 : tie.Need-enum-told-3
-enum-told-3 c = search needs
-
-enum-told-4 : tie.Need-enum-told-4
-enum-told-4 c = search needs
-
 returns : tie.Need-returns
 returns c = λ t. rw (c .enum-told .given .1)
 
@@ -37,11 +22,11 @@ pub code-of-spec : {M : Type 1} → statement M
 code-of-spec =
     tie.close
     (tie.spec
-    enum-told
-    enum-told-2
-    enum-known-argument
-    enum-told-3
-    enum-told-4
+    (λ c. search needs)
+    (λ c. search needs)
+    (λ c. search needs)
+    (λ c. search needs)
+    (λ c. search needs)
     returns
     returns-2
     returns-3

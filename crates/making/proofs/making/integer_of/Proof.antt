@@ -5,21 +5,6 @@ use mir.ValLaws.{toZ-ofZ}
 use Rattle.making.proofs.making.integer_of.Statement.{statement}
 use Rattle.making.proofs.making.integer_of.Tie as tie
 
-enum-told : tie.Need-enum-told
-enum-told c = search needs
-
-enum-known-argument : tie.Need-enum-known-argument
-enum-known-argument c = search needs
-
-enum-told-2 : tie.Need-enum-told-2
-enum-told-2 c = search needs
-
-enum-told-3 : tie.Need-enum-told-3
-enum-told-3 c = search needs
-
-enum-told-4 : tie.Need-enum-told-4
-enum-told-4 c = search needs
-
 returns : tie.Need-returns
 returns c = λ t. rw (c .enum-told .given .1)
 
@@ -39,11 +24,11 @@ pub integer-of-spec : {M : Type 1} → statement M
 integer-of-spec =
     tie.close
     (tie.spec
-    enum-told
-    enum-known-argument
-    enum-told-2
-    enum-told-3
-    enum-told-4
+    (λ c. search needs)
+    (λ c. search needs)
+    (λ c. search needs)
+    (λ c. search needs)
+    (λ c. search needs)
     returns
     returns-2
     returns-3

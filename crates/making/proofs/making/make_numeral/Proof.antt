@@ -10,18 +10,6 @@ use Rattle.making.proofs.Made.{makes-same, gives-same, makes-size}
 use Rattle.making.proofs.making.make_numeral.Statement.{statement}
 use Rattle.making.proofs.making.make_numeral.Tie as tie
 
-numeral-body-requires : tie.Need-numeral-body-requires
-numeral-body-requires c κs = search needs
-
-number-or-requires : tie.Need-number-or-requires
-number-or-requires c κs = search needs
-
-byte-or-requires : tie.Need-byte-or-requires
-byte-or-requires c κs = search needs
-
-less-requires : tie.Need-less-requires
-less-requires c κs = search needs
-
 padded-piece-requires : tie.Need-padded-piece-requires
 padded-piece-requires c κs =
     let start = c .before .before .before .before in
@@ -46,9 +34,9 @@ pub make-numeral-spec : {M : Type 1} → statement M
 make-numeral-spec =
     tie.close
     (tie.spec
-    numeral-body-requires
-    number-or-requires
-    byte-or-requires
-    less-requires
+    (λ c κs. search needs)
+    (λ c κs. search needs)
+    (λ c κs. search needs)
+    (λ c κs. search needs)
     padded-piece-requires
     returns)

@@ -14,71 +14,20 @@ use Rattle.pieces.proofs.Parts.{fill-same}
 use Rattle.making.proofs.making.make_piece.Statement.{statement}
 use Rattle.making.proofs.making.make_piece.Tie as tie
 
-enum-known-form : tie.Need-enum-known-form
-enum-known-form c = search needs
-
 make-object-requires : tie.Need-make-object-requires
 make-object-requires c κs =
     let start = c .before .before .before .before in
     (rw (c .before .form .given .1) at (start .pre .0), (start .pre .1))
 
-enum-known-form-2 : tie.Need-enum-known-form-2
-enum-known-form-2 c = search needs
-
-integer-of-requires : tie.Need-integer-of-requires
-integer-of-requires c κs = search needs
-
 make-numeral-requires : tie.Need-make-numeral-requires
 make-numeral-requires c κs =
     rw (c .before .before .form2 .given .1) at (c .before .before .before .before .before .pre .0)
-
-enum-told : tie.Need-enum-told
-enum-told c = search needs
-
-code-of-requires : tie.Need-code-of-requires
-code-of-requires c κs = search needs
-
-glyph-body-requires : tie.Need-glyph-body-requires
-glyph-body-requires c κs = search needs
-
-padded-piece-requires : tie.Need-padded-piece-requires
-padded-piece-requires c κs = search needs
-
-enum-told-2 : tie.Need-enum-told-2
-enum-told-2 c = search needs
-
-is-one-requires : tie.Need-is-one-requires
-is-one-requires c κs = search needs
-
-plural-body-requires : tie.Need-plural-body-requires
-plural-body-requires c κs = search needs
-
-padded-piece-requires-2 : tie.Need-padded-piece-requires-2
-padded-piece-requires-2 c κs = search needs
-
-enum-known-form-3 : tie.Need-enum-known-form-3
-enum-known-form-3 c = search needs
-
-number-or-requires : tie.Need-number-or-requires
-number-or-requires c κs = search needs
 
 run-body-requires : tie.Need-run-body-requires
 run-body-requires c κs =
     let start = c .before .before .before .before .before in
     let first = (rw (c .before .before .form3 .given .1) at (start .pre .0)) .places .first in
     omega (arith, (c .number-or .ensures), in-range (start .args .settings .first) 1 first (omega arith) (omega arith))
-
-padded-piece-requires-3 : tie.Need-padded-piece-requires-3
-padded-piece-requires-3 c κs = search needs
-
-enum-told-3 : tie.Need-enum-told-3
-enum-told-3 c = search needs
-
-fold-body-requires : tie.Need-fold-body-requires
-fold-body-requires c κs = search needs
-
-padded-piece-requires-4 : tie.Need-padded-piece-requires-4
-padded-piece-requires-4 c κs = search needs
 
 returns : tie.Need-returns
 unfolding textOf
@@ -142,26 +91,26 @@ pub make-piece-spec : {M : Type 1} → statement M
 make-piece-spec =
     tie.close
     (tie.spec
-    enum-known-form
+    (λ c. search needs)
     make-object-requires
-    enum-known-form-2
-    integer-of-requires
+    (λ c. search needs)
+    (λ c κs. search needs)
     make-numeral-requires
-    enum-told
-    code-of-requires
-    glyph-body-requires
-    padded-piece-requires
-    enum-told-2
-    is-one-requires
-    plural-body-requires
-    padded-piece-requires-2
-    enum-known-form-3
-    number-or-requires
+    (λ c. search needs)
+    (λ c κs. search needs)
+    (λ c κs. search needs)
+    (λ c κs. search needs)
+    (λ c. search needs)
+    (λ c κs. search needs)
+    (λ c κs. search needs)
+    (λ c κs. search needs)
+    (λ c. search needs)
+    (λ c κs. search needs)
     run-body-requires
-    padded-piece-requires-3
-    enum-told-3
-    fold-body-requires
-    padded-piece-requires-4
+    (λ c κs. search needs)
+    (λ c. search needs)
+    (λ c κs. search needs)
+    (λ c κs. search needs)
     returns
     returns-2
     returns-3

@@ -10,12 +10,6 @@ use Rattle.making.proofs.Made.{makes-same}
 use Rattle.making.proofs.making.numeral_body.Statement.{statement}
 use Rattle.making.proofs.making.numeral_body.Tie as tie
 
-byte-or-requires : tie.Need-byte-or-requires
-byte-or-requires c κs = search needs
-
-number-or-requires : tie.Need-number-or-requires
-number-or-requires c κs = search needs
-
 figure-body-requires : tie.Need-figure-body-requires
 figure-body-requires c κs =
     let start = c .before .before .before in (
@@ -42,9 +36,6 @@ returns c =
     (omega (arith, (c .before .number-or .ensures), fourth)))
     ((c .figure-body .ensures) t)
 
-figure-body-requires-2 : tie.Need-figure-body-requires-2
-figure-body-requires-2 c κs = search needs
-
 returns-2 : tie.Need-returns-2
 returns-2 c =
     let start = c .before .before in
@@ -58,9 +49,9 @@ pub numeral-body-spec : {M : Type 1} → statement M
 numeral-body-spec =
     tie.close
     (tie.spec
-    byte-or-requires
-    number-or-requires
+    (λ c κs. search needs)
+    (λ c κs. search needs)
     figure-body-requires
     returns
-    figure-body-requires-2
+    (λ c κs. search needs)
     returns-2)

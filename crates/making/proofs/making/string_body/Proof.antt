@@ -20,9 +20,6 @@ returns c =
     (made-quoted _ _ _ _ _ (start .pre) (c .before .string-part .ensures)
     (c .quoted-size .ensures .0) (c .quoted-size .ensures .1))
 
-sub-t10 : tie.Need-sub-t10
-sub-t10 c = search needs
-
 returns-2 : tie.Need-returns-2
 returns-2 c =
     let start = c .before .before in
@@ -35,5 +32,5 @@ string-body-spec =
     string-part-requires
     quoted-size-requires
     returns
-    sub-t10
+    (λ c. search needs)
     returns-2)

@@ -12,12 +12,6 @@ use Rattle.making.proofs.Made.{made-figures, makes-same}
 use Rattle.making.proofs.numerals.figure_body.Statement.{statement}
 use Rattle.making.proofs.numerals.figure_body.Tie as tie
 
-magnitude-requires : tie.Need-magnitude-requires
-magnitude-requires c κs = search needs
-
-sign-byte-requires : tie.Need-sign-byte-requires
-sign-byte-requires c κs = search needs
-
 figure-size-requires : tie.Need-figure-size-requires
 figure-size-requires c κs =
     let start = c .before .before in
@@ -46,4 +40,4 @@ returns c =
 
 pub figure-body-spec : {M : Type 1} → statement M
 figure-body-spec =
-    tie.close (tie.spec magnitude-requires sign-byte-requires figure-size-requires returns)
+    tie.close (tie.spec (λ c κs. search needs) (λ c κs. search needs) figure-size-requires returns)

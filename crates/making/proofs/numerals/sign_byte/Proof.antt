@@ -11,9 +11,6 @@ use Rattle.pieces.specs.Bytes.{signed}
 use Rattle.making.proofs.numerals.sign_byte.Statement.{statement}
 use Rattle.making.proofs.numerals.sign_byte.Tie as tie
 
-is-negative-requires : tie.Need-is-negative-requires
-is-negative-requires c κs = search needs
-
 returns : tie.Need-returns
 unfolding signed
 returns c =
@@ -21,9 +18,6 @@ returns c =
     sym (sign-negative (start .args .plus) (start .args .x)
     (ap isNegative (sym (toZ-ofZ w64 (start .args .x) (start .fits .x))) ∙ sym (c .before .is-negative .ensures)
     ∙ (c .if1 .taken)))
-
-magnitude-requires : tie.Need-magnitude-requires
-magnitude-requires c κs = search needs
 
 returns-2 : tie.Need-returns-2
 unfolding signed
@@ -64,4 +58,4 @@ returns-4 c =
 pub sign-byte-spec : {M : Type 1} → statement M
 sign-byte-spec =
     tie.close
-    (tie.spec is-negative-requires returns magnitude-requires returns-2 returns-3 returns-4)
+    (tie.spec (λ c κs. search needs) returns (λ c κs. search needs) returns-2 returns-3 returns-4)

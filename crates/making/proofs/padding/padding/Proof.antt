@@ -9,9 +9,6 @@ use Rattle.rules.specs.Piece.{timesPadded}
 use Rattle.making.proofs.padding.padding.Statement.{statement}
 use Rattle.making.proofs.padding.padding.Tie as tie
 
-add-least : tie.Need-add-least
-add-least c = search needs
-
 returns : tie.Need-returns
 returns c =
     let start = c .before in (
@@ -19,18 +16,6 @@ returns c =
           (start .pre .1 .0 .0) (c .if1 .taken)),
       omega arith,
     )
-
-sub-shortfall : tie.Need-sub-shortfall
-sub-shortfall c = search needs
-
-sub-times : tie.Need-sub-times
-sub-times c = search needs
-
-add-times : tie.Need-add-times
-add-times c = search needs
-
-div-times : tie.Need-div-times
-div-times c = search needs
 
 mul-result : tie.Need-mul-result
 unfolding timesPadded
@@ -68,12 +53,12 @@ pub padding-spec : {M : Type 1} → statement M
 padding-spec =
     tie.close
     (tie.spec
-    add-least
+    (λ c. search needs)
     returns
-    sub-shortfall
-    sub-times
-    add-times
-    div-times
+    (λ c. search needs)
+    (λ c. search needs)
+    (λ c. search needs)
+    (λ c. search needs)
     mul-result
     add-result
     returns-2)

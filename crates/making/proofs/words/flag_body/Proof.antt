@@ -3,17 +3,11 @@ use borrow.Author.Needs.{needs}
 use Rattle.making.proofs.words.flag_body.Statement.{statement}
 use Rattle.making.proofs.words.flag_body.Tie as tie
 
-word-body-requires : tie.Need-word-body-requires
-word-body-requires c κs = search needs
-
 returns : tie.Need-returns
 returns c = λ t. rw (c .before .if1 .taken) ((c .word-body .ensures) t)
-
-word-body-requires-2 : tie.Need-word-body-requires-2
-word-body-requires-2 c κs = search needs
 
 returns-2 : tie.Need-returns-2
 returns-2 c = λ t. rw (c .before .if1 .left) ((c .word-body2 .ensures) t)
 
 pub flag-body-spec : {M : Type 1} → statement M
-flag-body-spec = tie.close (tie.spec word-body-requires returns word-body-requires-2 returns-2)
+flag-body-spec = tie.close (tie.spec (λ c κs. search needs) returns (λ c κs. search needs) returns-2)

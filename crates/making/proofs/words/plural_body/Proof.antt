@@ -3,26 +3,14 @@ use borrow.Author.Needs.{needs}
 use Rattle.making.proofs.words.plural_body.Statement.{statement}
 use Rattle.making.proofs.words.plural_body.Tie as tie
 
-run-body-requires : tie.Need-run-body-requires
-run-body-requires c κs = search needs
-
 returns : tie.Need-returns
 returns c = λ t. rw ((c .before .before .if1 .taken), (c .before .if2 .taken)) ((c .run-body .ensures) t)
-
-run-body-requires-2 : tie.Need-run-body-requires-2
-run-body-requires-2 c κs = search needs
 
 returns-2 : tie.Need-returns-2
 returns-2 c = λ t. rw ((c .before .before .if1 .taken), (c .before .if2 .left)) ((c .run-body2 .ensures) t)
 
-word-body-requires : tie.Need-word-body-requires
-word-body-requires c κs = search needs
-
 returns-3 : tie.Need-returns-3
 returns-3 c = λ t. rw ((c .before .before .if1 .left), (c .before .if3 .taken)) ((c .word-body .ensures) t)
-
-run-body-requires-3 : tie.Need-run-body-requires-3
-run-body-requires-3 c κs = search needs
 
 returns-4 : tie.Need-returns-4
 returns-4 c = λ t. rw ((c .before .before .if1 .left), (c .before .if3 .left)) ((c .run-body3 .ensures) t)
@@ -31,11 +19,11 @@ pub plural-body-spec : {M : Type 1} → statement M
 plural-body-spec =
     tie.close
     (tie.spec
-    run-body-requires
+    (λ c κs. search needs)
     returns
-    run-body-requires-2
+    (λ c κs. search needs)
     returns-2
-    word-body-requires
+    (λ c κs. search needs)
     returns-3
-    run-body-requires-3
+    (λ c κs. search needs)
     returns-4)

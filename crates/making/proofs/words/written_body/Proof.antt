@@ -7,36 +7,6 @@ use Rattle.making.proofs.Made.{makes-same}
 use Rattle.making.proofs.words.written_body.Statement.{statement}
 use Rattle.making.proofs.words.written_body.Tie as tie
 
-word-body-requires : tie.Need-word-body-requires
-word-body-requires c κs = search needs
-
-word-body-requires-2 : tie.Need-word-body-requires-2
-word-body-requires-2 c κs = search needs
-
-word-body-requires-3 : tie.Need-word-body-requires-3
-word-body-requires-3 c κs = search needs
-
-word-body-requires-4 : tie.Need-word-body-requires-4
-word-body-requires-4 c κs = search needs
-
-word-body-requires-5 : tie.Need-word-body-requires-5
-word-body-requires-5 c κs = search needs
-
-word-body-requires-6 : tie.Need-word-body-requires-6
-word-body-requires-6 c κs = search needs
-
-word-body-requires-7 : tie.Need-word-body-requires-7
-word-body-requires-7 c κs = search needs
-
-word-body-requires-8 : tie.Need-word-body-requires-8
-word-body-requires-8 c κs = search needs
-
-word-body-requires-9 : tie.Need-word-body-requires-9
-word-body-requires-9 c κs = search needs
-
-unnamed-body-requires : tie.Need-unnamed-body-requires
-unnamed-body-requires c κs = search needs
-
 returns : tie.Need-returns
 unfolding nameOf
 returns c = λ t. makes-same (named (c .before .match .keys1)) ((c .word-body .ensures) t)
@@ -84,16 +54,16 @@ pub written-body-spec : {M : Type 1} → statement M
 written-body-spec =
     tie.close
     (tie.spec
-    word-body-requires
-    word-body-requires-2
-    word-body-requires-3
-    word-body-requires-4
-    word-body-requires-5
-    word-body-requires-6
-    word-body-requires-7
-    word-body-requires-8
-    word-body-requires-9
-    unnamed-body-requires
+    (λ c κs. search needs)
+    (λ c κs. search needs)
+    (λ c κs. search needs)
+    (λ c κs. search needs)
+    (λ c κs. search needs)
+    (λ c κs. search needs)
+    (λ c κs. search needs)
+    (λ c κs. search needs)
+    (λ c κs. search needs)
+    (λ c κs. search needs)
     returns
     returns-2
     returns-3

@@ -12,11 +12,8 @@ use Rattle.nesting.proofs.moves.stand.Reads as stand-reads
 block-end-requires : tie.Need-block-end-requires
 block-end-requires c κs = (c .before .before .pre .0, inside-start (c .before .before .args .text .now) (c .before .before .args .inside) (c .before .before .pre .1))
 
-stand-requires : tie.Need-stand-requires
-stand-requires c κs = search needs
-
 returns : tie.Need-returns
 returns c = closes-is (c .stand .result) (c .stand .ensures) (c .before .block-end .ensures)
 
 pub close-spec : {M : Type 1} → statement M
-close-spec = tie.close (tie.spec block-end-requires stand-requires returns)
+close-spec = tie.close (tie.spec block-end-requires (λ c κs. search needs) returns)

@@ -13,29 +13,14 @@ use Rattle.nesting.proofs.moves.over.Reads as over-reads
 use Rattle.nesting.proofs.moves.stand.Reads as stand-reads
 use Rattle.nesting.proofs.nests.pushed.Reads as pushed-reads
 
-is-over-requires : tie.Need-is-over-requires
-is-over-requires c κs = search needs
-
 close-iteration-requires : tie.Need-close-iteration-requires
 close-iteration-requires c κs = (c .before .before .before .before .before .before .before .pre .0, c .before .before .before .before .before .before .before .pre .1)
 
 returns : tie.Need-returns
 returns c = let a = c .before .before .before .before .before .before .before .before .args in pass-over (a .text .now) (a .table .now) (a .here) (a .block) (a .outside) (c .before .before .before .before .before .before .before .before .pre .1) (sym (c .before .before .is-over .ensures) ∙ c .before .if1 .taken) (c .close-iteration .ensures)
 
-over-requires : tie.Need-over-requires
-over-requires c κs = search needs
-
 returns-2 : tie.Need-returns-2
 returns-2 c = let a = c .before .before .before .before .before .before .before .before .before .before .args in pass-none (a .text .now) (a .table .now) (a .here) (a .block) (a .outside) (c .before .before .before .before .before .before .before .before .before .before .pre .1) (sym (c .before .before .before .before .is-over .ensures) ∙ c .before .before .before .if1 .left) (c .before .if2 .taken) (c .over .ensures)
-
-one-less-requires : tie.Need-one-less-requires
-one-less-requires c κs = search needs
-
-sub-stand : tie.Need-sub-stand
-sub-stand c = search needs
-
-stand-requires : tie.Need-stand-requires
-stand-requires c κs = search needs
 
 pushed-requires : tie.Need-pushed-requires
 pushed-requires c κs = let a = c .before .before .before .before .before .before .before .before .before .before .before .before .before .before .args in (c .before .before .before .before .before .before .before .before .before .before .before .before .before .before .pre .1 .level, again-fits (a .text .now) (a .table .now) (a .here) (a .block) (a .outside) (c .before .before .before .before .before .before .before .before .before .before .before .before .before .before .pre .1) (sym (c .before .before .before .before .before .before .before .before .is-over .ensures) ∙ c .before .before .before .before .before .before .before .if1 .left) (c .before .before .one-less .result) (c .before .before .one-less .ensures))
@@ -47,13 +32,13 @@ pub end-pass-spec : {M : Type 1} → statement M
 end-pass-spec =
     tie.close
     (tie.spec
-    is-over-requires
+    (λ c κs. search needs)
     close-iteration-requires
     returns
-    over-requires
+    (λ c κs. search needs)
     returns-2
-    one-less-requires
-    sub-stand
-    stand-requires
+    (λ c κs. search needs)
+    (λ c. search needs)
+    (λ c κs. search needs)
     pushed-requires
     returns-3)

@@ -12,14 +12,8 @@ use Rattle.nesting.proofs.moves.over.Reads as over-reads
 use Rattle.nesting.proofs.nests.block_at.Reads as block-at-reads
 use Rattle.nesting.proofs.nests.popped.Reads as popped-reads
 
-over-requires : tie.Need-over-requires
-over-requires c κs = search needs
-
 returns : tie.Need-returns
 returns c = let a = c .before .before .before .before .before .before .args in ends-run (a .text .now) (a .table .now) (a .here) (a .nest) (c .before .before .before .before .before .before .pre .1 .1 .1) (c .before .if1 .taken) (c .over .ensures)
-
-sub-block-at : tie.Need-sub-block-at
-sub-block-at c = search needs
 
 block-at-requires : tie.Need-block-at-requires
 block-at-requires c κs = let a = c .before .before .before .before .before .before .args in omega (arith, c .before .if1 .left, c .before .before .before .before .before .before .pre .1 .1 .0 .depth)
@@ -43,9 +37,9 @@ pub end-sequence-spec : {M : Type 1} → statement M
 end-sequence-spec =
     tie.close
     (tie.spec
-    over-requires
+    (λ c κs. search needs)
     returns
-    sub-block-at
+    (λ c. search needs)
     block-at-requires
     popped-requires
     close-requires

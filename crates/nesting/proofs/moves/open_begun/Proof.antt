@@ -18,29 +18,11 @@ use Rattle.nesting.proofs.moves.open_iteration.Reads as open-iteration-
 use Rattle.nesting.proofs.moves.over.Reads as over-reads
 use Rattle.working.proofs.settle_directive.Reads as settle-directive-reads
 
-is-well-written-requires : tie.Need-is-well-written-requires
-is-well-written-requires c κs = search needs
-
-over-requires : tie.Need-over-requires
-over-requires c κs = search needs
-
 returns : tie.Need-returns
 returns c = let a = c .before .before .before .before .before .before .before .before .args in open-ill (a .text .now) (a .table .now) (a .here) (a .nest) (a .d) (c .before .before .before .before .before .before .before .before .pre .1) (sym (c .before .before .is-well-written .ensures) ∙ not-true _ (c .before .if1 .taken)) (c .over .ensures)
 
 settle-directive-requires : tie.Need-settle-directive-requires
 settle-directive-requires c κs = let a = c .before .before .before .before .before .before .before .args in (all-supplied (ready-hand (a .text .now) (a .table .now) (a .here) (a .nest) (a .d) (c .before .before .before .before .before .before .before .pre .1)), ready-next (a .text .now) (a .table .now) (a .here) (a .nest) (a .d) (c .before .before .before .before .before .before .before .pre .1))
-
-enum-known-settled : tie.Need-enum-known-settled
-enum-known-settled c = search needs
-
-over-requires-2 : tie.Need-over-requires-2
-over-requires-2 c κs = search needs
-
-enum-known-settled-2 : tie.Need-enum-known-settled-2
-enum-known-settled-2 c = search needs
-
-is-iteration-requires : tie.Need-is-iteration-requires
-is-iteration-requires c κs = search needs
 
 open-iteration-requires : tie.Need-open-iteration-requires
 open-iteration-requires c κs = let a = c .before .before .before .before .before .before .before .before .before .before .before .before .before .args in let g = (subst (SettlesDirective (a .table .now) (a .here .hand) (a .d) (a .here .next .0)) (c .before .before .before .settled2 .given .1) (c .before .before .before .before .before .settle-directive .ensures)) in (c .before .before .before .before .before .before .before .before .before .before .before .before .before .pre .1, (g .in-places .reaches, passes-fit (a .d) _ (sym (c .before .is-iteration .ensures) ∙ c .if2 .taken) (g .in-places .lies (written-suits (a .d) (sym (c .before .before .before .before .before .before .before .is-well-written .ensures) ∙ not-false _ (c .before .before .before .before .before .before .if1 .left))))))
@@ -61,14 +43,14 @@ pub open-begun-spec : {M : Type 1} → statement M
 open-begun-spec =
     tie.close
     (tie.spec
-    is-well-written-requires
-    over-requires
+    (λ c κs. search needs)
+    (λ c κs. search needs)
     returns
     settle-directive-requires
-    enum-known-settled
-    over-requires-2
-    enum-known-settled-2
-    is-iteration-requires
+    (λ c. search needs)
+    (λ c κs. search needs)
+    (λ c. search needs)
+    (λ c κs. search needs)
     open-iteration-requires
     returns-2
     open-conditional-requires

@@ -10,23 +10,11 @@ use Rattle.nesting.proofs.moves.open_begun.Reads as open-begun-reads
 use Rattle.nesting.proofs.moves.over.Reads as over-reads
 use Rattle.nesting.proofs.moves.stand.Reads as stand-reads
 
-over-requires : tie.Need-over-requires
-over-requires c κs = search needs
-
 returns : tie.Need-returns
 returns c = let a = c .before .before .before .before .before .before .args in met-deep (a .text .now) (a .table .now) (a .here) (a .nest) (a .d) (c .before .before .before .before .before .before .pre .1 .1 .1 .0) (c .before .before .before .before .before .before .pre .1 .1 .1 .1) (c .before .if1 .taken) (c .over .ensures)
 
-over-requires-2 : tie.Need-over-requires-2
-over-requires-2 c κs = search needs
-
 returns-2 : tie.Need-returns-2
 returns-2 c = let a = c .before .before .before .before .before .before .before .before .args in met-none (a .text .now) (a .table .now) (a .here) (a .nest) (a .d) (c .before .before .before .before .before .before .before .before .pre .1 .1 .1 .0) (c .before .before .before .before .before .before .before .before .pre .1 .1 .1 .1) (omega (arith, c .before .before .before .if1 .left)) (c .before .if2 .taken) (c .over2 .ensures)
-
-sub-stand : tie.Need-sub-stand
-sub-stand c = search needs
-
-stand-requires : tie.Need-stand-requires
-stand-requires c κs = search needs
 
 open-begun-requires : tie.Need-open-begun-requires
 open-begun-requires c κs = let a = c .before .before .before .before .before .before .before .before .before .before .before .args in (c .before .before .before .before .before .before .before .before .before .before .before .pre .0, met-ready (a .text .now) (a .table .now) (a .here) (a .nest) (a .d) (c .before .before .before .before .before .before .before .before .before .before .before .pre .1 .1 .1 .0) (c .before .before .before .before .before .before .before .before .before .before .before .pre .1 .1 .1 .1) (omega (arith, c .before .before .before .before .before .before .if1 .left)) (c .before .before .before .before .if2 .left) (c .stand .ensures) (c .before .before .before .before .before .before .before .before .before .before .before .pre .1 .0) (c .before .before .before .before .before .before .before .before .before .before .before .pre .1 .1 .0))
@@ -38,11 +26,11 @@ pub open-block-spec : {M : Type 1} → statement M
 open-block-spec =
     tie.close
     (tie.spec
-    over-requires
+    (λ c κs. search needs)
     returns
-    over-requires-2
+    (λ c κs. search needs)
     returns-2
-    sub-stand
-    stand-requires
+    (λ c. search needs)
+    (λ c κs. search needs)
     open-begun-requires
     returns-3)

@@ -16,29 +16,11 @@ use Rattle.nesting.proofs.nests.pushed.Reads as pushed-reads
 choose-clause-requires : tie.Need-choose-clause-requires
 choose-clause-requires c κs = let a = c .before .before .before .before .args in (c .before .before .before .before .pre .0, (ready-hand (a .text .now) (a .table .now) (a .here) (a .nest) (a .d) (c .before .before .before .before .pre .1 .0), (c .before .before .before .before .pre .1 .1, c .before .before .before .before .pre .1 .0 .inside)))
 
-enum-known-chosen : tie.Need-enum-known-chosen
-enum-known-chosen c = search needs
-
-stand-requires : tie.Need-stand-requires
-stand-requires c κs = search needs
-
 pushed-requires : tie.Need-pushed-requires
 pushed-requires c κs = let a = c .before .before .before .before .before .before .before .before .before .args in (c .before .before .before .before .before .before .before .before .before .pre .1 .0 .level, clause-fits (a .text .now) (a .table .now) (a .here) (a .nest) (a .d) (c .before .before .before .before .before .before .before .before .before .pre .1 .0) (a .settings) (a .i) (c .before .before .before .before .before .before .before .before .before .pre .1 .1) (subst (Chooses (a .text .now) (a .table .now) (a .here .hand) (a .d) (a .settings) (a .i .0)) (c .before .before .chosen .given .1) (c .before .before .before .before .choose-clause .ensures)))
 
-enum-known-chosen-2 : tie.Need-enum-known-chosen-2
-enum-known-chosen-2 c = search needs
-
 block-end-requires : tie.Need-block-end-requires
 block-end-requires c κs = let a = c .before .before .before .before .before .before .before .before .args in (c .before .before .before .before .before .before .before .before .pre .0, ((subst (Chooses (a .text .now) (a .table .now) (a .here .hand) (a .d) (a .settings) (a .i .0)) (c .before .chosen2 .given .1) (c .before .before .before .choose-clause .ensures))) .inside .0)
-
-stand-requires-2 : tie.Need-stand-requires-2
-stand-requires-2 c κs = search needs
-
-enum-known-chosen-3 : tie.Need-enum-known-chosen-3
-enum-known-chosen-3 c = search needs
-
-over-requires : tie.Need-over-requires
-over-requires c κs = search needs
 
 returns : tie.Need-returns
 returns c = let a = c .before .before .before .before .before .before .before .before .before .before .args in λ j. conditional-on (a .text .now) (a .table .now) (a .here) (a .nest) (a .d) (c .before .before .before .before .before .before .before .before .before .before .pre .1 .0) (a .settings) (a .i) (c .before .before .before .before .before .before .before .before .before .before .pre .1 .1) (subst (Chooses (a .text .now) (a .table .now) (a .here .hand) (a .d) (a .settings) (a .i .0)) (c .before .before .before .chosen .given .1) (c .before .before .before .before .before .choose-clause .ensures)) j (c .before .stand .ensures) (c .pushed .ensures) refl
@@ -54,14 +36,14 @@ open-conditional-spec =
     tie.close
     (tie.spec
     choose-clause-requires
-    enum-known-chosen
-    stand-requires
+    (λ c. search needs)
+    (λ c κs. search needs)
     pushed-requires
-    enum-known-chosen-2
+    (λ c. search needs)
     block-end-requires
-    stand-requires-2
-    enum-known-chosen-3
-    over-requires
+    (λ c κs. search needs)
+    (λ c. search needs)
+    (λ c κs. search needs)
     returns
     returns-2
     returns-3)

@@ -19,23 +19,8 @@ use Rattle.nesting.proofs.nests.pushed.Reads as pushed-reads
 go-over-requires : tie.Need-go-over-requires
 go-over-requires c κs = let a = c .before .before .before .args in (ready-hand (a .text .now) (a .table .now) (a .here) (a .nest) (a .d) (c .before .before .before .pre .0), c .before .before .before .pre .1 .0)
 
-enum-known-entries : tie.Need-enum-known-entries
-enum-known-entries c = search needs
-
-over-requires : tie.Need-over-requires
-over-requires c κs = search needs
-
-enum-known-entries-2 : tie.Need-enum-known-entries-2
-enum-known-entries-2 c = search needs
-
-iteration-kind-requires : tie.Need-iteration-kind-requires
-iteration-kind-requires c κs = search needs
-
 next-after-requires : tie.Need-next-after-requires
 next-after-requires c κs = let a = c .before .before .before .before .before .before .before .before .args in omega (arith, c .before .before .before .before .before .before .before .before .pre .1 .0, hand-small (ready-hand (a .text .now) (a .table .now) (a .here) (a .nest) (a .d) (c .before .before .before .before .before .before .before .before .pre .0)))
-
-stand-requires : tie.Need-stand-requires
-stand-requires c κs = search needs
 
 pushed-requires : tie.Need-pushed-requires
 pushed-requires c κs = let a = c .before .before .before .before .before .before .before .before .before .before .args in (c .before .before .before .before .before .before .before .before .before .before .pre .0 .level, loop-fits (a .text .now) (a .table .now) (a .here) (a .nest) (a .d) (c .before .before .before .before .before .before .before .before .before .before .pre .0) (a .settings) (a .i) (c .before .before .before .before .before .before .before .before .before .before .pre .1 .0) (subst (GoesOver (a .table .now) (a .here .hand) (a .d .at) (a .i .0)) (c .before .before .before .before .entries2 .given .1) (c .before .before .before .before .before .before .go-over .ensures)) (c .before .before .iteration-kind .ensures) (c .before .next-after .ensures) (c .before .before .before .before .before .before .before .before .before .before .pre .1 .1))
@@ -51,12 +36,12 @@ open-iteration-spec =
     tie.close
     (tie.spec
     go-over-requires
-    enum-known-entries
-    over-requires
-    enum-known-entries-2
-    iteration-kind-requires
+    (λ c. search needs)
+    (λ c κs. search needs)
+    (λ c. search needs)
+    (λ c κs. search needs)
     next-after-requires
-    stand-requires
+    (λ c κs. search needs)
     pushed-requires
     returns
     returns-2)

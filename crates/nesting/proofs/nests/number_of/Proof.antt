@@ -9,19 +9,10 @@ use Rattle.nesting.proofs.nests.number_of.Tie as tie
 use Rattle.nesting.proofs.nests.number_of.Reads as reads
 use Rattle.nesting.proofs.nests.number_of.Lts as lts
 
-enum-told : tie.Need-enum-told
-enum-told c = search needs
-
-enum-known-passes : tie.Need-enum-known-passes
-enum-known-passes c = search needs
-
 cast-result : tie.Need-cast-result
 cast-result c =
     let h = subst FitsPasses (c .before .passes .given .1) (c .before .before .before .pre) in
     omega (arith, h)
-
-returns : tie.Need-returns
-returns c = search needs
 
 returns-2 : tie.Need-returns-2
 returns-2 c =
@@ -29,4 +20,4 @@ returns-2 c =
     limited _ (subst FitsPasses q (c .before .before .before .pre)) ∙ sym q
 
 pub number-of-spec : {M : Type 1} → statement M
-number-of-spec = tie.close (tie.spec enum-told enum-known-passes cast-result returns returns-2)
+number-of-spec = tie.close (tie.spec (λ c. search needs) (λ c. search needs) cast-result (λ c. search needs) returns-2)

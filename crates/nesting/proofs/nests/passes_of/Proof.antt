@@ -13,13 +13,10 @@ use Rattle.rules.proofs.scalars.widened.Reads as widened-reads
 returns : tie.Need-returns
 returns c = (ap passesOf (sym (c .if1 .taken)), tt)
 
-widened-requires : tie.Need-widened-requires
-widened-requires c κs = search needs
-
 returns-2 : tie.Need-returns-2
 returns-2 c =
     let h = c .before .if1 .left in
     rw (c .widened .ensures .0) (sym (limits _ h), omega (arith, h, c .before .before .good))
 
 pub passes-of-spec : {M : Type 1} → statement M
-passes-of-spec = tie.close (tie.spec returns widened-requires returns-2)
+passes-of-spec = tie.close (tie.spec returns (λ c κs. search needs) returns-2)

@@ -9,72 +9,6 @@ use Rattle.nesting.proofs.nests.pushed.Reads as reads
 use Rattle.nesting.proofs.nests.pushed.Lts as lts
 use Rattle.nesting.proofs.nests.number_of.Reads as number-of-reads
 
-cast-more : tie.Need-cast-more
-cast-more c = search needs
-
-mul-more : tie.Need-mul-more
-mul-more c = search needs
-
-element-write-more : tie.Need-element-write-more
-element-write-more c = search needs
-
-cast-more-2 : tie.Need-cast-more-2
-cast-more-2 c = search needs
-
-mul-more-2 : tie.Need-mul-more-2
-mul-more-2 c = search needs
-
-element-write-more-2 : tie.Need-element-write-more-2
-element-write-more-2 c = search needs
-
-cast-more-3 : tie.Need-cast-more-3
-cast-more-3 c = search needs
-
-mul-more-3 : tie.Need-mul-more-3
-mul-more-3 c = search needs
-
-element-write-more-3 : tie.Need-element-write-more-3
-element-write-more-3 c = search needs
-
-number-of-requires : tie.Need-number-of-requires
-number-of-requires c κs = search needs
-
-mul-more-4 : tie.Need-mul-more-4
-mul-more-4 c = search needs
-
-element-write-more-4 : tie.Need-element-write-more-4
-element-write-more-4 c = search needs
-
-cast-more-4 : tie.Need-cast-more-4
-cast-more-4 c = search needs
-
-mul-more-5 : tie.Need-mul-more-5
-mul-more-5 c = search needs
-
-element-write-more-5 : tie.Need-element-write-more-5
-element-write-more-5 c = search needs
-
-cast-more-5 : tie.Need-cast-more-5
-cast-more-5 c = search needs
-
-mul-more-6 : tie.Need-mul-more-6
-mul-more-6 c = search needs
-
-element-write-more-6 : tie.Need-element-write-more-6
-element-write-more-6 c = search needs
-
-cast-more-6 : tie.Need-cast-more-6
-cast-more-6 c = search needs
-
-mul-more-7 : tie.Need-mul-more-7
-mul-more-7 c = search needs
-
-element-write-more-7 : tie.Need-element-write-more-7
-element-write-more-7 c = search needs
-
-add-more : tie.Need-add-more
-add-more c = search needs
-
 returns : tie.Need-returns
 returns c =
     let a = c .before .before .before .before .before .before .before .before .before .before .args in
@@ -87,26 +21,26 @@ pub pushed-spec : {M : Type 1} → statement M
 pushed-spec =
     tie.close
     (tie.spec
-    cast-more
-    mul-more
-    element-write-more
-    cast-more-2
-    mul-more-2
-    element-write-more-2
-    cast-more-3
-    mul-more-3
-    element-write-more-3
-    number-of-requires
-    mul-more-4
-    element-write-more-4
-    cast-more-4
-    mul-more-5
-    element-write-more-5
-    cast-more-5
-    mul-more-6
-    element-write-more-6
-    cast-more-6
-    mul-more-7
-    element-write-more-7
-    add-more
+    (λ c. search needs)
+    (λ c. search needs)
+    (λ c. search needs)
+    (λ c. search needs)
+    (λ c. search needs)
+    (λ c. search needs)
+    (λ c. search needs)
+    (λ c. search needs)
+    (λ c. search needs)
+    (λ c κs. search needs)
+    (λ c. search needs)
+    (λ c. search needs)
+    (λ c. search needs)
+    (λ c. search needs)
+    (λ c. search needs)
+    (λ c. search needs)
+    (λ c. search needs)
+    (λ c. search needs)
+    (λ c. search needs)
+    (λ c. search needs)
+    (λ c. search needs)
+    (λ c. search needs)
     returns)

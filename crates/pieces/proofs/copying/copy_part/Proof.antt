@@ -27,12 +27,6 @@ add-out c = omega (arith, (c .before .before .pre), (c .before .loop .inv .same)
 shared-slice-read-out : tie.Need-shared-slice-read-out Inv-loop μ-loop
 shared-slice-read-out c = omega (arith, (c .before .before .before .pre), (c .before .before .loop .inv .same))
 
-slice-write-out : tie.Need-slice-write-out Inv-loop μ-loop
-slice-write-out c = search needs
-
-add-i : tie.Need-add-i Inv-loop μ-loop
-add-i c = search needs
-
 loop-less : tie.Need-loop-less Inv-loop μ-loop
 loop-less c = simp length-set (omega arith)
 
@@ -62,8 +56,8 @@ copy-part-spec =
     loop-holds
     add-out
     shared-slice-read-out
-    slice-write-out
-    add-i
+    (λ c. search needs)
+    (λ c. search needs)
     loop-less
     loop-again
     same-length

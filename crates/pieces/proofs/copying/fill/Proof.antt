@@ -19,12 +19,6 @@ abbrev μ-loop : tie.MeasureT-loop
 loop-holds : tie.Need-loop-holds Inv-loop μ-loop
 loop-holds c = copy-none _ _ (length-replicate _ _)
 
-slice-write-out : tie.Need-slice-write-out Inv-loop μ-loop
-slice-write-out c = search needs
-
-add-i : tie.Need-add-i Inv-loop μ-loop
-add-i c = search needs
-
 loop-less : tie.Need-loop-less Inv-loop μ-loop
 loop-less c = simp length-set (omega arith)
 
@@ -49,8 +43,8 @@ fill-spec =
     Inv-loop
     μ-loop
     loop-holds
-    slice-write-out
-    add-i
+    (λ c. search needs)
+    (λ c. search needs)
     loop-less
     loop-again
     same-length

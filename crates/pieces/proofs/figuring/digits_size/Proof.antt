@@ -19,9 +19,6 @@ returns c = (
       (arith, (c .before .before .digit-count .ensures .1)),
 )
 
-grouped-size-requires : tie.Need-grouped-size-requires
-grouped-size-requires c κs = search needs
-
 returns-2 : tie.Need-returns-2
 returns-2 c = (
   (c .grouped-size .ensures .0) _ _ (sym (c .before .before .before .digit-count .ensures .0))
@@ -32,4 +29,4 @@ returns-2 c = (
 
 pub digits-size-spec : {M : Type 1} → statement M
 digits-size-spec =
-    tie.close (tie.spec digit-count-requires returns grouped-size-requires returns-2)
+    tie.close (tie.spec digit-count-requires returns (λ c κs. search needs) returns-2)

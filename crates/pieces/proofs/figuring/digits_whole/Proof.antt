@@ -16,35 +16,11 @@ fill-digits-requires c κs =
     let start = c .before .before .before .before in
     ((start .pre .0 .base), (start .pre .1) ∙ ap length (ungrouped (start .args .x) (c .before .if1 .taken)))
 
-same-length : tie.Need-same-length
-same-length c = search needs
-
 returns : tie.Need-returns
 returns c =
     (c .before .before .fill-digits .ensures)
     ∙ sym (ungrouped (c .before .before .before .before .before .before .before .args .x)
     (c .before .before .before .before .if1 .taken))
-
-digit-count-requires : tie.Need-digit-count-requires
-digit-count-requires c κs = search needs
-
-sub-fill-digits : tie.Need-sub-fill-digits
-sub-fill-digits c = search needs
-
-part-digits-start : tie.Need-part-digits-start
-part-digits-start c = search needs
-
-part-digits-end : tie.Need-part-digits-end
-part-digits-end c = search needs
-
-fill-digits-requires-2 : tie.Need-fill-digits-requires-2
-fill-digits-requires-2 c κs = search needs
-
-sub-write-grouped : tie.Need-sub-write-grouped
-sub-write-grouped c = search needs
-
-part-write-grouped-start : tie.Need-part-write-grouped-start
-part-write-grouped-start c = search needs
 
 part-write-grouped-end : tie.Need-part-write-grouped-end
 part-write-grouped-end c =
@@ -62,9 +38,6 @@ write-grouped-requires c κs =
           (c .before .before .before .before .before .before .digit-count .ensures .0)))),
     )
 
-same-length-2 : tie.Need-same-length-2
-same-length-2 c = search needs
-
 returns-2 : tie.Need-returns-2
 returns-2 c =
     let start = c .before .before .before .before .before .before .before .before .before .before .before .before .before in
@@ -80,16 +53,16 @@ digits-whole-spec =
     tie.close
     (tie.spec
     fill-digits-requires
-    same-length
+    (λ c. search needs)
     returns
-    digit-count-requires
-    sub-fill-digits
-    part-digits-start
-    part-digits-end
-    fill-digits-requires-2
-    sub-write-grouped
-    part-write-grouped-start
+    (λ c κs. search needs)
+    (λ c. search needs)
+    (λ c. search needs)
+    (λ c. search needs)
+    (λ c κs. search needs)
+    (λ c. search needs)
+    (λ c. search needs)
     part-write-grouped-end
     write-grouped-requires
-    same-length-2
+    (λ c. search needs)
     returns-2)

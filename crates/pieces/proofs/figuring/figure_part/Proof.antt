@@ -11,33 +11,12 @@ use Rattle.pieces.proofs.Numerals.{figure-most, read-back, array-room}
 use Rattle.pieces.proofs.figuring.figure_part.Statement.{statement}
 use Rattle.pieces.proofs.figuring.figure_part.Tie as tie
 
-sub-figure-whole : tie.Need-sub-figure-whole
-sub-figure-whole c = search needs
-
-part-text-start : tie.Need-part-text-start
-part-text-start c = search needs
-
 part-text-end : tie.Need-part-text-end
 part-text-end c = omega (arith, (c .before .pre .1 .0), figure-most (c .before .args .x) (c .before .pre .0))
-
-figure-whole-requires : tie.Need-figure-whole-requires
-figure-whole-requires c κs = search needs
-
-sub-copy-part : tie.Need-sub-copy-part
-sub-copy-part c = search needs
-
-part-copy-part-start : tie.Need-part-copy-part-start
-part-copy-part-start c = search needs
 
 part-copy-part-end : tie.Need-part-copy-part-end
 part-copy-part-end c =
     array-room _ _ _ _ (c .before .before .figure-whole .ensures) (c .before .before .before .before .before .pre .1 .0)
-
-copy-part-requires : tie.Need-copy-part-requires
-copy-part-requires c κs = search needs
-
-same-length : tie.Need-same-length
-same-length c = search needs
 
 returns : tie.Need-returns
 returns c =
@@ -51,13 +30,13 @@ pub figure-part-spec : {M : Type 1} → statement M
 figure-part-spec =
     tie.close
     (tie.spec
-    sub-figure-whole
-    part-text-start
+    (λ c. search needs)
+    (λ c. search needs)
     part-text-end
-    figure-whole-requires
-    sub-copy-part
-    part-copy-part-start
+    (λ c κs. search needs)
+    (λ c. search needs)
+    (λ c. search needs)
     part-copy-part-end
-    copy-part-requires
-    same-length
+    (λ c κs. search needs)
+    (λ c. search needs)
     returns)

@@ -7,12 +7,6 @@ use Rattle.pieces.proofs.Numerals.{unsigned, with-sign}
 use Rattle.pieces.proofs.figuring.figure_size.Statement.{statement}
 use Rattle.pieces.proofs.figuring.figure_size.Tie as tie
 
-digits-size-requires : tie.Need-digits-size-requires
-digits-size-requires c κs = search needs
-
-add-result : tie.Need-add-result
-add-result c = search needs
-
 returns : tie.Need-returns
 returns c = (
   (c .before .before .digits-size .ensures .0)
@@ -34,4 +28,4 @@ returns-2 c = (
 )
 
 pub figure-size-spec : {M : Type 1} → statement M
-figure-size-spec = tie.close (tie.spec digits-size-requires add-result returns returns-2)
+figure-size-spec = tie.close (tie.spec (λ c κs. search needs) (λ c. search needs) returns returns-2)

@@ -13,9 +13,6 @@ digits-whole-requires c κs =
     let start = c .before .before .before .before in
     ((start .pre .0), (start .pre .1) ∙ ap length (unsigned (start .args .x) (c .before .if1 .taken)))
 
-same-length : tie.Need-same-length
-same-length c = search needs
-
 returns : tie.Need-returns
 returns c =
     (c .before .before .digits-whole .ensures)
@@ -36,9 +33,6 @@ part-digits-whole-start : tie.Need-part-digits-whole-start
 part-digits-whole-start c =
     let start = c .before .before .before in
     simp length-set (omega (arith, ((start .pre .1) ∙ ap length (with-sign (start .args .x) (c .if1 .left)))))
-
-part-digits-whole-end : tie.Need-part-digits-whole-end
-part-digits-whole-end c = search needs
 
 digits-whole-requires-2 : tie.Need-digits-whole-requires-2
 digits-whole-requires-2 c κs =
@@ -69,12 +63,12 @@ figure-whole-spec =
     tie.close
     (tie.spec
     digits-whole-requires
-    same-length
+    (λ c. search needs)
     returns
     slice-write-out
     sub-digits-whole
     part-digits-whole-start
-    part-digits-whole-end
+    (λ c. search needs)
     digits-whole-requires-2
     same-length-2
     returns-2)

@@ -35,18 +35,6 @@ returns c = record {
   ends = λ _. c .if1 .taken;
 }
 
-shared-slice-read-byte : tie.Need-shared-slice-read-byte Inv-loop μ-loop
-shared-slice-read-byte c = search needs
-
-slice-write-out : tie.Need-slice-write-out Inv-loop μ-loop
-slice-write-out c = search needs
-
-add-i : tie.Need-add-i Inv-loop μ-loop
-add-i c = search needs
-
-add-to : tie.Need-add-to Inv-loop μ-loop
-add-to c = search needs
-
 loop-less : tie.Need-loop-less Inv-loop μ-loop
 loop-less c = simp length-set (omega arith)
 
@@ -59,15 +47,6 @@ loop-again c =
           (rw (c .if2 .taken) (owes (start .args .src .now) (loop .i) h)),
       omega arith,
     )
-
-is-marked-requires : tie.Need-is-marked-requires Inv-loop μ-loop
-is-marked-requires c κs = search needs
-
-slice-write-out-2 : tie.Need-slice-write-out-2 Inv-loop μ-loop
-slice-write-out-2 c = search needs
-
-add-to-2 : tie.Need-add-to-2 Inv-loop μ-loop
-add-to-2 c = search needs
 
 loop-less-2 : tie.Need-loop-less-2 Inv-loop μ-loop
 loop-less-2 c = simp length-set (omega arith)
@@ -82,15 +61,6 @@ loop-again-2 c =
           (special (start .args .src .now) (loop .i) h (sym (c .before .is-marked .ensures) ∙ (c .if3 .taken)))),
       omega arith,
     )
-
-slice-write-out-3 : tie.Need-slice-write-out-3 Inv-loop μ-loop
-slice-write-out-3 c = search needs
-
-add-i-2 : tie.Need-add-i-2 Inv-loop μ-loop
-add-i-2 c = search needs
-
-add-to-3 : tie.Need-add-to-3 Inv-loop μ-loop
-add-to-3 c = search needs
 
 loop-less-3 : tie.Need-loop-less-3 Inv-loop μ-loop
 loop-less-3 c = simp length-set (omega arith)
@@ -125,20 +95,20 @@ escape-some-spec =
     loop-holds
     same-length
     returns
-    shared-slice-read-byte
-    slice-write-out
-    add-i
-    add-to
+    (λ c. search needs)
+    (λ c. search needs)
+    (λ c. search needs)
+    (λ c. search needs)
     loop-less
     loop-again
-    is-marked-requires
-    slice-write-out-2
-    add-to-2
+    (λ c κs. search needs)
+    (λ c. search needs)
+    (λ c. search needs)
     loop-less-2
     loop-again-2
-    slice-write-out-3
-    add-i-2
-    add-to-3
+    (λ c. search needs)
+    (λ c. search needs)
+    (λ c. search needs)
     loop-less-3
     loop-again-3
     same-length-2

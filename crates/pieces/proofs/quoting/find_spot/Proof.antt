@@ -33,12 +33,6 @@ returns c = (
   omega arith,
 )
 
-shared-slice-read-byte : tie.Need-shared-slice-read-byte Inv-loop μ-loop
-shared-slice-read-byte c = search needs
-
-is-marked-requires : tie.Need-is-marked-requires Inv-loop μ-loop
-is-marked-requires c κs = search needs
-
 returns-2 : tie.Need-returns-2 Inv-loop μ-loop
 unfolding owed
 returns-2 c =
@@ -51,15 +45,6 @@ returns-2 c =
       omega arith,
     )
 
-sub-skip : tie.Need-sub-skip Inv-loop μ-loop
-sub-skip c = search needs
-
-add-i : tie.Need-add-i Inv-loop μ-loop
-add-i c = search needs
-
-loop-less : tie.Need-loop-less Inv-loop μ-loop
-loop-less c = search needs
-
 loop-again : tie.Need-loop-again Inv-loop μ-loop
 loop-again c =
     let start = c .before .before .before .before .before .before .before .before in (
@@ -70,15 +55,6 @@ loop-again c =
           (sym (c .before .before .is-marked .ensures) ∙ (c .before .if2 .taken)),
       omega arith,
     )
-
-sub-skip-2 : tie.Need-sub-skip-2 Inv-loop μ-loop
-sub-skip-2 c = search needs
-
-add-i-2 : tie.Need-add-i-2 Inv-loop μ-loop
-add-i-2 c = search needs
-
-loop-less-2 : tie.Need-loop-less-2 Inv-loop μ-loop
-loop-less-2 c = search needs
 
 loop-again-2 : tie.Need-loop-again-2 Inv-loop μ-loop
 loop-again-2 c = (
@@ -106,15 +82,15 @@ find-spot-spec =
     μ-loop
     loop-holds
     returns
-    shared-slice-read-byte
-    is-marked-requires
+    (λ c. search needs)
+    (λ c κs. search needs)
     returns-2
-    sub-skip
-    add-i
-    loop-less
+    (λ c. search needs)
+    (λ c. search needs)
+    (λ c. search needs)
     loop-again
-    sub-skip-2
-    add-i-2
-    loop-less-2
+    (λ c. search needs)
+    (λ c. search needs)
+    (λ c. search needs)
     loop-again-2
     returns-3)

@@ -15,51 +15,12 @@ use Rattle.pieces.proofs.quoting.quote_part.Tie as tie
 sub-cut : tie.Need-sub-cut
 sub-cut c = omega (arith, (c .before .before .pre .0), length-quoted (c .before .before .args .src .now))
 
-cut-requires : tie.Need-cut-requires
-cut-requires c κs = search needs
-
-sub-fill : tie.Need-sub-fill
-sub-fill c = search needs
-
-part-fill-start : tie.Need-part-fill-start
-part-fill-start c = search needs
-
-part-fill-end : tie.Need-part-fill-end
-part-fill-end c = search needs
-
-fill-requires : tie.Need-fill-requires
-fill-requires c κs = search needs
-
-sub-escape-part : tie.Need-sub-escape-part
-sub-escape-part c = search needs
-
-part-escape-part-start : tie.Need-part-escape-part-start
-part-escape-part-start c = search needs
-
-part-escape-part-end : tie.Need-part-escape-part-end
-part-escape-part-end c = search needs
-
 escape-part-requires : tie.Need-escape-part-requires
 escape-part-requires c κs =
     let start = c .before .before .before .before .before .before .before .before in
     let size : (start .args .size) - 2 ≡ length
     (escaped (start .args .src .now)) = omega (arith, (start .pre .0), length-quoted (start .args .src .now)) in
     lent-fits _ _ _ (rw size at (c .before .before .before .before .before .cut .ensures .middle))
-
-sub-fill-2 : tie.Need-sub-fill-2
-sub-fill-2 c = search needs
-
-part-fill-start-2 : tie.Need-part-fill-start-2
-part-fill-start-2 c = search needs
-
-part-fill-end-2 : tie.Need-part-fill-end-2
-part-fill-end-2 c = search needs
-
-fill-requires-2 : tie.Need-fill-requires-2
-fill-requires-2 c κs = search needs
-
-same-length : tie.Need-same-length
-same-length c = search needs
 
 returns : tie.Need-returns
 unfolding quotedOf
@@ -80,18 +41,18 @@ quote-part-spec =
     tie.close
     (tie.spec
     sub-cut
-    cut-requires
-    sub-fill
-    part-fill-start
-    part-fill-end
-    fill-requires
-    sub-escape-part
-    part-escape-part-start
-    part-escape-part-end
+    (λ c κs. search needs)
+    (λ c. search needs)
+    (λ c. search needs)
+    (λ c. search needs)
+    (λ c κs. search needs)
+    (λ c. search needs)
+    (λ c. search needs)
+    (λ c. search needs)
     escape-part-requires
-    sub-fill-2
-    part-fill-start-2
-    part-fill-end-2
-    fill-requires-2
-    same-length
+    (λ c. search needs)
+    (λ c. search needs)
+    (λ c. search needs)
+    (λ c κs. search needs)
+    (λ c. search needs)
     returns)

@@ -28,15 +28,6 @@ loop-holds c =
     let start = c .before .before in
     quote-none (start .args .src .now) (start .args .out .now) (start .pre)
 
-shared-slice-read-byte : tie.Need-shared-slice-read-byte Inv-loop μ-loop
-shared-slice-read-byte c = search needs
-
-add-i : tie.Need-add-i Inv-loop μ-loop
-add-i c = search needs
-
-is-marked-requires : tie.Need-is-marked-requires Inv-loop μ-loop
-is-marked-requires c κs = search needs
-
 slice-write-out-2 : tie.Need-slice-write-out-2 Inv-loop μ-loop
 slice-write-out-2 c =
     mark-room (c .before .before .before .before .loop .inv) (c .before .before .before .loop-test .taken)
@@ -72,9 +63,6 @@ add-to-2 c =
       (start .good),
     )
 
-loop-less : tie.Need-loop-less Inv-loop μ-loop
-loop-less c = search needs
-
 loop-again : tie.Need-loop-again Inv-loop μ-loop
 loop-again c =
     quote-marked (c .before .before .before .before .loop .inv) (c .before .before .before .loop-test .taken)
@@ -96,9 +84,6 @@ add-to-3 c =
       length-set (start .args .out .now) 0 34,
       (start .good),
     )
-
-loop-less-2 : tie.Need-loop-less-2 Inv-loop μ-loop
-loop-less-2 c = search needs
 
 loop-again-2 : tie.Need-loop-again-2 Inv-loop μ-loop
 loop-again-2 c =
@@ -123,18 +108,18 @@ quote-whole-spec =
     μ-loop
     slice-write-out
     loop-holds
-    shared-slice-read-byte
-    add-i
-    is-marked-requires
+    (λ c. search needs)
+    (λ c. search needs)
+    (λ c κs. search needs)
     slice-write-out-2
     add-to
     slice-write-out-3
     add-to-2
-    loop-less
+    (λ c. search needs)
     loop-again
     slice-write-out-4
     add-to-3
-    loop-less-2
+    (λ c. search needs)
     loop-again-2
     slice-write-out-5
     same-length

@@ -20,15 +20,6 @@ abbrev μ-loop : tie.MeasureT-loop
 loop-holds : tie.Need-loop-holds Inv-loop μ-loop
 loop-holds c = measure-none _
 
-shared-slice-read-byte : tie.Need-shared-slice-read-byte Inv-loop μ-loop
-shared-slice-read-byte c = search needs
-
-add-i : tie.Need-add-i Inv-loop μ-loop
-add-i c = search needs
-
-is-marked-requires : tie.Need-is-marked-requires Inv-loop μ-loop
-is-marked-requires c κs = search needs
-
 add-size : tie.Need-add-size Inv-loop μ-loop
 add-size c =
     omega (
@@ -36,9 +27,6 @@ add-size c =
       (c .before .before .before .before .loop .inv .most),
       (c .before .before .before .before .before .before .pre),
     )
-
-loop-less : tie.Need-loop-less Inv-loop μ-loop
-loop-less c = search needs
 
 loop-again : tie.Need-loop-again Inv-loop μ-loop
 loop-again c =
@@ -52,9 +40,6 @@ add-size-2 c =
       (c .before .before .before .before .loop .inv .most),
       (c .before .before .before .before .before .before .pre),
     )
-
-loop-less-2 : tie.Need-loop-less-2 Inv-loop μ-loop
-loop-less-2 c = search needs
 
 loop-again-2 : tie.Need-loop-again-2 Inv-loop μ-loop
 loop-again-2 c =
@@ -75,13 +60,13 @@ quoted-size-spec =
     Inv-loop
     μ-loop
     loop-holds
-    shared-slice-read-byte
-    add-i
-    is-marked-requires
+    (λ c. search needs)
+    (λ c. search needs)
+    (λ c κs. search needs)
     add-size
-    loop-less
+    (λ c. search needs)
     loop-again
     add-size-2
-    loop-less-2
+    (λ c. search needs)
     loop-again-2
     returns)

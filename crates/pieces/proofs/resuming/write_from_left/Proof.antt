@@ -8,15 +8,6 @@ use Rattle.pieces.proofs.Rests.{still-in, string-opened, front-more}
 use Rattle.pieces.proofs.resuming.write_from_left.Statement.{statement}
 use Rattle.pieces.proofs.resuming.write_from_left.Tie as tie
 
-pad-some-requires : tie.Need-pad-some-requires
-pad-some-requires c κs = search needs
-
-slice-write-out : tie.Need-slice-write-out
-slice-write-out c = search needs
-
-add-write-inside : tie.Need-add-write-inside
-add-write-inside c = search needs
-
 write-inside-requires : tie.Need-write-inside-requires
 write-inside-requires c κs =
     let start = c .before .before .before .before .before .before .before .before in (
@@ -36,9 +27,6 @@ returns c =
     (c .before .before .before .before .before .before .before .pad-some .ensures)
     (c .before .before .before .before .if1 .taken) (c .before .before .write-inside .ensures)
 
-same-length-2 : tie.Need-same-length-2
-same-length-2 c = search needs
-
 returns-2 : tie.Need-returns-2
 returns-2 c =
     let start = c .before .before .before .before .before .before .before in
@@ -49,11 +37,11 @@ pub write-from-left-spec : {M : Type 1} → statement M
 write-from-left-spec =
     tie.close
     (tie.spec
-    pad-some-requires
-    slice-write-out
-    add-write-inside
+    (λ c κs. search needs)
+    (λ c. search needs)
+    (λ c. search needs)
     write-inside-requires
     same-length
     returns
-    same-length-2
+    (λ c. search needs)
     returns-2)

@@ -6,15 +6,6 @@ use Rattle.pieces.proofs.Bodies.{is-run, is-copied, is-quoted, is-figur
 use Rattle.pieces.proofs.writing.body_part.Statement.{statement}
 use Rattle.pieces.proofs.writing.body_part.Tie as tie
 
-enum-known-source : tie.Need-enum-known-source
-enum-known-source c = search needs
-
-fill-requires : tie.Need-fill-requires
-fill-requires c κs = search needs
-
-enum-known-source-2 : tie.Need-enum-known-source-2
-enum-known-source-2 c = search needs
-
 string-part-requires : tie.Need-string-part-requires
 string-part-requires c κs =
     (is-copied (c .before .before .before .before .before .before .pre .0) _ _ refl
@@ -26,9 +17,6 @@ copy-part-requires c κs =
     let lent =
     is-copied (start .pre .0) _ _ (c .before .string-part .ensures) (c .before .before .before .source2 .given .1) in
     rw (lent .size) at (start .pre .1)
-
-enum-known-source-3 : tie.Need-enum-known-source-3
-enum-known-source-3 c = search needs
 
 string-part-requires-2 : tie.Need-string-part-requires-2
 string-part-requires-2 c κs =
@@ -44,24 +32,12 @@ quote-part-requires c κs =
       ((start .pre .0 .small), (start .pre .1)),
     )
 
-enum-known-source-4 : tie.Need-enum-known-source-4
-enum-known-source-4 c = search needs
-
 figure-part-requires : tie.Need-figure-part-requires
 figure-part-requires c κs =
     let start = c .before .before .before .before .before .before .before in (
       (is-figures (start .pre .0) _ (c .before .before .source4 .given .1)) .places,
       ((is-figures (start .pre .0) _ (c .before .before .source4 .given .1)) .size, (start .pre .1)),
     )
-
-enum-known-source-5 : tie.Need-enum-known-source-5
-enum-known-source-5 c = search needs
-
-sub-copy-part : tie.Need-sub-copy-part
-sub-copy-part c = search needs
-
-part-copy-part-start : tie.Need-part-copy-part-start
-part-copy-part-start c = search needs
 
 part-copy-part-end : tie.Need-part-copy-part-end
 part-copy-part-end c =
@@ -73,9 +49,6 @@ copy-part-requires-2 c κs =
     let start = c .before .before .before .before .before .before .before .before .before in
     rw ((is-word (start .pre .0) _ (c .before .before .before .before .source5 .given .1)) .size) at (start .pre .1)
 
-same-length : tie.Need-same-length
-same-length c = search needs
-
 returns : tie.Need-returns
 returns c =
     let start = c .before .before .before .before .before .before .before .before .before .before in
@@ -84,9 +57,6 @@ returns c =
     (part-fill (start .args .from) _ _ _
     (rw ((is-run (start .pre .0) _ _ (c .before .before .before .before .before .source .given .1)) .places)
     at (start .pre .1))))
-
-same-length-2 : tie.Need-same-length-2
-same-length-2 c = search needs
 
 returns-2 : tie.Need-returns-2
 returns-2 c =
@@ -97,9 +67,6 @@ returns-2 c =
     rw (lent .text)
     (c .before .before .copy-part .ensures)
 
-same-length-3 : tie.Need-same-length-3
-same-length-3 c = search needs
-
 returns-3 : tie.Need-returns-3
 returns-3 c =
     let start = c .before .before .before .before .before .before .before .before .before .before .before in
@@ -109,17 +76,11 @@ returns-3 c =
     rw (lent .text)
     (c .before .before .quote-part .ensures)
 
-same-length-4 : tie.Need-same-length-4
-same-length-4 c = search needs
-
 returns-4 : tie.Need-returns-4
 returns-4 c =
     let start = c .before .before .before .before .before .before .before .before .before .before in
     rw ((is-figures (start .pre .0) _ (c .before .before .before .before .before .source4 .given .1)) .text)
     (c .before .before .figure-part .ensures)
-
-same-length-5 : tie.Need-same-length-5
-same-length-5 c = search needs
 
 returns-5 : tie.Need-returns-5
 returns-5 c =
@@ -132,28 +93,28 @@ pub body-part-spec : {M : Type 1} → statement M
 body-part-spec =
     tie.close
     (tie.spec
-    enum-known-source
-    fill-requires
-    enum-known-source-2
+    (λ c. search needs)
+    (λ c κs. search needs)
+    (λ c. search needs)
     string-part-requires
     copy-part-requires
-    enum-known-source-3
+    (λ c. search needs)
     string-part-requires-2
     quote-part-requires
-    enum-known-source-4
+    (λ c. search needs)
     figure-part-requires
-    enum-known-source-5
-    sub-copy-part
-    part-copy-part-start
+    (λ c. search needs)
+    (λ c. search needs)
+    (λ c. search needs)
     part-copy-part-end
     copy-part-requires-2
-    same-length
+    (λ c. search needs)
     returns
-    same-length-2
+    (λ c. search needs)
     returns-2
-    same-length-3
+    (λ c. search needs)
     returns-3
-    same-length-4
+    (λ c. search needs)
     returns-4
-    same-length-5
+    (λ c. search needs)
     returns-5)

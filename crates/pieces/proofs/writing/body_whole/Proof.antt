@@ -7,15 +7,6 @@ use Rattle.pieces.proofs.Bodies.{is-run, is-copied, is-quoted, is-figur
 use Rattle.pieces.proofs.writing.body_whole.Statement.{statement}
 use Rattle.pieces.proofs.writing.body_whole.Tie as tie
 
-enum-known-source : tie.Need-enum-known-source
-enum-known-source c = search needs
-
-fill-requires : tie.Need-fill-requires
-fill-requires c κs = search needs
-
-enum-known-source-2 : tie.Need-enum-known-source-2
-enum-known-source-2 c = search needs
-
 string-part-requires : tie.Need-string-part-requires
 string-part-requires c κs =
     (is-copied (c .before .before .before .before .before .before .pre .0) _ _ refl
@@ -27,9 +18,6 @@ copy-part-requires c κs =
     let lent =
     is-copied (start .pre .0) _ _ (c .before .string-part .ensures) (c .before .before .before .source2 .given .1) in
     omega (arith, (start .pre .1), lent .size)
-
-enum-known-source-3 : tie.Need-enum-known-source-3
-enum-known-source-3 c = search needs
 
 string-part-requires-2 : tie.Need-string-part-requires-2
 string-part-requires-2 c κs =
@@ -43,9 +31,6 @@ quote-whole-requires c κs =
     is-quoted (start .pre .0) _ _ (c .before .string-part2 .ensures) (c .before .before .before .source3 .given .1) in
     (start .pre .1) ∙ lent .size
 
-enum-known-source-4 : tie.Need-enum-known-source-4
-enum-known-source-4 c = search needs
-
 figure-whole-requires : tie.Need-figure-whole-requires
 figure-whole-requires c κs =
     let start = c .before .before .before .before .before .before .before in (
@@ -53,15 +38,6 @@ figure-whole-requires c κs =
       (start .pre .1)
           ∙ (is-figures (start .pre .0) _ (c .before .before .source4 .given .1)) .size,
     )
-
-enum-known-source-5 : tie.Need-enum-known-source-5
-enum-known-source-5 c = search needs
-
-sub-copy-part : tie.Need-sub-copy-part
-sub-copy-part c = search needs
-
-part-copy-part-start : tie.Need-part-copy-part-start
-part-copy-part-start c = search needs
 
 part-copy-part-end : tie.Need-part-copy-part-end
 part-copy-part-end c =
@@ -77,9 +53,6 @@ copy-part-requires-2 c κs =
       (is-word (start .pre .0) _ (c .before .before .before .before .source5 .given .1)) .size,
     )
 
-same-length : tie.Need-same-length
-same-length c = search needs
-
 returns : tie.Need-returns
 returns c =
     let start = c .before .before .before .before .before .before .before .before .before .before in
@@ -87,9 +60,6 @@ returns c =
     ∙ fill-same _ _ _ ((start .pre .1)
     ∙ (is-run (start .pre .0) _ _ (c .before .before .before .before .before .source .given .1)) .places)
     ∙ sym ((is-run (start .pre .0) _ _ (c .before .before .before .before .before .source .given .1)) .text)
-
-same-length-2 : tie.Need-same-length-2
-same-length-2 c = search needs
 
 returns-2 : tie.Need-returns-2
 returns-2 c =
@@ -102,9 +72,6 @@ returns-2 c =
     ∙ lent .size)
     ∙ sym (lent .text)
 
-same-length-3 : tie.Need-same-length-3
-same-length-3 c = search needs
-
 returns-3 : tie.Need-returns-3
 returns-3 c =
     let start = c .before .before .before .before .before .before .before .before .before .before .before in
@@ -114,17 +81,11 @@ returns-3 c =
     (c .before .before .quote-whole .ensures)
     ∙ sym (lent .text)
 
-same-length-4 : tie.Need-same-length-4
-same-length-4 c = search needs
-
 returns-4 : tie.Need-returns-4
 returns-4 c =
     let start = c .before .before .before .before .before .before .before .before .before .before in
     (c .before .before .figure-whole .ensures)
     ∙ sym ((is-figures (start .pre .0) _ (c .before .before .before .before .before .source4 .given .1)) .text)
-
-same-length-5 : tie.Need-same-length-5
-same-length-5 c = search needs
 
 returns-5 : tie.Need-returns-5
 returns-5 c =
@@ -139,28 +100,28 @@ pub body-whole-spec : {M : Type 1} → statement M
 body-whole-spec =
     tie.close
     (tie.spec
-    enum-known-source
-    fill-requires
-    enum-known-source-2
+    (λ c. search needs)
+    (λ c κs. search needs)
+    (λ c. search needs)
     string-part-requires
     copy-part-requires
-    enum-known-source-3
+    (λ c. search needs)
     string-part-requires-2
     quote-whole-requires
-    enum-known-source-4
+    (λ c. search needs)
     figure-whole-requires
-    enum-known-source-5
-    sub-copy-part
-    part-copy-part-start
+    (λ c. search needs)
+    (λ c. search needs)
+    (λ c. search needs)
     part-copy-part-end
     copy-part-requires-2
-    same-length
+    (λ c. search needs)
     returns
-    same-length-2
+    (λ c. search needs)
     returns-2
-    same-length-3
+    (λ c. search needs)
     returns-3
-    same-length-4
+    (λ c. search needs)
     returns-4
-    same-length-5
+    (λ c. search needs)
     returns-5)

@@ -9,15 +9,6 @@ use Rattle.pieces.proofs.Bodies.{length-bytes}
 use Rattle.pieces.proofs.writing.write_whole.Statement.{statement}
 use Rattle.pieces.proofs.writing.write_whole.Tie as tie
 
-add-end : tie.Need-add-end
-add-end c = search needs
-
-sub-fill : tie.Need-sub-fill
-sub-fill c = search needs
-
-part-fill-start : tie.Need-part-fill-start
-part-fill-start c = search needs
-
 part-fill-end : tie.Need-part-fill-end
 part-fill-end c =
     let start = c .before .before .before .before in
@@ -28,15 +19,6 @@ part-fill-end c =
       (start .pre .0 .body .size),
     )
 
-fill-requires : tie.Need-fill-requires
-fill-requires c κs = search needs
-
-sub-body-whole : tie.Need-sub-body-whole
-sub-body-whole c = search needs
-
-part-body-whole-start : tie.Need-part-body-whole-start
-part-body-whole-start c = search needs
-
 part-body-whole-end : tie.Need-part-body-whole-end
 part-body-whole-end c =
     let start = c .before .before .before .before .before .before .before .before in
@@ -46,9 +28,6 @@ part-body-whole-end c =
       length-bytes (start .args .table .now) (start .args .piece),
       (start .pre .0 .body .size),
     )
-
-body-whole-requires : tie.Need-body-whole-requires
-body-whole-requires c κs = search needs
 
 sub-fill-2 : tie.Need-sub-fill-2
 sub-fill-2 c =
@@ -70,15 +49,6 @@ part-fill-start-2 c =
       (start .pre .0 .body .size),
     )
 
-part-fill-end-2 : tie.Need-part-fill-end-2
-part-fill-end-2 c = search needs
-
-fill-requires-2 : tie.Need-fill-requires-2
-fill-requires-2 c κs = search needs
-
-same-length : tie.Need-same-length
-same-length c = search needs
-
 returns : tie.Need-returns
 unfolding bytesOf
 returns c =
@@ -95,18 +65,18 @@ pub write-whole-spec : {M : Type 1} → statement M
 write-whole-spec =
     tie.close
     (tie.spec
-    add-end
-    sub-fill
-    part-fill-start
+    (λ c. search needs)
+    (λ c. search needs)
+    (λ c. search needs)
     part-fill-end
-    fill-requires
-    sub-body-whole
-    part-body-whole-start
+    (λ c κs. search needs)
+    (λ c. search needs)
+    (λ c. search needs)
     part-body-whole-end
-    body-whole-requires
+    (λ c κs. search needs)
     sub-fill-2
     part-fill-start-2
-    part-fill-end-2
-    fill-requires-2
-    same-length
+    (λ c. search needs)
+    (λ c κs. search needs)
+    (λ c. search needs)
     returns)

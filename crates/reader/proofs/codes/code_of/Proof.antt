@@ -5,14 +5,8 @@ use Rattle.rules.specs.Directive.{codeNamed}
 use Rattle.reader.proofs.codes.code_of.Statement.{statement}
 use Rattle.reader.proofs.codes.code_of.Tie as tie
 
-lower-case-requires : tie.Need-lower-case-requires
-lower-case-requires c κs = search needs
-
-code-named-requires : tie.Need-code-named-requires
-code-named-requires c κs = search needs
-
 returns : tie.Need-returns
 returns c = (c .code-named .ensures) ∙ ap codeNamed (c .before .lower-case .ensures)
 
 pub code-of-spec : {M : Type 1} → statement M
-code-of-spec = tie.close (tie.spec lower-case-requires code-named-requires returns)
+code-of-spec = tie.close (tie.spec (λ c κs. search needs) (λ c κs. search needs) returns)

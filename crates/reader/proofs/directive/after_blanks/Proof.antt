@@ -20,17 +20,8 @@ abbrev μ-loop : tie.MeasureT-loop
 μ-loop text start i₀ i =
     length text - i
 
-after-blank-strides-requires : tie.Need-after-blank-strides-requires Inv-loop μ-loop
-after-blank-strides-requires c κs = search needs
-
 loop-holds : tie.Need-loop-holds Inv-loop μ-loop
 loop-holds c = c .after-blank-strides .ensures
-
-shared-slice-read-b : tie.Need-shared-slice-read-b Inv-loop μ-loop
-shared-slice-read-b c = search needs
-
-is-blank-requires : tie.Need-is-blank-requires Inv-loop μ-loop
-is-blank-requires c κs = search needs
 
 returns : tie.Need-returns Inv-loop μ-loop
 returns c =
@@ -42,12 +33,6 @@ returns c =
     (sym (c .before .is-blank .ensures) ∙ not-true _ (c .if1 .taken))
     in
     (omega (arith, none, span-blanks (drop (entry .args .start) (entry .args .text .now))), head .loop .inv .within)
-
-add-i : tie.Need-add-i Inv-loop μ-loop
-add-i c = search needs
-
-loop-less : tie.Need-loop-less Inv-loop μ-loop
-loop-less c = search needs
 
 loop-again : tie.Need-loop-again Inv-loop μ-loop
 loop-again c =
@@ -68,12 +53,12 @@ after-blanks-spec =
     (tie.spec
     Inv-loop
     μ-loop
-    after-blank-strides-requires
+    (λ c κs. search needs)
     loop-holds
-    shared-slice-read-b
-    is-blank-requires
+    (λ c. search needs)
+    (λ c κs. search needs)
     returns
-    add-i
-    loop-less
+    (λ c. search needs)
+    (λ c. search needs)
     loop-again
     returns-2)

@@ -15,9 +15,6 @@ returns-2 c =
     let entry = c .before .before .before in
     (rw (eq-eqb (entry .args .b) 10 (c .before .if1 .left), c .if2 .taken) (omega arith), entry .pre)
 
-after-blanks-requires : tie.Need-after-blanks-requires
-after-blanks-requires c κs = search needs
-
 returns-3 : tie.Need-returns-3
 returns-3 c =
     let entry = c .before .before .before .before in (
@@ -26,4 +23,4 @@ returns-3 c =
     )
 
 pub after-code-spec : {M : Type 1} → statement M
-after-code-spec = tie.close (tie.spec returns after-blanks-requires returns-2 returns-3)
+after-code-spec = tie.close (tie.spec returns (λ c κs. search needs) returns-2 returns-3)

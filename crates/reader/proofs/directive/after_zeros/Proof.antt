@@ -6,9 +6,6 @@ use Rattle.reader.proofs.ScanLaws.{zeros-inside}
 use Rattle.reader.proofs.directive.after_zeros.Statement.{statement}
 use Rattle.reader.proofs.directive.after_zeros.Tie as tie
 
-zeros-at-requires : tie.Need-zeros-at-requires
-zeros-at-requires c κs = search needs
-
 after-strides-requires : tie.Need-after-strides-requires
 after-strides-requires c κs =
     let entry = c .before .before .before in
@@ -17,11 +14,5 @@ after-strides-requires c κs =
       zeros-inside (entry .args .text .now) (entry .args .start) (sym (c .before .zeros-at .ensures) ∙ c .if1 .taken),
     )
 
-returns : tie.Need-returns
-returns c = search needs
-
-returns-2 : tie.Need-returns-2
-returns-2 c = search needs
-
 pub after-zeros-spec : {M : Type 1} → statement M
-after-zeros-spec = tie.close (tie.spec zeros-at-requires after-strides-requires returns returns-2)
+after-zeros-spec = tie.close (tie.spec (λ c κs. search needs) after-strides-requires (λ c. search needs) (λ c. search needs))

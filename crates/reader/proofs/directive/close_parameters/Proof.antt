@@ -23,19 +23,10 @@ closed-more : (written : Bool) (x : Parameter) (ps : Parameters) → pending (re
 closed-more true x ps p e = refl
 closed-more false x ps p e = rw (e, p)
 
-not-requires : tie.Need-not-requires
-not-requires c κs = search needs
-
-both-requires : tie.Need-both-requires
-both-requires c κs = search needs
-
 returns : tie.Need-returns
 returns c =
     let a = c .before .before .before .before .args in
     closed-none (a .written) (a .x) (a .ps) (sym (c .before .both .ensures ∙ rw (c .before .before .before .not .ensures)) ∙ c .if1 .taken)
-
-with-parameter-requires : tie.Need-with-parameter-requires
-with-parameter-requires c κs = search needs
 
 returns-2 : tie.Need-returns-2
 returns-2 c =
@@ -45,4 +36,4 @@ returns-2 c =
 
 pub close-parameters-spec : {M : Type 1} → statement M
 close-parameters-spec =
-    tie.close (tie.spec not-requires both-requires returns with-parameter-requires returns-2)
+    tie.close (tie.spec (λ c κs. search needs) (λ c κs. search needs) returns (λ c κs. search needs) returns-2)

@@ -10,15 +10,6 @@ returns c =
     let entry = c .before .before in
     sym (item-end (entry .args .text .now) (entry .args .p) (c .if1 .taken))
 
-shared-slice-read-b : tie.Need-shared-slice-read-b
-shared-slice-read-b c = search needs
-
-add-read-directive : tie.Need-add-read-directive
-add-read-directive c = search needs
-
-read-directive-requires : tie.Need-read-directive-requires
-read-directive-requires c κs = search needs
-
 returns-2 : tie.Need-returns-2
 returns-2 c =
     let entry = c .before .before .before .before .before in
@@ -37,8 +28,8 @@ item-at-spec =
     tie.close
     (tie.spec
     returns
-    shared-slice-read-b
-    add-read-directive
-    read-directive-requires
+    (λ c. search needs)
+    (λ c. search needs)
+    (λ c κs. search needs)
     returns-2
     returns-3)

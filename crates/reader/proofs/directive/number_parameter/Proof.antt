@@ -4,22 +4,10 @@ use borrow.Author.Needs.{needs}
 use Rattle.reader.proofs.directive.number_parameter.Statement.{statement}
 use Rattle.reader.proofs.directive.number_parameter.Tie as tie
 
-enum-told : tie.Need-enum-told
-enum-told c = search needs
-
-enum-known-r : tie.Need-enum-known-r
-enum-known-r c = search needs
-
 cast-small : tie.Need-cast-small
 cast-small c =
     let few = rw (c .before .r .given .1) at (c .before .before .before .pre) in
     record { fits = omega (arith, few) }
-
-written-parameter-requires : tie.Need-written-parameter-requires
-written-parameter-requires c κs = search needs
-
-returns : tie.Need-returns
-returns c = search needs
 
 returns-2 : tie.Need-returns-2
 returns-2 c =
@@ -28,4 +16,4 @@ returns-2 c =
 
 pub number-parameter-spec : {M : Type 1} → statement M
 number-parameter-spec =
-    tie.close (tie.spec enum-told enum-known-r cast-small written-parameter-requires returns returns-2)
+    tie.close (tie.spec (λ c. search needs) (λ c. search needs) cast-small (λ c κs. search needs) (λ c. search needs) returns-2)

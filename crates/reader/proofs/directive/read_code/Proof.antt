@@ -23,18 +23,6 @@ abbrev μ-loop : tie.MeasureT-loop
 loop-holds : tie.Need-loop-holds Inv-loop μ-loop
 loop-holds c = (refl, (c .before .pre))
 
-shared-slice-read-b : tie.Need-shared-slice-read-b Inv-loop μ-loop
-shared-slice-read-b c = search needs
-
-is-new-requires : tie.Need-is-new-requires Inv-loop μ-loop
-is-new-requires c κs = search needs
-
-add-i : tie.Need-add-i Inv-loop μ-loop
-add-i c = search needs
-
-loop-less : tie.Need-loop-less Inv-loop μ-loop
-loop-less c = search needs
-
 loop-again : tie.Need-loop-again Inv-loop μ-loop
 loop-again c =
     let entry = c .before .before .before .before .before .before in
@@ -45,15 +33,6 @@ loop-again c =
           (sym (c .before .is-new .ensures) ∙ c .if1 .taken),
       omega arith,
     )
-
-is-new-requires-2 : tie.Need-is-new-requires-2 Inv-loop μ-loop
-is-new-requires-2 c κs = search needs
-
-add-i-2 : tie.Need-add-i-2 Inv-loop μ-loop
-add-i-2 c = search needs
-
-loop-less-2 : tie.Need-loop-less-2 Inv-loop μ-loop
-loop-less-2 c = search needs
 
 loop-again-2 : tie.Need-loop-again-2 Inv-loop μ-loop
 loop-again-2 c =
@@ -67,15 +46,6 @@ loop-again-2 c =
           (sym (by-is-new .is-new .ensures) ∙ by-if1 .if1 .left) (sym (c .before .is-new2 .ensures) ∙ c .if2 .taken),
       omega arith,
     )
-
-code-of-requires : tie.Need-code-of-requires Inv-loop μ-loop
-code-of-requires c κs = search needs
-
-add-after-code : tie.Need-add-after-code Inv-loop μ-loop
-add-after-code c = search needs
-
-after-code-requires : tie.Need-after-code-requires Inv-loop μ-loop
-after-code-requires c κs = search needs
 
 returns : tie.Need-returns Inv-loop μ-loop
 returns c =
@@ -104,17 +74,17 @@ read-code-spec =
     Inv-loop
     μ-loop
     loop-holds
-    shared-slice-read-b
-    is-new-requires
-    add-i
-    loop-less
+    (λ c. search needs)
+    (λ c κs. search needs)
+    (λ c. search needs)
+    (λ c. search needs)
     loop-again
-    is-new-requires-2
-    add-i-2
-    loop-less-2
+    (λ c κs. search needs)
+    (λ c. search needs)
+    (λ c. search needs)
     loop-again-2
-    code-of-requires
-    add-after-code
-    after-code-requires
+    (λ c κs. search needs)
+    (λ c. search needs)
+    (λ c κs. search needs)
     returns
     returns-2)

@@ -18,20 +18,11 @@ abbrev μ-loop : tie.MeasureT-loop
 μ-loop text start ps₀ i₀ ps i =
     length text - i
 
-no-parameters-requires : tie.Need-no-parameters-requires Inv-loop μ-loop
-no-parameters-requires c κs = search needs
-
 loop-holds : tie.Need-loop-holds Inv-loop μ-loop
 loop-holds c =
     let entry = c .before .before in
     directive-first (entry .args .text .now) (entry .args .start) (c .no-parameters .result)
     (c .no-parameters .ensures) (entry .pre)
-
-read-parameter-requires : tie.Need-read-parameter-requires Inv-loop μ-loop
-read-parameter-requires c κs = search needs
-
-enum-told : tie.Need-enum-told Inv-loop μ-loop
-enum-told c = search needs
 
 returns : tie.Need-returns Inv-loop μ-loop
 returns c =
@@ -39,20 +30,11 @@ returns c =
     let by-read-parameter = c .before .before in
     directive-bad (head .loop .inv) (by-read-parameter .read-parameter .ensures) (c .enum-told .given .1)
 
-enum-told-2 : tie.Need-enum-told-2 Inv-loop μ-loop
-enum-told-2 c = search needs
-
 returns-2 : tie.Need-returns-2 Inv-loop μ-loop
 returns-2 c =
     let head = c .before .before .before in
     let by-read-parameter = c .before .before in
     directive-cut (head .loop .inv) (by-read-parameter .read-parameter .ensures) (c .enum-told2 .given .1)
-
-enum-known-r : tie.Need-enum-known-r Inv-loop μ-loop
-enum-known-r c = search needs
-
-comma-at-requires : tie.Need-comma-at-requires Inv-loop μ-loop
-comma-at-requires c κs = search needs
 
 with-parameter-requires : tie.Need-with-parameter-requires Inv-loop μ-loop
 with-parameter-requires c κs =
@@ -127,15 +109,15 @@ read-directive-spec =
     (tie.spec
     Inv-loop
     μ-loop
-    no-parameters-requires
+    (λ c κs. search needs)
     loop-holds
-    read-parameter-requires
-    enum-told
+    (λ c κs. search needs)
+    (λ c. search needs)
     returns
-    enum-told-2
+    (λ c. search needs)
     returns-2
-    enum-known-r
-    comma-at-requires
+    (λ c. search needs)
+    (λ c κs. search needs)
     with-parameter-requires
     add-i
     loop-less

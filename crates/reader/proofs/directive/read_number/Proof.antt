@@ -18,23 +18,11 @@ abbrev μ-loop : tie.MeasureT-loop
 μ-loop text start minus most n₀ i₀ n i =
     length text - i
 
-greatest-requires : tie.Need-greatest-requires Inv-loop μ-loop
-greatest-requires c κs = search needs
-
-after-zeros-requires : tie.Need-after-zeros-requires Inv-loop μ-loop
-after-zeros-requires c κs = search needs
-
 loop-holds : tie.Need-loop-holds Inv-loop μ-loop
 loop-holds c =
     let entry = c .before .before .before in
     zeros-first (entry .args .text .now) (entry .args .start) (entry .args .minus) (c .after-zeros .result)
     (c .after-zeros .ensures .0) (c .after-zeros .ensures .1)
-
-digit-at-requires : tie.Need-digit-at-requires Inv-loop μ-loop
-digit-at-requires c κs = search needs
-
-mul-n : tie.Need-mul-n Inv-loop μ-loop
-mul-n c = search needs
 
 shared-slice-read-wide : tie.Need-shared-slice-read-wide Inv-loop μ-loop
 shared-slice-read-wide c =
@@ -43,9 +31,6 @@ shared-slice-read-wide c =
     let by-digit-at = c .before .before in
     test-inside (entry .args .text .now) (head .loop .i) _
     (sym (by-digit-at .digit-at .ensures) ∙ c .before .if1 .taken)
-
-wide-requires : tie.Need-wide-requires Inv-loop μ-loop
-wide-requires c κs = search needs
 
 sub-n : tie.Need-sub-n Inv-loop μ-loop
 sub-n c =
@@ -127,13 +112,13 @@ read-number-spec =
     (tie.spec
     Inv-loop
     μ-loop
-    greatest-requires
-    after-zeros-requires
+    (λ c κs. search needs)
+    (λ c κs. search needs)
     loop-holds
-    digit-at-requires
-    mul-n
+    (λ c κs. search needs)
+    (λ c. search needs)
     shared-slice-read-wide
-    wide-requires
+    (λ c κs. search needs)
     sub-n
     add-n
     returns

@@ -16,15 +16,6 @@ returns c =
     let entry = c .before .before in
     record { is = λ d. scan-end (entry .args .text .now) (entry .args .i) start d (c .if1 .taken); advances = tt }
 
-shared-slice-read-b : tie.Need-shared-slice-read-b
-shared-slice-read-b c = search needs
-
-is-digit-requires : tie.Need-is-digit-requires
-is-digit-requires c κs = search needs
-
-read-number-requires : tie.Need-read-number-requires
-read-number-requires c κs = search needs
-
 number-parameter-requires : tie.Need-number-parameter-requires
 number-parameter-requires c κs = c .read-number .ensures .few
 
@@ -41,29 +32,11 @@ returns-2 c =
     (sym (by-is-digit .is-digit .ensures) ∙ by-if2 .if2 .taken))
     (c .before .read-number .ensures)
 
-add-next : tie.Need-add-next
-add-next c = search needs
-
-read-number-requires-2 : tie.Need-read-number-requires-2
-read-number-requires-2 c κs = search needs
-
 number-parameter-requires-2 : tie.Need-number-parameter-requires-2
 number-parameter-requires-2 c κs = c .read-number2 .ensures .few
 
-read-number-requires-3 : tie.Need-read-number-requires-3
-read-number-requires-3 c κs = search needs
-
 number-parameter-requires-3 : tie.Need-number-parameter-requires-3
 number-parameter-requires-3 c κs = c .read-number3 .ensures .few
-
-shared-slice-read-t17 : tie.Need-shared-slice-read-t17
-shared-slice-read-t17 c = search needs
-
-add-written-parameter : tie.Need-add-written-parameter
-add-written-parameter c = search needs
-
-written-parameter-requires : tie.Need-written-parameter-requires
-written-parameter-requires c κs = search needs
 
 returns-3 : tie.Need-returns-3
 returns-3 c =
@@ -76,12 +49,6 @@ returns-3 c =
     (omega arith) (omega arith)
     (λ d. quote-whole (entry .args .text .now) (entry .args .i) d (by-if1 .if1 .left) (by-match .match .keys3)
     (by-if3 .if3 .taken))
-
-written-parameter-requires-2 : tie.Need-written-parameter-requires-2
-written-parameter-requires-2 c κs = search needs
-
-written-parameter-requires-3 : tie.Need-written-parameter-requires-3
-written-parameter-requires-3 c κs = search needs
 
 returns-4 : tie.Need-returns-4
 returns-4 c =
@@ -151,22 +118,22 @@ read-parameter-spec =
     tie.close
     (tie.spec
     returns
-    shared-slice-read-b
-    is-digit-requires
-    read-number-requires
+    (λ c. search needs)
+    (λ c κs. search needs)
+    (λ c κs. search needs)
     number-parameter-requires
     returns-2
-    add-next
-    read-number-requires-2
+    (λ c. search needs)
+    (λ c κs. search needs)
     number-parameter-requires-2
-    read-number-requires-3
+    (λ c κs. search needs)
     number-parameter-requires-3
-    shared-slice-read-t17
-    add-written-parameter
-    written-parameter-requires
+    (λ c. search needs)
+    (λ c. search needs)
+    (λ c κs. search needs)
     returns-3
-    written-parameter-requires-2
-    written-parameter-requires-3
+    (λ c κs. search needs)
+    (λ c κs. search needs)
     returns-4
     returns-5
     returns-6

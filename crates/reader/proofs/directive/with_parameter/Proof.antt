@@ -3,24 +3,6 @@ use borrow.Author.Needs.{needs}
 use Rattle.reader.proofs.directive.with_parameter.Statement.{statement}
 use Rattle.reader.proofs.directive.with_parameter.Tie as tie
 
-placed-requires : tie.Need-placed-requires
-placed-requires c κs = search needs
-
-placed-requires-2 : tie.Need-placed-requires-2
-placed-requires-2 c κs = search needs
-
-placed-requires-3 : tie.Need-placed-requires-3
-placed-requires-3 c κs = search needs
-
-placed-requires-4 : tie.Need-placed-requires-4
-placed-requires-4 c κs = search needs
-
-placed-requires-5 : tie.Need-placed-requires-5
-placed-requires-5 c κs = search needs
-
-add-t14 : tie.Need-add-t14
-add-t14 c = search needs
-
 returns : tie.Need-returns
 returns c =
     rw (
@@ -35,10 +17,10 @@ pub with-parameter-spec : {M : Type 1} → statement M
 with-parameter-spec =
     tie.close
     (tie.spec
-    placed-requires
-    placed-requires-2
-    placed-requires-3
-    placed-requires-4
-    placed-requires-5
-    add-t14
+    (λ c κs. search needs)
+    (λ c κs. search needs)
+    (λ c κs. search needs)
+    (λ c κs. search needs)
+    (λ c κs. search needs)
+    (λ c. search needs)
     returns)

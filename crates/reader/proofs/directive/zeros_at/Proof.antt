@@ -6,9 +6,6 @@ use Rattle.reader.proofs.ScanLaws.{byte-inside}
 use Rattle.reader.proofs.directive.zeros_at.Statement.{statement}
 use Rattle.reader.proofs.directive.zeros_at.Tie as tie
 
-byte-at-requires : tie.Need-byte-at-requires
-byte-at-requires c κs = search needs
-
 returns : tie.Need-returns
 returns c = rw (← c .before .byte-at .ensures, ne-eqb _ _ (c .if1 .taken))
 
@@ -21,12 +18,9 @@ add-byte-at c =
           (λ z. omega (arith, z, c .before .byte-at .ensures, c .if1 .left)),
     )
 
-byte-at-requires-2 : tie.Need-byte-at-requires-2
-byte-at-requires-2 c κs = search needs
-
 returns-2 : tie.Need-returns-2
 returns-2 c = rw (← c .before .before .byte-at .ensures, eq-eqb _ _ (c .before .if1 .left), ← c .byte-at2 .ensures)
 
 pub zeros-at-spec : {M : Type 1} → statement M
 zeros-at-spec =
-    tie.close (tie.spec byte-at-requires returns add-byte-at byte-at-requires-2 returns-2)
+    tie.close (tie.spec (λ c κs. search needs) returns add-byte-at (λ c κs. search needs) returns-2)

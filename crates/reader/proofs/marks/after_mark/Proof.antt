@@ -4,25 +4,13 @@ use borrow.Author.Tests.{eq-eqb, ne-eqb}
 use Rattle.reader.proofs.marks.after_mark.Statement.{statement}
 use Rattle.reader.proofs.marks.after_mark.Tie as tie
 
-add-result : tie.Need-add-result
-add-result c = search needs
-
 returns : tie.Need-returns
 returns c = rw (eq-eqb (c .before .args .mark) 5 (c .if1 .taken))
-
-add-result-2 : tie.Need-add-result-2
-add-result-2 c = search needs
 
 returns-2 : tie.Need-returns-2
 returns-2 c =
     let m = c .before .before .args .mark in
     rw (ne-eqb m 5 (c .before .if1 .left), eq-eqb m 6 (c .if2 .taken))
-
-add-result-3 : tie.Need-add-result-3
-add-result-3 c = search needs
-
-add-result-4 : tie.Need-add-result-4
-add-result-4 c = search needs
 
 returns-3 : tie.Need-returns-3
 returns-3 c =
@@ -38,11 +26,11 @@ pub after-mark-spec : {M : Type 1} → statement M
 after-mark-spec =
     tie.close
     (tie.spec
-    add-result
+    (λ c. search needs)
     returns
-    add-result-2
+    (λ c. search needs)
     returns-2
-    add-result-3
-    add-result-4
+    (λ c. search needs)
+    (λ c. search needs)
     returns-3
     returns-4)

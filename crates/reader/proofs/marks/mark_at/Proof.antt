@@ -10,9 +10,6 @@ use Rattle.reader.proofs.ScanLaws.{byte-inside}
 use Rattle.reader.proofs.marks.mark_at.Statement.{statement}
 use Rattle.reader.proofs.marks.mark_at.Tie as tie
 
-byte-at-requires : tie.Need-byte-at-requires
-byte-at-requires c κs = search needs
-
 returns : tie.Need-returns
 returns c =
     let entry = c .before .before .before in
@@ -25,9 +22,6 @@ add-byte-at c =
     (λ z. omega (arith, z, c .before .byte-at .ensures, c .if1 .left)) in
     omega (arith, h, entry .good)
 
-byte-at-requires-2 : tie.Need-byte-at-requires-2
-byte-at-requires-2 c κs = search needs
-
 add-byte-at-2 : tie.Need-add-byte-at-2
 add-byte-at-2 c =
     let entry = c .before .before .before .before .before in
@@ -35,24 +29,12 @@ add-byte-at-2 c =
     (λ z. omega (arith, z, c .before .byte-at2 .ensures, c .match .keys6)) in
     omega (arith, h, entry .good)
 
-byte-at-requires-3 : tie.Need-byte-at-requires-3
-byte-at-requires-3 c κs = search needs
-
-mark-after-colon-requires : tie.Need-mark-after-colon-requires
-mark-after-colon-requires c κs = search needs
-
 add-byte-at-3 : tie.Need-add-byte-at-3
 add-byte-at-3 c =
     let entry = c .before .before .before .before .before in
     let h = byte-inside (entry .args .text .now) (entry .args .p + 1)
     (λ z. omega (arith, z, c .before .byte-at2 .ensures, c .match .keys7)) in
     omega (arith, h, entry .good)
-
-byte-at-requires-4 : tie.Need-byte-at-requires-4
-byte-at-requires-4 c κs = search needs
-
-mark-after-at-requires : tie.Need-mark-after-at-requires
-mark-after-at-requires c κs = search needs
 
 returns-2 : tie.Need-returns-2
 unfolding markOf
@@ -127,16 +109,16 @@ pub mark-at-spec : {M : Type 1} → statement M
 mark-at-spec =
     tie.close
     (tie.spec
-    byte-at-requires
+    (λ c κs. search needs)
     returns
     add-byte-at
-    byte-at-requires-2
+    (λ c κs. search needs)
     add-byte-at-2
-    byte-at-requires-3
-    mark-after-colon-requires
+    (λ c κs. search needs)
+    (λ c κs. search needs)
     add-byte-at-3
-    byte-at-requires-4
-    mark-after-at-requires
+    (λ c κs. search needs)
+    (λ c κs. search needs)
     returns-2
     returns-3
     returns-4

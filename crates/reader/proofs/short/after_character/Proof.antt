@@ -5,9 +5,6 @@ use borrow.Author.Tests.{eq-eqb, ne-eqb}
 use Rattle.reader.proofs.short.after_character.Statement.{statement}
 use Rattle.reader.proofs.short.after_character.Tie as tie
 
-add-result : tie.Need-add-result
-add-result c = search needs
-
 returns : tie.Need-returns
 returns c = (rw (eq-eqb (c .before .args .byte) 256 (c .if1 .taken)), omega arith)
 
@@ -15,4 +12,4 @@ returns-2 : tie.Need-returns-2
 returns-2 c = (rw (ne-eqb (c .before .args .byte) 256 (c .if1 .left)), omega arith)
 
 pub after-character-spec : {M : Type 1} → statement M
-after-character-spec = tie.close (tie.spec add-result returns returns-2)
+after-character-spec = tie.close (tie.spec (λ c. search needs) returns returns-2)

@@ -7,29 +7,8 @@ use Rattle.reader.proofs.ShortLaws.{short-read, after-read}
 use Rattle.reader.proofs.short.after_short.Statement.{statement}
 use Rattle.reader.proofs.short.after_short.Tie as tie
 
-add-leading-number : tie.Need-add-leading-number
-add-leading-number c = search needs
-
-leading-number-requires : tie.Need-leading-number-requires
-leading-number-requires c κs = search needs
-
-second-character-requires : tie.Need-second-character-requires
-second-character-requires c κs = search needs
-
 after-character-requires : tie.Need-after-character-requires
 after-character-requires c κs = omega (arith, c .before .leading-number .ensures .within, c .before .before .before .good)
-
-byte-at-requires : tie.Need-byte-at-requires
-byte-at-requires c κs = search needs
-
-lower-case-requires : tie.Need-lower-case-requires
-lower-case-requires c κs = search needs
-
-kind-of-requires : tie.Need-kind-of-requires
-kind-of-requires c κs = search needs
-
-fits-requires : tie.Need-fits-requires
-fits-requires c κs = search needs
 
 add-result : tie.Need-add-result
 add-result c =
@@ -80,14 +59,14 @@ pub after-short-spec : {M : Type 1} → statement M
 after-short-spec =
     tie.close
     (tie.spec
-    add-leading-number
-    leading-number-requires
-    second-character-requires
+    (λ c. search needs)
+    (λ c κs. search needs)
+    (λ c κs. search needs)
     after-character-requires
-    byte-at-requires
-    lower-case-requires
-    kind-of-requires
-    fits-requires
+    (λ c κs. search needs)
+    (λ c κs. search needs)
+    (λ c κs. search needs)
+    (λ c κs. search needs)
     add-result
     returns
     returns-2)

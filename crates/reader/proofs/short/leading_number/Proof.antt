@@ -5,12 +5,6 @@ use borrow.Author.Needs.{needs}
 use Rattle.reader.proofs.short.leading_number.Statement.{statement}
 use Rattle.reader.proofs.short.leading_number.Tie as tie
 
-digit-at-requires : tie.Need-digit-at-requires
-digit-at-requires c κs = search needs
-
-zeros-at-requires : tie.Need-zeros-at-requires
-zeros-at-requires c κs = search needs
-
 returns : tie.Need-returns
 returns c =
     let entry = c .before .before .before .before .before in
@@ -18,15 +12,6 @@ returns c =
     let by-if1 = c .before .before in
     leads-zeros (entry .args .text .now) (entry .args .start) (entry .pre)
     (sym (by-digit-at .digit-at .ensures) ∙ by-if1 .if1 .taken) (sym (c .before .zeros-at .ensures) ∙ c .if2 .taken)
-
-read-number-requires : tie.Need-read-number-requires
-read-number-requires c κs = search needs
-
-enum-told : tie.Need-enum-told
-enum-told c = search needs
-
-enum-known-r : tie.Need-enum-known-r
-enum-known-r c = search needs
 
 returns-2 : tie.Need-returns-2
 returns-2 c =
@@ -61,12 +46,12 @@ pub leading-number-spec : {M : Type 1} → statement M
 leading-number-spec =
     tie.close
     (tie.spec
-    digit-at-requires
-    zeros-at-requires
+    (λ c κs. search needs)
+    (λ c κs. search needs)
     returns
-    read-number-requires
-    enum-told
-    enum-known-r
+    (λ c κs. search needs)
+    (λ c. search needs)
+    (λ c. search needs)
     returns-2
     returns-3
     returns-4)

@@ -7,9 +7,6 @@ use Rattle.reader.proofs.ShortLaws.{none-read, short-read}
 use Rattle.reader.proofs.short.read_short.Statement.{statement}
 use Rattle.reader.proofs.short.read_short.Tie as tie
 
-byte-at-requires : tie.Need-byte-at-requires
-byte-at-requires c κs = search needs
-
 returns : tie.Need-returns
 returns c =
     let entry = c .before .before .before in
@@ -28,9 +25,6 @@ leading-number-requires c κs =
     let h = byte-inside (entry .args .text .now) (entry .args .p)
     (λ z. omega (arith, z, c .before .byte-at .ensures, c .if1 .left)) in
     omega (arith, h)
-
-second-character-requires : tie.Need-second-character-requires
-second-character-requires c κs = search needs
 
 after-character-requires : tie.Need-after-character-requires
 after-character-requires c κs = omega (arith, c .before .leading-number .ensures .within, c .before .before .before .before .before .good)
@@ -58,11 +52,11 @@ pub read-short-spec : {M : Type 1} → statement M
 read-short-spec =
     tie.close
     (tie.spec
-    byte-at-requires
+    (λ c κs. search needs)
     returns
     add-leading-number
     leading-number-requires
-    second-character-requires
+    (λ c κs. search needs)
     after-character-requires
     short-of-requires
     returns-2)

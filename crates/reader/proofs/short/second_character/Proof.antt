@@ -8,9 +8,6 @@ use Rattle.reader.proofs.ScanLaws.{byte-inside}
 use Rattle.reader.proofs.short.second_character.Statement.{statement}
 use Rattle.reader.proofs.short.second_character.Tie as tie
 
-byte-at-requires : tie.Need-byte-at-requires
-byte-at-requires c κs = search needs
-
 add-byte-at : tie.Need-add-byte-at
 add-byte-at c =
     let entry = c .before .before .before in
@@ -18,21 +15,12 @@ add-byte-at c =
     (λ z. omega (arith, z, c .before .byte-at .ensures, c .if1 .taken)) in
     omega (arith, h, entry .good)
 
-byte-at-requires-2 : tie.Need-byte-at-requires-2
-byte-at-requires-2 c κs = search needs
-
 add-byte-at-2 : tie.Need-add-byte-at-2
 add-byte-at-2 c =
     let entry = c .before .before .before .before .before in
     let h = byte-inside (entry .args .text .now) (entry .args .i + 1)
     (λ z. omega (arith, z, c .before .byte-at2 .ensures, c .if2 .taken)) in
     omega (arith, h, entry .good)
-
-byte-at-requires-3 : tie.Need-byte-at-requires-3
-byte-at-requires-3 c κs = search needs
-
-wide-requires : tie.Need-wide-requires
-wide-requires c κs = search needs
 
 returns : tie.Need-returns
 returns c =
@@ -57,12 +45,12 @@ pub second-character-spec : {M : Type 1} → statement M
 second-character-spec =
     tie.close
     (tie.spec
-    byte-at-requires
+    (λ c κs. search needs)
     add-byte-at
-    byte-at-requires-2
+    (λ c κs. search needs)
     add-byte-at-2
-    byte-at-requires-3
-    wide-requires
+    (λ c κs. search needs)
+    (λ c κs. search needs)
     returns
     returns-2
     returns-3)

@@ -5,24 +5,6 @@ use Rattle.reader.proofs.KindLaws.{coded-one, coded-other}
 use Rattle.reader.proofs.short.short_of.Statement.{statement}
 use Rattle.reader.proofs.short.short_of.Tie as tie
 
-byte-at-requires : tie.Need-byte-at-requires
-byte-at-requires c κs = search needs
-
-lower-case-requires : tie.Need-lower-case-requires
-lower-case-requires c κs = search needs
-
-kind-of-requires : tie.Need-kind-of-requires
-kind-of-requires c κs = search needs
-
-fits-requires : tie.Need-fits-requires
-fits-requires c κs = search needs
-
-detail-of-requires : tie.Need-detail-of-requires
-detail-of-requires c κs = search needs
-
-add-t10 : tie.Need-add-t10
-add-t10 c = search needs
-
 returns : tie.Need-returns
 returns c =
     let entry = c .before .before .before .before .before .before .before in
@@ -46,11 +28,11 @@ pub short-of-spec : {M : Type 1} → statement M
 short-of-spec =
     tie.close
     (tie.spec
-    byte-at-requires
-    lower-case-requires
-    kind-of-requires
-    fits-requires
-    detail-of-requires
-    add-t10
+    (λ c κs. search needs)
+    (λ c κs. search needs)
+    (λ c κs. search needs)
+    (λ c κs. search needs)
+    (λ c κs. search needs)
+    (λ c. search needs)
     returns
     returns-2)

@@ -18,9 +18,6 @@ abbrev μ-loop : tie.MeasureT-loop
 loop-holds : tie.Need-loop-holds Inv-loop μ-loop
 loop-holds c = skip-none (c .before .args .text .now) (c .before .args .start)
 
-shared-slice-read-if1 : tie.Need-shared-slice-read-if1 Inv-loop μ-loop
-shared-slice-read-if1 c = search needs
-
 after-short-requires : tie.Need-after-short-requires Inv-loop μ-loop
 after-short-requires c κs = (c .before .before .loop-test .taken, c .if1 .taken)
 
@@ -40,12 +37,6 @@ loop-again c =
     let head = c .before .before .before .before .before in
     skip-after (head .loop .inv) (c .before .after-short .ensures) (c .if2 .left) .0
 
-add-p : tie.Need-add-p Inv-loop μ-loop
-add-p c = search needs
-
-loop-less-2 : tie.Need-loop-less-2 Inv-loop μ-loop
-loop-less-2 c = search needs
-
 loop-again-2 : tie.Need-loop-again-2 Inv-loop μ-loop
 loop-again-2 c =
     let head = c .before .before .before in
@@ -61,12 +52,12 @@ skip-short-spec =
     Inv-loop
     μ-loop
     loop-holds
-    shared-slice-read-if1
+    (λ c. search needs)
     after-short-requires
     returns
     loop-less
     loop-again
-    add-p
-    loop-less-2
+    (λ c. search needs)
+    (λ c. search needs)
     loop-again-2
     returns-2)

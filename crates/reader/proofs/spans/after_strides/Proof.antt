@@ -33,12 +33,6 @@ returns c =
     let head = c .before .before .before in
     stride-none (head .loop .inv) (c .before .count-stride .result) (c .before .count-stride .ensures) (c .if1 .taken)
 
-add-i : tie.Need-add-i Inv-loop μ-loop
-add-i c = search needs
-
-loop-less : tie.Need-loop-less Inv-loop μ-loop
-loop-less c = search needs
-
 loop-again : tie.Need-loop-again Inv-loop μ-loop
 loop-again c =
     let head = c .before .before .before in
@@ -58,7 +52,7 @@ after-strides-spec =
     sub-loop
     count-stride-requires
     returns
-    add-i
-    loop-less
+    (λ c. search needs)
+    (λ c. search needs)
     loop-again
     returns-2)

@@ -8,37 +8,16 @@ use borrow.Author.Needs.{needs}
 use Rattle.stepping.proofs.items.act.Statement.{statement}
 use Rattle.stepping.proofs.items.act.Tie as tie
 
-refuse-requires : tie.Need-refuse-requires
-refuse-requires c κs = search needs
-
 returns : tie.Need-returns
 returns c =
     let a = (c .before .before .before .before .before .before .before .args) in
     λ s n level here e _. alone-none s n (viewOf (a .table .now)) (a .stand .hand .first .0) (a .stand .hand .count) level here (a .stand .next .0) (a .stand .left) (a .stand .at) (a .out .now) (a .p) (a .d) (c .before .before .before .before .before .before .before .pre .0) e _ (c .before .if1 .taken) (c .refuse .ensures) (c .before .before .before .before .before .before .before .pre .1 .written) (c .before .before .before .before .before .before .before .pre .1 .reaches)
-
-begin-requires : tie.Need-begin-requires
-begin-requires c κs = search needs
-
-enum-known-code : tie.Need-enum-known-code
-enum-known-code c = search needs
 
 act-form-requires : tie.Need-act-form-requires
 act-form-requires c κs =
     let a = (c .before .before .before .before .before .before .before .before .before .before .before .args) in
     let pre = (c .before .before .before .before .before .before .before .before .before .before .before .pre) in
     ((c .before .before .code .given .1), (subst ActsAlone (c .before .before .code .given .1) (pre .0), ((pre .1 .held), (begun-inside _ _ (a .out .now) (c .before .before .before .before .begin .ensures) (pre .1 .written), (pre .1 .reaches)))))
-
-enum-told : tie.Need-enum-told
-enum-told c = search needs
-
-act-jump-requires : tie.Need-act-jump-requires
-act-jump-requires c κs = search needs
-
-escape-requires : tie.Need-escape-requires
-escape-requires c κs = search needs
-
-same-length : tie.Need-same-length
-same-length c = search needs
 
 returns-2 : tie.Need-returns-2
 returns-2 c =
@@ -59,15 +38,15 @@ pub act-spec : {M : Type 1} → statement M
 act-spec =
     tie.close
     (tie.spec
-    refuse-requires
+    (λ c κs. search needs)
     returns
-    begin-requires
-    enum-known-code
+    (λ c κs. search needs)
+    (λ c. search needs)
     act-form-requires
-    enum-told
-    act-jump-requires
-    escape-requires
-    same-length
+    (λ c. search needs)
+    (λ c κs. search needs)
+    (λ c κs. search needs)
+    (λ c. search needs)
     returns-2
     returns-3
     returns-4)

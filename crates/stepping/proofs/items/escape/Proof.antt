@@ -7,11 +7,8 @@ use Rattle.stepping.proofs.items.escape.Tie as tie
 returns : tie.Need-returns
 returns c = rw (le-leb _ _ (c .if1 .taken))
 
-go-on-requires : tie.Need-go-on-requires
-go-on-requires c κs = search needs
-
 returns-2 : tie.Need-returns-2
 returns-2 c = rw (lt-leb _ _ (c .before .if1 .left)) (c .go-on .ensures)
 
 pub escape-spec : {M : Type 1} → statement M
-escape-spec = tie.close (tie.spec returns go-on-requires returns-2)
+escape-spec = tie.close (tie.spec returns (λ c κs. search needs) returns-2)

@@ -4,39 +4,15 @@ use borrow.Author.Needs.{needs}
 use Rattle.stepping.proofs.items.put_literal.Statement.{statement}
 use Rattle.stepping.proofs.items.put_literal.Tie as tie
 
-add-place : tie.Need-add-place
-add-place c = search needs
-
-refuse-requires : tie.Need-refuse-requires
-refuse-requires c κs = search needs
-
 returns : tie.Need-returns
 returns c =
     let a = (c .before .before .before .before .before .args) in
     λ s n v level here e _. acts-none s n v (a .stand .hand .first .0) (a .stand .hand .count) level here (a .stand .next .0) (a .stand .left) (a .stand .at) (a .out .now) e _ (c .before .if1 .taken) (c .refuse .ensures) (c .before .before .before .before .before .pre .1 .0) (c .before .before .before .before .before .pre .0)
 
-begin-requires : tie.Need-begin-requires
-begin-requires c κs = search needs
-
-refuse-requires-2 : tie.Need-refuse-requires-2
-refuse-requires-2 c κs = search needs
-
 returns-2 : tie.Need-returns-2
 returns-2 c =
     let a = (c .before .before .before .before .before .before .before .args) in
     λ s n v level here e h. literal-no-room s n v (a .stand .hand .first .0) (a .stand .hand .count) level here (a .stand .next .0) (a .stand .left) (a .stand .at) (a .out .now) (c .before .before .before .if1 .left) h (a .byte) e _ _ (c .before .before .begin .ensures) (c .before .if2 .taken) (c .refuse2 .ensures) (c .before .before .before .before .before .before .before .pre .1 .0) (c .before .before .before .before .before .before .before .pre .0)
-
-slice-write-out : tie.Need-slice-write-out
-slice-write-out c = search needs
-
-add-go-on : tie.Need-add-go-on
-add-go-on c = search needs
-
-go-on-requires : tie.Need-go-on-requires
-go-on-requires c κs = search needs
-
-same-length : tie.Need-same-length
-same-length c = search needs
 
 returns-3 : tie.Need-returns-3
 returns-3 c =
@@ -47,14 +23,14 @@ pub put-literal-spec : {M : Type 1} → statement M
 put-literal-spec =
     tie.close
     (tie.spec
-    add-place
-    refuse-requires
+    (λ c. search needs)
+    (λ c κs. search needs)
     returns
-    begin-requires
-    refuse-requires-2
+    (λ c κs. search needs)
+    (λ c κs. search needs)
     returns-2
-    slice-write-out
-    add-go-on
-    go-on-requires
-    same-length
+    (λ c. search needs)
+    (λ c. search needs)
+    (λ c κs. search needs)
+    (λ c. search needs)
     returns-3)

@@ -13,26 +13,14 @@ use native.Mathlib.Omega.{arith}
 use Rattle.stepping.proofs.short.act_short.Statement.{statement}
 use Rattle.stepping.proofs.short.act_short.Tie as tie
 
-refuse-requires : tie.Need-refuse-requires
-refuse-requires c κs = search needs
-
 returns : tie.Need-returns
 returns c = let a = c .before .before .before .before .before .before .before .args in (
   λ s n level here e _. acts-none s n (viewOf (a .table .now)) (a .stand .hand .first .0) (a .stand .hand .count) level here (a .stand .next .0) (a .stand .left) (a .stand .at) (a .out .now) e _ (c .before .if1 .taken) (c .refuse .ensures) (c .before .before .before .before .before .before .before .pre .1 .1 .written) (c .before .before .before .before .before .before .before .pre .1 .1 .reaches),
   (unbegun-none (c .refuse .ensures), refused-stays (c .refuse .ensures)),
 )
 
-begin-requires : tie.Need-begin-requires
-begin-requires c κs = search needs
-
-number-or-requires : tie.Need-number-or-requires
-number-or-requires c κs = search needs
-
 put-run-requires : tie.Need-put-run-requires
 put-run-requires c κs = begun-inside _ _ (c .before .before .before .before .before .before .before .before .before .before .args .out .now) (c .before .before .before .begin .ensures) (c .before .before .before .before .before .before .before .before .before .before .pre .1 .1 .written)
-
-same-length : tie.Need-same-length
-same-length c = search needs
 
 returns-2 : tie.Need-returns-2
 returns-2 c = let a = c .before .before .before .before .before .before .before .before .before .before .before .before .before .args in let st = shortSettings (settingOf 4097 (a .number)) (settingOf 256 (a .byte)) in (
@@ -45,9 +33,6 @@ returns-2 c = let a = c .before .before .before .before .before .before .before 
 
 write-argument-requires : tie.Need-write-argument-requires
 write-argument-requires c κs = let pre = c .before .before .before .before .before .before .before .before .before .pre in (pre .0, (pre .1 .0, (omega (arith, c .before .if2 .left), (pre .1 .1 .held, (pre .1 .1 .reaches, begun-inside _ _ (c .before .before .before .before .before .before .before .before .before .args .out .now) (c .before .before .begin .ensures) (pre .1 .1 .written))))))
-
-same-length-2 : tie.Need-same-length-2
-same-length-2 c = search needs
 
 returns-3 : tie.Need-returns-3
 returns-3 c = let a = c .before .before .before .before .before .before .before .before .before .before .before .before .args in (
@@ -62,13 +47,13 @@ pub act-short-spec : {M : Type 1} → statement M
 act-short-spec =
     tie.close
     (tie.spec
-    refuse-requires
+    (λ c κs. search needs)
     returns
-    begin-requires
-    number-or-requires
+    (λ c κs. search needs)
+    (λ c κs. search needs)
     put-run-requires
-    same-length
+    (λ c. search needs)
     returns-2
     write-argument-requires
-    same-length-2
+    (λ c. search needs)
     returns-3)

@@ -14,15 +14,6 @@ use Rattle.stepping.proofs.ShortRuns.{held-up}
 use Rattle.stepping.proofs.short.run_one.Statement.{statement}
 use Rattle.stepping.proofs.short.run_one.Tie as tie
 
-read-short-requires : tie.Need-read-short-requires
-read-short-requires c κs = search needs
-
-enum-told : tie.Need-enum-told
-enum-told c = search needs
-
-enum-known-short : tie.Need-enum-known-short
-enum-known-short c = search needs
-
 act-short-requires : tie.Need-act-short-requires
 act-short-requires c κs =
     let a = (c .before .before .before .before .before .before .before .before .before .args) in
@@ -67,9 +58,9 @@ pub run-one-spec : {M : Type 1} → statement M
 run-one-spec =
     tie.close
     (tie.spec
-    read-short-requires
-    enum-told
-    enum-known-short
+    (λ c κs. search needs)
+    (λ c. search needs)
+    (λ c. search needs)
     act-short-requires
     returns
     same-length

@@ -53,9 +53,6 @@ run-one-requires c κs =
     let puts = (c .before .before .before .put-literals .ensures .0 .runs) v (a .first .hand .first .0) (a .first .hand .count) in
     (record { held = c .before .before .before .before .before .before .before .before .before .before .before .pre .0 .held; reaches = l .inv .0 .inside; written = omega (arith, c .before .before .before .put-literals .ensures .0 .room, puts 0 (l .next .0) (l .inv .0 .inside) .does .size) }, c .before .before .before .put-literals .ensures .0 .inside)
 
-is-ended-requires : tie.Need-is-ended-requires Inv-loop μ-loop
-is-ended-requires c κs = search needs
-
 same-length : tie.Need-same-length Inv-loop μ-loop
 same-length c =
     let a = (c .before .before .before .before .before .before .before .before .before .before .before .before .before .before .before .before .args) in
@@ -157,7 +154,7 @@ run-short-spec =
     sub-t17
     add-t18
     run-one-requires
-    is-ended-requires
+    (λ c κs. search needs)
     same-length
     returns
     same-length-2

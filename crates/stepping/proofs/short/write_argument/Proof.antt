@@ -14,35 +14,14 @@ use mathlib.Core.Path.{refl, sym, _∙_}
 use Rattle.stepping.proofs.short.write_argument.Statement.{statement}
 use Rattle.stepping.proofs.short.write_argument.Tie as tie
 
-refuse-requires : tie.Need-refuse-requires
-refuse-requires c κs = search needs
-
 returns : tie.Need-returns
 returns c = let a = c .before .before .before .before .before .args in let s = shortSettings (settingOf 4097 (a .number)) (settingOf 256 (a .byte)) in (
   λ d q w. performed-refused _ 6 (a .i .0) (c .refuse .ensures) (λ on. own-none (viewOf (a .table .now)) (handAt (a .hand) 0) (a .i .0) (a .spot .position) (a .spot .left) (a .kind) (a .detail) s d on (c .before .before .before .before .before .pre .1 .1 .0) (c .before .if1 .taken)) (c .before .before .before .before .before .pre .1 .1 .1 .1 .1) (c .before .before .before .before .before .pre .1 .1 .1 .1 .0),
   untouched-refused _ 6 (c .refuse .ensures),
 )
 
-argument-at-requires : tie.Need-argument-at-requires
-argument-at-requires c κs = search needs
-
-add-t18 : tie.Need-add-t18
-add-t18 c = search needs
-
-number-or-requires : tie.Need-number-or-requires
-number-or-requires c κs = search needs
-
-enum-known-argument : tie.Need-enum-known-argument
-enum-known-argument c = search needs
-
-is-both-requires : tie.Need-is-both-requires
-is-both-requires c κs = search needs
-
 put-text-requires : tie.Need-put-text-requires
 put-text-requires c κs = (string-held (c .before .before .before .before .argument .given .1) (c .before .before .before .before .before .before .before .argument-at .ensures .0), c .before .before .before .before .before .before .before .before .before .before .before .before .pre .1 .1 .1 .1 .1)
-
-same-length : tie.Need-same-length
-same-length c = search needs
 
 returns-2 : tie.Need-returns-2
 returns-2 c = let a = c .before .before .before .before .before .before .before .before .before .before .before .before .before .before .before .args in let s = shortSettings (settingOf 4097 (a .number)) (settingOf 256 (a .byte)) in let x = c .before .before .before .before .before .before .before .argument .given .1 in let l = c .before .before .before .before .before .before .before .before .before .before .before .if1 .left in let y = sym (c .before .before .before .before .before .is-both .ensures) ∙ c .before .before .before .before .if2 .taken in let e = object-form (a .kind) (a .detail) y in (
@@ -53,20 +32,8 @@ returns-2 c = let a = c .before .before .before .before .before .before .before 
 write-piece-requires : tie.Need-write-piece-requires
 write-piece-requires c κs = (c .before .before .before .before .before .before .before .before .before .before .before .before .pre .0, (c .before .before .before .before .before .before .before .before .before .before .before .before .pre .1 .0, (c .before .before .before .before .before .before .before .before .before .before .before .before .pre .1 .1 .1 .0, (c .before .before .before .before .before .before .before .before .before .before .before .before .pre .1 .1 .1 .1 .0, c .before .before .before .before .before .before .before .before .before .before .before .before .pre .1 .1 .1 .1 .1))))
 
-enum-known-argument-2 : tie.Need-enum-known-argument-2
-enum-known-argument-2 c = search needs
-
-is-both-requires-2 : tie.Need-is-both-requires-2
-is-both-requires-2 c κs = search needs
-
 pad-or-requires : tie.Need-pad-or-requires
 pad-or-requires c κs = let a = c .before .before .before .before .before .before .before .before .before .before .before .args in pad-few (a .kind) (a .detail) (a .byte) (settingOf 4097 (a .number)) (sym (c .before .is-both2 .ensures) ∙ c .if3 .taken) (c .before .before .before .before .before .before .before .before .before .before .before .pre .1 .0)
-
-put-decimal-requires : tie.Need-put-decimal-requires
-put-decimal-requires c κs = search needs
-
-same-length-2 : tie.Need-same-length-2
-same-length-2 c = search needs
 
 returns-3 : tie.Need-returns-3
 returns-3 c = let a = c .before .before .before .before .before .before .before .before .before .before .before .before .before .before .before .before .args in let s = shortSettings (settingOf 4097 (a .number)) (settingOf 256 (a .byte)) in let l = c .before .before .before .before .before .before .before .before .before .before .before .before .if1 .left in let y = (sym (c .before .before .before .before .before .before .is-both2 .ensures) ∙ c .before .before .before .before .before .if3 .taken) in let e = decimal-form (a .kind) (a .detail) y in let back = toZ-ofZ w64 (c .before .before .before .before .before .before .before .before .argument2 .given .0 .0) (record { sfits = c .before .before .before .before .before .before .before .known-told2 .given .0 .1 }) in (
@@ -80,20 +47,11 @@ write-piece-requires-2 c κs = (c .before .before .before .before .before .befor
 write-piece-requires-3 : tie.Need-write-piece-requires-3
 write-piece-requires-3 c κs = (c .before .before .before .before .before .before .before .before .pre .0, (c .before .before .before .before .before .before .before .before .pre .1 .0, (c .before .before .before .before .before .before .before .before .pre .1 .1 .1 .0, (c .before .before .before .before .before .before .before .before .pre .1 .1 .1 .1 .0, c .before .before .before .before .before .before .before .before .pre .1 .1 .1 .1 .1))))
 
-same-length-3 : tie.Need-same-length-3
-same-length-3 c = search needs
-
 returns-4 : tie.Need-returns-4
 returns-4 c = c .before .before .write-piece .ensures
 
-same-length-4 : tie.Need-same-length-4
-same-length-4 c = search needs
-
 returns-5 : tie.Need-returns-5
 returns-5 c = c .before .before .write-piece2 .ensures
-
-same-length-5 : tie.Need-same-length-5
-same-length-5 c = search needs
 
 returns-6 : tie.Need-returns-6
 returns-6 c = c .before .before .write-piece3 .ensures
@@ -102,28 +60,28 @@ pub write-argument-spec : {M : Type 1} → statement M
 write-argument-spec =
     tie.close
     (tie.spec
-    refuse-requires
+    (λ c κs. search needs)
     returns
-    argument-at-requires
-    add-t18
-    number-or-requires
-    enum-known-argument
-    is-both-requires
+    (λ c κs. search needs)
+    (λ c. search needs)
+    (λ c κs. search needs)
+    (λ c. search needs)
+    (λ c κs. search needs)
     put-text-requires
-    same-length
+    (λ c. search needs)
     returns-2
     write-piece-requires
-    enum-known-argument-2
-    is-both-requires-2
+    (λ c. search needs)
+    (λ c κs. search needs)
     pad-or-requires
-    put-decimal-requires
-    same-length-2
+    (λ c κs. search needs)
+    (λ c. search needs)
     returns-3
     write-piece-requires-2
     write-piece-requires-3
-    same-length-3
+    (λ c. search needs)
     returns-4
-    same-length-4
+    (λ c. search needs)
     returns-5
-    same-length-5
+    (λ c. search needs)
     returns-6)

@@ -7,20 +7,8 @@ use Rattle.stepping.proofs.ShortRuns.{short-worked, writes-as}
 use Rattle.stepping.proofs.short.write_piece.Statement.{statement}
 use Rattle.stepping.proofs.short.write_piece.Tie as tie
 
-setting-of-requires : tie.Need-setting-of-requires
-setting-of-requires c κs = search needs
-
-setting-of-requires-2 : tie.Need-setting-of-requires-2
-setting-of-requires-2 c κs = search needs
-
-short-form-requires : tie.Need-short-form-requires
-short-form-requires c κs = search needs
-
 write-form-requires : tie.Need-write-form-requires
 write-form-requires c κs = let a = c .before .before .before .before .before .before .args in (short-worked (briefOf (a .kind) (a .detail)) (settingOf 4097 (a .number)) (settingOf 256 (a .byte)) _ _ _ (c .before .before .before .setting-of .ensures) (c .before .before .setting-of2 .ensures) (c .before .short-form .ensures) (c .before .before .before .before .before .before .pre .0) (c .before .before .before .before .before .before .pre .1 .0), (c .before .before .before .before .before .before .pre .1 .1 .0, (c .before .before .before .before .before .before .pre .1 .1 .1 .1, c .before .before .before .before .before .before .pre .1 .1 .1 .0)))
-
-same-length : tie.Need-same-length
-same-length c = search needs
 
 returns : tie.Need-returns
 returns c = let a = c .before .before .before .before .before .before .before .before .before .args in (
@@ -32,9 +20,9 @@ pub write-piece-spec : {M : Type 1} → statement M
 write-piece-spec =
     tie.close
     (tie.spec
-    setting-of-requires
-    setting-of-requires-2
-    short-form-requires
+    (λ c κs. search needs)
+    (λ c κs. search needs)
+    (λ c κs. search needs)
     write-form-requires
-    same-length
+    (λ c. search needs)
     returns)

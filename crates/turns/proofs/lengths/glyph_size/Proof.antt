@@ -6,9 +6,6 @@ use Rattle.turns.proofs.Names.{glyph-written, glyph-byte, glyph-control
 use Rattle.turns.proofs.lengths.glyph_size.Statement.{statement}
 use Rattle.turns.proofs.lengths.glyph_size.Tie as tie
 
-name-size-requires : tie.Need-name-size-requires
-name-size-requires c κs = search needs
-
 add-result : tie.Need-add-result
 add-result c = omega (arith, (c .name-size .ensures .1))
 
@@ -38,4 +35,4 @@ returns-4 c =
 
 pub glyph-size-spec : {M : Type 1} → statement M
 glyph-size-spec =
-    tie.close (tie.spec name-size-requires add-result returns returns-2 returns-3 returns-4)
+    tie.close (tie.spec (λ c κs. search needs) add-result returns returns-2 returns-3 returns-4)

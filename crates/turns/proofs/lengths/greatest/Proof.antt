@@ -5,27 +5,6 @@ use Rattle.vet.proofs.WorstLaws.{greatest-is}
 use Rattle.turns.proofs.lengths.greatest.Statement.{statement}
 use Rattle.turns.proofs.lengths.greatest.Tie as tie
 
-add-less : tie.Need-add-less
-add-less c = search needs
-
-less-requires : tie.Need-less-requires
-less-requires c κs = search needs
-
-round-up-requires : tie.Need-round-up-requires
-round-up-requires c κs = search needs
-
-add-longest : tie.Need-add-longest
-add-longest c = search needs
-
-add-longest-2 : tie.Need-add-longest-2
-add-longest-2 c = search needs
-
-padded-top-requires : tie.Need-padded-top-requires
-padded-top-requires c κs = search needs
-
-larger-requires : tie.Need-larger-requires
-larger-requires c κs = search needs
-
 returns : tie.Need-returns
 returns c =
     let args = c .before .before .before .before .args in
@@ -38,11 +17,11 @@ pub greatest-spec : {M : Type 1} → statement M
 greatest-spec =
     tie.close
     (tie.spec
-    add-less
-    less-requires
-    round-up-requires
-    add-longest
-    add-longest-2
-    padded-top-requires
-    larger-requires
+    (λ c. search needs)
+    (λ c κs. search needs)
+    (λ c κs. search needs)
+    (λ c. search needs)
+    (λ c. search needs)
+    (λ c κs. search needs)
+    (λ c κs. search needs)
     returns)

@@ -6,30 +6,6 @@ use Rattle.vet.proofs.WorstLaws.{top-yes, top-no}
 use Rattle.turns.proofs.lengths.padded_top.Statement.{statement}
 use Rattle.turns.proofs.lengths.padded_top.Tie as tie
 
-less-requires : tie.Need-less-requires
-less-requires c κs = search needs
-
-add-less : tie.Need-add-less
-add-less c = search needs
-
-less-requires-2 : tie.Need-less-requires-2
-less-requires-2 c κs = search needs
-
-round-up-requires : tie.Need-round-up-requires
-round-up-requires c κs = search needs
-
-add-less-2 : tie.Need-add-less-2
-add-less-2 c = search needs
-
-less-requires-3 : tie.Need-less-requires-3
-less-requires-3 c κs = search needs
-
-add-result : tie.Need-add-result
-add-result c = search needs
-
-sub-result : tie.Need-sub-result
-sub-result c = search needs
-
 returns : tie.Need-returns
 returns c =
     let args = c .before .before .before .before .before .args in
@@ -56,13 +32,13 @@ pub padded-top-spec : {M : Type 1} → statement M
 padded-top-spec =
     tie.close
     (tie.spec
-    less-requires
-    add-less
-    less-requires-2
-    round-up-requires
-    add-less-2
-    less-requires-3
-    add-result
-    sub-result
+    (λ c κs. search needs)
+    (λ c. search needs)
+    (λ c κs. search needs)
+    (λ c κs. search needs)
+    (λ c. search needs)
+    (λ c κs. search needs)
+    (λ c. search needs)
+    (λ c. search needs)
     returns
     returns-2)

@@ -7,15 +7,6 @@ use Rattle.vet.proofs.Padding.{up-near}
 use Rattle.turns.proofs.lengths.round_up.Statement.{statement}
 use Rattle.turns.proofs.lengths.round_up.Tie as tie
 
-sub-result : tie.Need-sub-result
-sub-result c = search needs
-
-add-result : tie.Need-add-result
-add-result c = search needs
-
-div-result : tie.Need-div-result
-div-result c = search needs
-
 mul-result : tie.Need-mul-result
 unfolding timesPadded
 mul-result c = omega (arith, up-near (c .args .padinc) (omega arith) (c .args .x))
@@ -25,4 +16,4 @@ unfolding timesPadded
 returns c = (refl, omega (arith, up-near (c .args .padinc) (omega arith) (c .args .x)))
 
 pub round-up-spec : {M : Type 1} → statement M
-round-up-spec = tie.close (tie.spec sub-result add-result div-result mul-result returns)
+round-up-spec = tie.close (tie.spec (λ c. search needs) (λ c. search needs) (λ c. search needs) mul-result returns)

@@ -8,12 +8,6 @@ use Rattle.rules.proofs.Rowed.{number-least}
 use Rattle.turns.proofs.lengths.worst_grouped.Statement.{statement}
 use Rattle.turns.proofs.lengths.worst_grouped.Tie as tie
 
-number-or-requires : tie.Need-number-or-requires
-number-or-requires c κs = search needs
-
-number-or-requires-2 : tie.Need-number-or-requires-2
-number-or-requires-2 c κs = search needs
-
 worst-numeral-requires : tie.Need-worst-numeral-requires
 worst-numeral-requires c κs =
     (c .before .before .pre .0, omega (arith, c .number-or2 .ensures, number-least IsByte 1 4096 (c .before .before .args .settings .fourth) 3 (c .before .before .pre .1 .fourth) (omega arith)))
@@ -27,4 +21,4 @@ returns c =
 
 pub worst-grouped-spec : {M : Type 1} → statement M
 worst-grouped-spec =
-    tie.close (tie.spec number-or-requires number-or-requires-2 worst-numeral-requires returns)
+    tie.close (tie.spec (λ c κs. search needs) (λ c κs. search needs) worst-numeral-requires returns)

@@ -7,23 +7,11 @@ use Rattle.turns.proofs.WorstBy.{most-plain, most-grouped}
 use Rattle.turns.proofs.lengths.worst_numeral.Statement.{statement}
 use Rattle.turns.proofs.lengths.worst_numeral.Tie as tie
 
-digit-count-requires : tie.Need-digit-count-requires
-digit-count-requires c κs = search needs
-
-sub-larger : tie.Need-sub-larger
-sub-larger c = search needs
-
-div-larger : tie.Need-div-larger
-div-larger c = search needs
-
 add-larger : tie.Need-add-larger
 add-larger c = omega (arith, div-le-self ((c .before .digit-count .result) - 1) (c .before .before .args .group))
 
 add-larger-2 : tie.Need-add-larger-2
 add-larger-2 c = omega (arith, div-le-self ((c .before .digit-count .result) - 1) (c .before .before .args .group))
-
-larger-requires : tie.Need-larger-requires
-larger-requires c κs = search needs
 
 returns : tie.Need-returns
 returns c =
@@ -31,12 +19,6 @@ returns c =
     let digit-count = c .before .before .digit-count in
     most-grouped (args .base) (args .width) (args .group) (digit-count .ensures .0) (args .colon)
     (c .before .if1 .taken) (c .larger .ensures)
-
-add-larger-3 : tie.Need-add-larger-3
-add-larger-3 c = search needs
-
-larger-requires-2 : tie.Need-larger-requires-2
-larger-requires-2 c κs = search needs
 
 returns-2 : tie.Need-returns-2
 returns-2 c =
@@ -49,13 +31,13 @@ pub worst-numeral-spec : {M : Type 1} → statement M
 worst-numeral-spec =
     tie.close
     (tie.spec
-    digit-count-requires
-    sub-larger
-    div-larger
+    (λ c κs. search needs)
+    (λ c. search needs)
+    (λ c. search needs)
     add-larger
     add-larger-2
-    larger-requires
+    (λ c κs. search needs)
     returns
-    add-larger-3
-    larger-requires-2
+    (λ c. search needs)
+    (λ c κs. search needs)
     returns-2)

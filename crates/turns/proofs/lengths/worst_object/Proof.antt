@@ -4,21 +4,6 @@ use Rattle.turns.proofs.WorstBy.{of-boolean, of-integer, of-character, 
 use Rattle.turns.proofs.lengths.worst_object.Statement.{statement}
 use Rattle.turns.proofs.lengths.worst_object.Tie as tie
 
-greatest-requires : tie.Need-greatest-requires
-greatest-requires c κs = search needs
-
-greatest-requires-2 : tie.Need-greatest-requires-2
-greatest-requires-2 c κs = search needs
-
-greatest-requires-3 : tie.Need-greatest-requires-3
-greatest-requires-3 c κs = search needs
-
-greatest-requires-4 : tie.Need-greatest-requires-4
-greatest-requires-4 c κs = search needs
-
-larger-requires : tie.Need-larger-requires
-larger-requires c κs = search needs
-
 returns : tie.Need-returns
 returns c =
     let args = c .before .before .before .before .before .args in
@@ -28,18 +13,6 @@ returns c =
     of-name (args .longest) (args .quoted) (args .minwidth) (args .padinc) (args .minpad) (args .kind) (arm .keys3)
     (if1 .taken) (greatest3 .ensures) (c .before .greatest4 .ensures) (c .larger .ensures)
 
-greatest-requires-5 : tie.Need-greatest-requires-5
-greatest-requires-5 c κs = search needs
-
-mul-greatest : tie.Need-mul-greatest
-mul-greatest c = search needs
-
-add-greatest : tie.Need-add-greatest
-add-greatest c = search needs
-
-greatest-requires-6 : tie.Need-greatest-requires-6
-greatest-requires-6 c κs = search needs
-
 returns-2 : tie.Need-returns-2
 returns-2 c =
     let args = c .before .before .before .args in
@@ -47,9 +20,6 @@ returns-2 c =
     let kind = c .before .before .before .pre .1 .0 in
     of-quoted (args .longest) (args .quoted) (args .minwidth) (args .padinc) (args .minpad) (args .kind)
     (is-string (args .kind) kind (none .0 .0 .1) (none .0 .1) (none .1)) (c .before .if2 .taken) (c .greatest6 .ensures)
-
-greatest-requires-7 : tie.Need-greatest-requires-7
-greatest-requires-7 c κs = search needs
 
 returns-3 : tie.Need-returns-3
 returns-3 c =
@@ -82,18 +52,18 @@ pub worst-object-spec : {M : Type 1} → statement M
 worst-object-spec =
     tie.close
     (tie.spec
-    greatest-requires
-    greatest-requires-2
-    greatest-requires-3
-    greatest-requires-4
-    larger-requires
+    (λ c κs. search needs)
+    (λ c κs. search needs)
+    (λ c κs. search needs)
+    (λ c κs. search needs)
+    (λ c κs. search needs)
     returns
-    greatest-requires-5
-    mul-greatest
-    add-greatest
-    greatest-requires-6
+    (λ c κs. search needs)
+    (λ c. search needs)
+    (λ c. search needs)
+    (λ c κs. search needs)
     returns-2
-    greatest-requires-7
+    (λ c κs. search needs)
     returns-3
     returns-4
     returns-5

@@ -5,44 +5,14 @@ use Rattle.vet.proofs.Lengths.{shown-kind}
 use Rattle.turns.proofs.lengths.worst_of.Statement.{statement}
 use Rattle.turns.proofs.lengths.worst_of.Tie as tie
 
-enum-known-form : tie.Need-enum-known-form
-enum-known-form c = search needs
-
 worst-padded-requires : tie.Need-worst-padded-requires
 worst-padded-requires c κs =
     ((rw (c .before .form .given .1) at (c .before .before .before .pre .0)) .places, (shown-kind _ (c .before .before .before .pre .1 .0 .0) (rw (c .before .form .given .1) at (c .before .before .before .pre .1 .1)), c .before .before .before .pre .1 .0 .1))
-
-enum-known-form-2 : tie.Need-enum-known-form-2
-enum-known-form-2 c = search needs
 
 worst-grouped-requires : tie.Need-worst-grouped-requires
 worst-grouped-requires c κs =
     let w = rw (c .before .form2 .given .1) at (c .before .before .before .pre .0) in
     (w .base, w .places)
-
-enum-told : tie.Need-enum-told
-enum-told c = search needs
-
-worst-glyph-requires : tie.Need-worst-glyph-requires
-worst-glyph-requires c κs = search needs
-
-enum-told-2 : tie.Need-enum-told-2
-enum-told-2 c = search needs
-
-worst-plural-requires : tie.Need-worst-plural-requires
-worst-plural-requires c κs = search needs
-
-enum-told-3 : tie.Need-enum-told-3
-enum-told-3 c = search needs
-
-number-or-requires : tie.Need-number-or-requires
-number-or-requires c κs = search needs
-
-enum-told-4 : tie.Need-enum-told-4
-enum-told-4 c = search needs
-
-worst-fold-requires : tie.Need-worst-fold-requires
-worst-fold-requires c κs = search needs
 
 returns : tie.Need-returns
 unfolding worst
@@ -78,18 +48,18 @@ pub worst-of-spec : {M : Type 1} → statement M
 worst-of-spec =
     tie.close
     (tie.spec
-    enum-known-form
+    (λ c. search needs)
     worst-padded-requires
-    enum-known-form-2
+    (λ c. search needs)
     worst-grouped-requires
-    enum-told
-    worst-glyph-requires
-    enum-told-2
-    worst-plural-requires
-    enum-told-3
-    number-or-requires
-    enum-told-4
-    worst-fold-requires
+    (λ c. search needs)
+    (λ c κs. search needs)
+    (λ c. search needs)
+    (λ c κs. search needs)
+    (λ c. search needs)
+    (λ c κs. search needs)
+    (λ c. search needs)
+    (λ c κs. search needs)
     returns
     returns-2
     returns-3

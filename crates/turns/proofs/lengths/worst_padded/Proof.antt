@@ -8,15 +8,6 @@ use Rattle.rules.proofs.Rowed.{number-least, number-most}
 use Rattle.turns.proofs.lengths.worst_padded.Statement.{statement}
 use Rattle.turns.proofs.lengths.worst_padded.Tie as tie
 
-number-or-requires : tie.Need-number-or-requires
-number-or-requires c κs = search needs
-
-number-or-requires-2 : tie.Need-number-or-requires-2
-number-or-requires-2 c κs = search needs
-
-number-or-requires-3 : tie.Need-number-or-requires-3
-number-or-requires-3 c κs = search needs
-
 worst-object-requires : tie.Need-worst-object-requires
 worst-object-requires c κs =
     let s = c .before .before .before .args .settings in (
@@ -40,8 +31,8 @@ pub worst-padded-spec : {M : Type 1} → statement M
 worst-padded-spec =
     tie.close
     (tie.spec
-    number-or-requires
-    number-or-requires-2
-    number-or-requires-3
+    (λ c κs. search needs)
+    (λ c κs. search needs)
+    (λ c κs. search needs)
     worst-object-requires
     returns)

@@ -11,12 +11,6 @@ returns : tie.Need-returns
 returns c =
     own-none (c .before .args .kinds .now) (c .before .args .next .0) _ (c .if1 .taken)
 
-shared-slice-read-kind : tie.Need-shared-slice-read-kind
-shared-slice-read-kind c = search needs
-
-add-t9 : tie.Need-add-t9
-add-t9 c = search needs
-
 returns-2 : tie.Need-returns-2
 returns-2 c =
     own-right (c .before .before .before .args .kinds .now) (c .before .before .before .args .next .0) _ (Stops 7) 1 (c .before .before .if1 .left) (c .if2 .taken)
@@ -27,4 +21,4 @@ returns-3 c =
 
 pub start-numbered-spec : {M : Type 1} → statement M
 start-numbered-spec =
-    tie.close (tie.spec returns shared-slice-read-kind add-t9 returns-2 returns-3)
+    tie.close (tie.spec returns (λ c. search needs) (λ c. search needs) returns-2 returns-3)

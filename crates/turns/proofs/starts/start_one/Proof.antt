@@ -9,9 +9,6 @@ returns : tie.Need-returns
 returns c =
     own-none (c .before .args .kinds .now) (c .before .args .next .0) _ (c .if1 .taken)
 
-shared-slice-read-kind : tie.Need-shared-slice-read-kind
-shared-slice-read-kind c = search needs
-
 returns-2 : tie.Need-returns-2
 returns-2 c =
     own-right (c .before .before .before .args .kinds .now) (c .before .before .before .args .next .0) _ (Stops 11) 0 (c .before .before .if1 .left) (c .if2 .taken)
@@ -21,4 +18,4 @@ returns-3 c =
     own-wrong (c .before .before .before .args .kinds .now) (c .before .before .before .args .next .0) (Goes (c .before .before .before .args .next) 0) _ 0 (c .before .before .if1 .left) (c .if2 .left)
 
 pub start-one-spec : {M : Type 1} → statement M
-start-one-spec = tie.close (tie.spec returns shared-slice-read-kind returns-2 returns-3)
+start-one-spec = tie.close (tie.spec returns (λ c. search needs) returns-2 returns-3)

@@ -4,18 +4,6 @@ use Rattle.turns.proofs.StartBy.{start-by, start-refused}
 use Rattle.turns.proofs.starts.start_plain.Statement.{statement}
 use Rattle.turns.proofs.starts.start_plain.Tie as tie
 
-settle-fixed-requires : tie.Need-settle-fixed-requires
-settle-fixed-requires c κs = search needs
-
-enum-known-settled : tie.Need-enum-known-settled
-enum-known-settled c = search needs
-
-start-settled-requires : tie.Need-start-settled-requires
-start-settled-requires c κs = search needs
-
-enum-known-settled-2 : tie.Need-enum-known-settled-2
-enum-known-settled-2 c = search needs
-
 returns : tie.Need-returns
 returns c =
     let start = c .before .before .before .before .before .before in
@@ -32,9 +20,9 @@ pub start-plain-spec : {M : Type 1} → statement M
 start-plain-spec =
     tie.close
     (tie.spec
-    settle-fixed-requires
-    enum-known-settled
-    start-settled-requires
-    enum-known-settled-2
+    (λ c κs. search needs)
+    (λ c. search needs)
+    (λ c κs. search needs)
+    (λ c. search needs)
     returns
     returns-2)

@@ -3,15 +3,6 @@ use borrow.Author.Needs.{needs}
 use Rattle.turns.proofs.starts.start_settled.Statement.{statement}
 use Rattle.turns.proofs.starts.start_settled.Tie as tie
 
-enum-told : tie.Need-enum-told
-enum-told c = search needs
-
-enum-told-2 : tie.Need-enum-told-2
-enum-told-2 c = search needs
-
-start-numbered-requires : tie.Need-start-numbered-requires
-start-numbered-requires c κs = search needs
-
 returns : tie.Need-returns
 returns c =
     λ longest. rw (c .enum-told .given .1)
@@ -22,4 +13,4 @@ returns-2 c =
 
 pub start-settled-spec : {M : Type 1} → statement M
 start-settled-spec =
-    tie.close (tie.spec enum-told enum-told-2 start-numbered-requires returns returns-2)
+    tie.close (tie.spec (λ c. search needs) (λ c. search needs) (λ c κs. search needs) returns returns-2)

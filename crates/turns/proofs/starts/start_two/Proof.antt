@@ -8,12 +8,9 @@ returns : tie.Need-returns
 returns c =
     own-none (c .before .args .kinds .now) (c .before .args .next .0) _ (c .if1 .taken)
 
-add-t4 : tie.Need-add-t4
-add-t4 c = search needs
-
 returns-2 : tie.Need-returns-2
 returns-2 c =
     own-any (c .before .args .kinds .now) (c .before .args .next .0) _ (c .if1 .left)
 
 pub start-two-spec : {M : Type 1} → statement M
-start-two-spec = tie.close (tie.spec returns add-t4 returns-2)
+start-two-spec = tie.close (tie.spec returns (λ c. search needs) returns-2)

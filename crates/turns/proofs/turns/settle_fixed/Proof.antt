@@ -4,15 +4,6 @@ use Rattle.turns.proofs.TurnBy.{fixed-supplied, settled-on}
 use Rattle.turns.proofs.turns.settle_fixed.Statement.{statement}
 use Rattle.turns.proofs.turns.settle_fixed.Tie as tie
 
-sub-settle-directive : tie.Need-sub-settle-directive
-sub-settle-directive c = search needs
-
-part-settle-directive-start : tie.Need-part-settle-directive-start
-part-settle-directive-start c = search needs
-
-part-settle-directive-end : tie.Need-part-settle-directive-end
-part-settle-directive-end c = search needs
-
 settle-directive-requires : tie.Need-settle-directive-requires
 settle-directive-requires c κs =
     (fixed-supplied (c .before .before .args .d .parameters) (c .before .before .pre .0), c .before .before .pre .1)
@@ -25,8 +16,8 @@ pub settle-fixed-spec : {M : Type 1} → statement M
 settle-fixed-spec =
     tie.close
     (tie.spec
-    sub-settle-directive
-    part-settle-directive-start
-    part-settle-directive-end
+    (λ c. search needs)
+    (λ c. search needs)
+    (λ c. search needs)
     settle-directive-requires
     returns)

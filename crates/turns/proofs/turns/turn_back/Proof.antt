@@ -12,12 +12,6 @@ returns c =
     let a = c .before .before .args in
     back-none (a .kinds .now) (a .longest) (a .form) (a .d) (a .settings) (a .next .0) (c .if1 .taken)
 
-sub-turn-shown : tie.Need-sub-turn-shown
-sub-turn-shown c = search needs
-
-shared-slice-read-turn-shown : tie.Need-shared-slice-read-turn-shown
-shared-slice-read-turn-shown c = search needs
-
 turn-shown-requires : tie.Need-turn-shown-requires
 turn-shown-requires c κs =
     let a = c .before .before .before .args in
@@ -31,4 +25,4 @@ returns-2 c =
 pub turn-back-spec : {M : Type 1} → statement M
 turn-back-spec =
     tie.close
-    (tie.spec returns sub-turn-shown shared-slice-read-turn-shown turn-shown-requires returns-2)
+    (tie.spec returns (λ c. search needs) (λ c. search needs) turn-shown-requires returns-2)

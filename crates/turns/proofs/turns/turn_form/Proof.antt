@@ -4,20 +4,11 @@ use Rattle.turns.proofs.TurnBy.{settled-well, turn-worked, turn-refused
 use Rattle.turns.proofs.turns.turn_form.Statement.{statement}
 use Rattle.turns.proofs.turns.turn_form.Tie as tie
 
-settle-fixed-requires : tie.Need-settle-fixed-requires
-settle-fixed-requires c κs = search needs
-
-enum-known-settled : tie.Need-enum-known-settled
-enum-known-settled c = search needs
-
 turn-settled-requires : tie.Need-turn-settled-requires
 turn-settled-requires c κs =
     let start = c .before .before .before .before .before in
     let a = start .args in
     (settled-well (a .kinds .now) (a .longest) (a .form) (a .d) (a .next .0) (start .pre .0) (rw (start .pre .0 .code) at (c .before .before .before .settle-fixed .ensures)) (c .before .settled .given .1), start .pre .1)
-
-enum-known-settled-2 : tie.Need-enum-known-settled-2
-enum-known-settled-2 c = search needs
 
 returns : tie.Need-returns
 returns c =
@@ -35,9 +26,9 @@ pub turn-form-spec : {M : Type 1} → statement M
 turn-form-spec =
     tie.close
     (tie.spec
-    settle-fixed-requires
-    enum-known-settled
+    (λ c κs. search needs)
+    (λ c. search needs)
     turn-settled-requires
-    enum-known-settled-2
+    (λ c. search needs)
     returns
     returns-2)

@@ -4,18 +4,6 @@ use Rattle.turns.proofs.TurnBy.{numbered-given, numbered-own}
 use Rattle.turns.proofs.turns.turn_numbered.Statement.{statement}
 use Rattle.turns.proofs.turns.turn_numbered.Tie as tie
 
-enum-known-first : tie.Need-enum-known-first
-enum-known-first c = search needs
-
-glyph-size-requires : tie.Need-glyph-size-requires
-glyph-size-requires c κs = search needs
-
-enum-told : tie.Need-enum-told
-enum-told c = search needs
-
-turn-own-requires : tie.Need-turn-own-requires
-turn-own-requires c κs = search needs
-
 returns : tie.Need-returns
 returns c =
     let a = c .before .before .before .before .before .args in
@@ -29,4 +17,4 @@ returns-2 c =
 pub turn-numbered-spec : {M : Type 1} → statement M
 turn-numbered-spec =
     tie.close
-    (tie.spec enum-known-first glyph-size-requires enum-told turn-own-requires returns returns-2)
+    (tie.spec (λ c. search needs) (λ c κs. search needs) (λ c. search needs) (λ c κs. search needs) returns returns-2)

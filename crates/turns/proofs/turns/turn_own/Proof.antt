@@ -10,12 +10,6 @@ returns c =
     let a = c .before .before .args in
     own-none (a .kinds .now) (a .longest) (a .form) (a .d) (a .settings) (a .next .0) (c .if1 .taken)
 
-shared-slice-read-turn-shown : tie.Need-shared-slice-read-turn-shown
-shared-slice-read-turn-shown c = search needs
-
-add-t8 : tie.Need-add-t8
-add-t8 c = search needs
-
 turn-shown-requires : tie.Need-turn-shown-requires
 turn-shown-requires c κs =
     let a = c .before .before .before .args in
@@ -29,4 +23,4 @@ returns-2 c =
 pub turn-own-spec : {M : Type 1} → statement M
 turn-own-spec =
     tie.close
-    (tie.spec returns shared-slice-read-turn-shown add-t8 turn-shown-requires returns-2)
+    (tie.spec returns (λ c. search needs) (λ c. search needs) turn-shown-requires returns-2)

@@ -6,41 +6,14 @@ use Rattle.turns.proofs.TurnBy.{by-next, by-back, by-no-back, by-number
 use Rattle.turns.proofs.turns.turn_settled.Statement.{statement}
 use Rattle.turns.proofs.turns.turn_settled.Tie as tie
 
-form-row-requires : tie.Need-form-row-requires
-form-row-requires c κs = search needs
-
-enum-told : tie.Need-enum-told
-enum-told c = search needs
-
 worst-of-requires : tie.Need-worst-of-requires
 worst-of-requires c κs =
     (c .before .before .before .before .pre .0, ((omega arith, c .before .before .before .before .pre .1 .0 .long), takes-none (c .before .before .before .before .args .form) (rw (c .before .before .form-row .ensures) at (c .enum-told .given .1)) .takes 0))
-
-enum-told-2 : tie.Need-enum-told-2
-enum-told-2 c = search needs
-
-turn-own-requires : tie.Need-turn-own-requires
-turn-own-requires c κs = search needs
-
-enum-told-3 : tie.Need-enum-told-3
-enum-told-3 c = search needs
-
-turn-back-requires : tie.Need-turn-back-requires
-turn-back-requires c κs = search needs
 
 returns : tie.Need-returns
 returns c =
     let a = c .before .before .before .before .before .before .args in
     by-back (a .kinds .now) (a .longest) (a .form) (a .d) (a .settings) (a .next .0) (rw (c .before .before .before .before .form-row .ensures) at (c .before .before .enum-told3 .given .1)) (c .before .if1 .taken) (c .turn-back .ensures)
-
-turn-own-requires-2 : tie.Need-turn-own-requires-2
-turn-own-requires-2 c κs = search needs
-
-enum-told-4 : tie.Need-enum-told-4
-enum-told-4 c = search needs
-
-turn-numbered-requires : tie.Need-turn-numbered-requires
-turn-numbered-requires c κs = search needs
 
 returns-2 : tie.Need-returns-2
 returns-2 c =
@@ -66,17 +39,17 @@ pub turn-settled-spec : {M : Type 1} → statement M
 turn-settled-spec =
     tie.close
     (tie.spec
-    form-row-requires
-    enum-told
+    (λ c κs. search needs)
+    (λ c. search needs)
     worst-of-requires
-    enum-told-2
-    turn-own-requires
-    enum-told-3
-    turn-back-requires
+    (λ c. search needs)
+    (λ c κs. search needs)
+    (λ c. search needs)
+    (λ c κs. search needs)
     returns
-    turn-own-requires-2
-    enum-told-4
-    turn-numbered-requires
+    (λ c κs. search needs)
+    (λ c. search needs)
+    (λ c κs. search needs)
     returns-2
     returns-3
     returns-4

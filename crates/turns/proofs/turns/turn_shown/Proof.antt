@@ -5,12 +5,6 @@ use Rattle.turns.proofs.TurnBy.{shown-yes, shown-no}
 use Rattle.turns.proofs.turns.turn_shown.Statement.{statement}
 use Rattle.turns.proofs.turns.turn_shown.Tie as tie
 
-wide-requires : tie.Need-wide-requires
-wide-requires c κs = search needs
-
-takes-kind-requires : tie.Need-takes-kind-requires
-takes-kind-requires c κs = search needs
-
 worst-of-requires : tie.Need-worst-of-requires
 worst-of-requires c κs =
     (c .before .before .before .pre .0, (c .before .before .before .pre .1, rw (c .before .before .wide .ensures .0) at (sym (c .before .takes-kind .ensures) ∙ c .if1 .taken)))
@@ -27,4 +21,4 @@ returns-2 c =
 
 pub turn-shown-spec : {M : Type 1} → statement M
 turn-shown-spec =
-    tie.close (tie.spec wide-requires takes-kind-requires worst-of-requires returns returns-2)
+    tie.close (tie.spec (λ c κs. search needs) (λ c κs. search needs) worst-of-requires returns returns-2)

@@ -9,9 +9,6 @@ returns c =
     let args = c .before .before .args in
     ask-many (args .kinds .now) (args .longest) (c .if1 .taken)
 
-are-known-requires : tie.Need-are-known-requires
-are-known-requires c κs = search needs
-
 returns-2 : tie.Need-returns-2
 returns-2 c =
     let args = c .before .before .before .before .args in
@@ -27,4 +24,4 @@ returns-3 c =
     ask-unknown (args .kinds .now) (args .longest) (if1 .left) (are-known .result) (are-known .ensures) (c .if2 .left)
 
 pub may-ask-spec : {M : Type 1} → statement M
-may-ask-spec = tie.close (tie.spec returns are-known-requires returns-2 returns-3)
+may-ask-spec = tie.close (tie.spec returns (λ c κs. search needs) returns-2 returns-3)

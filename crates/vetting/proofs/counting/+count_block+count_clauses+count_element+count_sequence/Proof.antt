@@ -127,12 +127,6 @@ count-block-start-of-requires t c κs =
     let pre = c .before .before .pre .1 in
     (pre .1 .1 .1 .0, pre .1 .1 .1 .1)
 
-count-block-enum-known-turn : (t : ℕ) → count-block-lts.Need-enum-known-turn (count-block-claims t) (count-block-at t) count-block.Post
-count-block-enum-known-turn t c = search needs
-
-count-block-enum-known-turn-2 : (t : ℕ) → count-block-lts.Need-enum-known-turn-2 (count-block-claims t) (count-block-at t) count-block.Post
-count-block-enum-known-turn-2 t c = search needs
-
 count-block-count-clauses-requires : (t : ℕ) → count-block-lts.Need-count-clauses-requires (count-block-claims t) (count-block-at t) count-block.Post
 count-block-count-clauses-requires t c κs =
     let args = c .before .before .before .before .before .before .args in
@@ -141,15 +135,6 @@ count-block-count-clauses-requires t c κs =
       omega (arith, c .before .before .before .before .before .before .pre .0),
       (pre .0, (next-vettable (pre .1 .0) (args .d) (pre .1 .1 .0), start-inside (args .format .now) (args .kinds .now) (args .longest) (args .p) (args .next .0) (args .d) (pre .1 .1 .0) (pre .1 .1 .1 .0) (pre .1 .1 .1 .1) _ _ begun)),
     )
-
-count-block-enum-known-clauses : (t : ℕ) → count-block-lts.Need-enum-known-clauses (count-block-claims t) (count-block-at t) count-block.Post
-count-block-enum-known-clauses t c = search needs
-
-count-block-enum-known-clauses-2 : (t : ℕ) → count-block-lts.Need-enum-known-clauses-2 (count-block-claims t) (count-block-at t) count-block.Post
-count-block-enum-known-clauses-2 t c = search needs
-
-count-block-close-block-requires : (t : ℕ) → count-block-lts.Need-close-block-requires (count-block-claims t) (count-block-at t) count-block.Post
-count-block-close-block-requires t c κs = search needs
 
 count-block-returns : (t : ℕ) → count-block-lts.Need-returns (count-block-claims t) (count-block-at t) count-block.Post
 count-block-returns t c =
@@ -199,24 +184,12 @@ count-clauses-count-sequence-requires t c κs =
     let pre = c .before .before .before .pre .1 in
     (omega (arith, c .before .before .before .pre .0, c .loop .inv .least), (pre .0, (c .loop .inv .vettable, pre .1 .1)))
 
-count-clauses-enum-known-counted : (t : ℕ) → count-clauses-lts.Need-enum-known-counted (count-clauses-claims t) (count-clauses-at t) count-clauses.Post count-clauses-Inv-loop count-clauses-μ-loop
-count-clauses-enum-known-counted t c = search needs
-
 count-clauses-returns : (t : ℕ) → count-clauses-lts.Need-returns (count-clauses-claims t) (count-clauses-at t) count-clauses.Post count-clauses-Inv-loop count-clauses-μ-loop
 count-clauses-returns t c =
     let args = c .before .before .before .before .before .before .before .args in
     gather-fails (c .before .before .before .before .loop .inv)
     (subst (SequenceIs (args .format .now) (args .kinds .now) (args .longest) (c .before .before .before .before .loop .z) (args .start .0)) (c .before .counted .given .1)
     (c .before .before .before .count-sequence .ensures))
-
-count-clauses-enum-known-counted-2 : (t : ℕ) → count-clauses-lts.Need-enum-known-counted-2 (count-clauses-claims t) (count-clauses-at t) count-clauses.Post count-clauses-Inv-loop count-clauses-μ-loop
-count-clauses-enum-known-counted-2 t c = search needs
-
-count-clauses-meet-requires : (t : ℕ) → count-clauses-lts.Need-meet-requires (count-clauses-claims t) (count-clauses-at t) count-clauses.Post count-clauses-Inv-loop count-clauses-μ-loop
-count-clauses-meet-requires t c κs = search needs
-
-count-clauses-enum-known-end : (t : ℕ) → count-clauses-lts.Need-enum-known-end (count-clauses-claims t) (count-clauses-at t) count-clauses.Post count-clauses-Inv-loop count-clauses-μ-loop
-count-clauses-enum-known-end t c = search needs
 
 count-clauses-loop-less : (t : ℕ) → count-clauses-lts.Need-loop-less (count-clauses-claims t) (count-clauses-at t) count-clauses.Post count-clauses-Inv-loop count-clauses-μ-loop
 count-clauses-loop-less t c =
@@ -234,9 +207,6 @@ count-clauses-loop-again t c =
     (c .before .before .before .before .before .before .before .count-sequence .ensures) (c .before .before .before .before .before .counted2 .given .1) (c .before .end .given .1) in
     gather-on (head .inv) way (c .before .before .before .meet .result) (c .before .before .before .meet .ensures)
 
-count-clauses-enum-known-end-2 : (t : ℕ) → count-clauses-lts.Need-enum-known-end-2 (count-clauses-claims t) (count-clauses-at t) count-clauses.Post count-clauses-Inv-loop count-clauses-μ-loop
-count-clauses-enum-known-end-2 t c = search needs
-
 count-clauses-with-none-requires : (t : ℕ) → count-clauses-lts.Need-with-none-requires (count-clauses-claims t) (count-clauses-at t) count-clauses.Post count-clauses-Inv-loop count-clauses-μ-loop
 count-clauses-with-none-requires t c κs =
     let args = c .before .before .before .before .before .before .before .before .before .before .before .args in
@@ -252,23 +222,11 @@ count-clauses-returns-2 t c =
     gather-last (head .inv) way (c .with-none .result)
     (c .with-none .ensures ∙ ap (withNone (args .d) (head .fallback) (args .start .0)) (c .before .before .before .before .meet .ensures))
 
-count-element-item-at-requires : (t : ℕ) → count-element-lts.Need-item-at-requires (count-element-claims t) (count-element-at t) count-element.Post
-count-element-item-at-requires t c κs = search needs
-
-count-element-enum-told : (t : ℕ) → count-element-lts.Need-enum-told (count-element-claims t) (count-element-at t) count-element.Post
-count-element-enum-told t c = search needs
-
 count-element-add-t11 : (t : ℕ) → count-element-lts.Need-add-t11 (count-element-claims t) (count-element-at t) count-element.Post
 count-element-add-t11 t c =
     let args = c .before .before .before .before .before .args in
     let pre = c .before .before .before .before .before .pre .1 in
     omega (arith, stands (args .format .now) (args .p) (Literal _) (sym (c .before .before .item-at .ensures) ∙ c .enum-told .given .1), c .before .before .before .before .before .good)
-
-count-element-enum-known-item : (t : ℕ) → count-element-lts.Need-enum-known-item (count-element-claims t) (count-element-at t) count-element.Post
-count-element-enum-known-item t c = search needs
-
-count-element-enum-known-code : (t : ℕ) → count-element-lts.Need-enum-known-code (count-element-claims t) (count-element-at t) count-element.Post
-count-element-enum-known-code t c = search needs
 
 count-element-turn-form-requires : (t : ℕ) → count-element-lts.Need-turn-form-requires (count-element-claims t) (count-element-at t) count-element.Post
 count-element-turn-form-requires t c κs =
@@ -276,12 +234,6 @@ count-element-turn-form-requires t c κs =
     let pre = c .before .before .before .before .before .before .before .before .before .pre .1 in
     let is = sym (c .before .before .before .before .before .before .item-at .ensures) ∙ c .before .before .before .before .item .given .1 in
     (writing-of _ (vettable-writes (pre .1 .0) _ is _ (c .before .code .given .1)) _ (c .before .code .given .1), (pre .0, pre .1 .1))
-
-count-element-element-by-requires : (t : ℕ) → count-element-lts.Need-element-by-requires (count-element-claims t) (count-element-at t) count-element.Post
-count-element-element-by-requires t c κs = search needs
-
-count-element-enum-told-2 : (t : ℕ) → count-element-lts.Need-enum-told-2 (count-element-claims t) (count-element-at t) count-element.Post
-count-element-enum-told-2 t c = search needs
 
 count-element-count-block-requires : (t : ℕ) → count-element-lts.Need-count-block-requires (count-element-claims t) (count-element-at t) count-element.Post
 count-element-count-block-requires t c κs =
@@ -292,9 +244,6 @@ count-element-count-block-requires t c κs =
       omega (arith, c .before .before .before .before .before .before .before .before .pre .0, inside .above, inside .most),
       (pre .0, (pre .1 .0, (is, (vettable-opens (pre .1 .0) _ is _ (c .enum-told2 .given .1), pre .1 .1)))),
     )
-
-count-element-enum-told-3 : (t : ℕ) → count-element-lts.Need-enum-told-3 (count-element-claims t) (count-element-at t) count-element.Post
-count-element-enum-told-3 t c = search needs
 
 count-element-returns : (t : ℕ) → count-element-lts.Need-returns (count-element-claims t) (count-element-at t) count-element.Post
 count-element-returns t c =
@@ -351,9 +300,6 @@ count-sequence-count-element-requires t c κs =
     let pre = c .before .before .before .pre .1 in
     (omega (arith, c .before .before .before .pre .0, c .loop .inv .least), (pre .0, (c .loop .inv .vettable, c .loop .inv .reached)))
 
-count-sequence-enum-known-e : (t : ℕ) → count-sequence-lts.Need-enum-known-e (count-sequence-claims t) (count-sequence-at t) count-sequence.Post count-sequence-Inv-loop count-sequence-μ-loop
-count-sequence-enum-known-e t c = search needs
-
 count-sequence-returns : (t : ℕ) → count-sequence-lts.Need-returns (count-sequence-claims t) (count-sequence-at t) count-sequence.Post count-sequence-Inv-loop count-sequence-μ-loop
 count-sequence-returns t c =
     let args = c .before .before .before .before .before .before .before .args in
@@ -362,9 +308,6 @@ count-sequence-returns t c =
     (c .before .before .before .count-element .ensures) in
     walk-fails (head .inv) element
 
-count-sequence-enum-known-e-2 : (t : ℕ) → count-sequence-lts.Need-enum-known-e-2 (count-sequence-claims t) (count-sequence-at t) count-sequence.Post count-sequence-Inv-loop count-sequence-μ-loop
-count-sequence-enum-known-e-2 t c = search needs
-
 count-sequence-returns-2 : (t : ℕ) → count-sequence-lts.Need-returns-2 (count-sequence-claims t) (count-sequence-at t) count-sequence.Post count-sequence-Inv-loop count-sequence-μ-loop
 count-sequence-returns-2 t c =
     let args = c .before .before .before .before .before .before .before .args in
@@ -372,9 +315,6 @@ count-sequence-returns-2 t c =
     let element = subst (ElementIs (args .format .now) (args .kinds .now) (args .longest) (head .p) (head .next .0)) (c .before .e2 .given .1)
     (c .before .before .before .count-element .ensures) in
     walk-ends (head .inv) _ element
-
-count-sequence-enum-known-e-3 : (t : ℕ) → count-sequence-lts.Need-enum-known-e-3 (count-sequence-claims t) (count-sequence-at t) count-sequence.Post count-sequence-Inv-loop count-sequence-μ-loop
-count-sequence-enum-known-e-3 t c = search needs
 
 count-sequence-add-sum : (t : ℕ) → count-sequence-lts.Need-add-sum (count-sequence-claims t) (count-sequence-at t) count-sequence.Post count-sequence-Inv-loop count-sequence-μ-loop
 count-sequence-add-sum t c =
@@ -411,12 +351,12 @@ pub +count-block+count-clauses+count-element+count-sequence-spec : {M : Type 1} 
     (count-block-at t)
     count-block.Post
     (count-block-start-of-requires t)
-    (count-block-enum-known-turn t)
-    (count-block-enum-known-turn-2 t)
+    (λ c. search needs)
+    (λ c. search needs)
     (count-block-count-clauses-requires t)
-    (count-block-enum-known-clauses t)
-    (count-block-enum-known-clauses-2 t)
-    (count-block-close-block-requires t)
+    (λ c. search needs)
+    (λ c. search needs)
+    (λ c κs. search needs)
     (count-block-returns t)
     (count-block-returns-2 t)
     (count-block-returns-3 t))
@@ -427,29 +367,29 @@ pub +count-block+count-clauses+count-element+count-sequence-spec : {M : Type 1} 
     count-clauses-μ-loop
     (count-clauses-loop-holds t)
     (count-clauses-count-sequence-requires t)
-    (count-clauses-enum-known-counted t)
+    (λ c. search needs)
     (count-clauses-returns t)
-    (count-clauses-enum-known-counted-2 t)
-    (count-clauses-meet-requires t)
-    (count-clauses-enum-known-end t)
+    (λ c. search needs)
+    (λ c κs. search needs)
+    (λ c. search needs)
     (count-clauses-loop-less t)
     (count-clauses-loop-again t)
-    (count-clauses-enum-known-end-2 t)
+    (λ c. search needs)
     (count-clauses-with-none-requires t)
     (count-clauses-returns-2 t))
     (λ t. count-element-lts.spec (count-element-claims t)
     (count-element-at t)
     count-element.Post
-    (count-element-item-at-requires t)
-    (count-element-enum-told t)
+    (λ c κs. search needs)
+    (λ c. search needs)
     (count-element-add-t11 t)
-    (count-element-enum-known-item t)
-    (count-element-enum-known-code t)
+    (λ c. search needs)
+    (λ c. search needs)
     (count-element-turn-form-requires t)
-    (count-element-element-by-requires t)
-    (count-element-enum-told-2 t)
+    (λ c κs. search needs)
+    (λ c. search needs)
     (count-element-count-block-requires t)
-    (count-element-enum-told-3 t)
+    (λ c. search needs)
     (count-element-returns t)
     (count-element-returns-2 t)
     (count-element-returns-3 t)
@@ -464,11 +404,11 @@ pub +count-block+count-clauses+count-element+count-sequence-spec : {M : Type 1} 
     count-sequence-μ-loop
     (count-sequence-loop-holds t)
     (count-sequence-count-element-requires t)
-    (count-sequence-enum-known-e t)
+    (λ c. search needs)
     (count-sequence-returns t)
-    (count-sequence-enum-known-e-2 t)
+    (λ c. search needs)
     (count-sequence-returns-2 t)
-    (count-sequence-enum-known-e-3 t)
+    (λ c. search needs)
     (count-sequence-add-sum t)
     (count-sequence-loop-less t)
     (count-sequence-loop-again t)

@@ -7,9 +7,6 @@ use borrow.Author.Needs.{needs}
 use Rattle.vetting.proofs.counting.close_block.Statement.{statement}
 use Rattle.vetting.proofs.counting.close_block.Tie as tie
 
-enum-known-ends : tie.Need-enum-known-ends
-enum-known-ends c = search needs
-
 returns : tie.Need-returns
 returns c =
     sym (ap (λ (e : Ends). closedBy e (c .before .before .before .args .p) (c .before .before .before .args .place)) (c .before .ends .given .1))
@@ -19,4 +16,4 @@ returns-2 c =
     closed-not (c .before .args .ends) (c .before .args .p) (c .before .args .place) (c .match .keys2)
 
 pub close-block-spec : {M : Type 1} → statement M
-close-block-spec = tie.close (tie.spec enum-known-ends returns returns-2)
+close-block-spec = tie.close (tie.spec (λ c. search needs) returns returns-2)

@@ -11,12 +11,6 @@ count-sequence-requires c κs =
     let pre = c .before .before .pre in
     (pre .0, (vettable-text (c .before .before .args .format .now) (pre .1 .0) (pre .1 .1), omega arith))
 
-enum-known-counted : tie.Need-enum-known-counted
-enum-known-counted c = search needs
-
-enum-known-counted-2 : tie.Need-enum-known-counted-2
-enum-known-counted-2 c = search needs
-
 returns : tie.Need-returns
 returns c =
     let args = c .before .before .before .before .before .before .args in
@@ -32,4 +26,4 @@ returns-2 c =
 pub count-format-spec : {M : Type 1} → statement M
 count-format-spec =
     tie.close
-    (tie.spec count-sequence-requires enum-known-counted enum-known-counted-2 returns returns-2)
+    (tie.spec count-sequence-requires (λ c. search needs) (λ c. search needs) returns returns-2)

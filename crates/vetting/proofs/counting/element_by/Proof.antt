@@ -6,12 +6,6 @@ use borrow.Author.Needs.{needs}
 use Rattle.vetting.proofs.counting.element_by.Statement.{statement}
 use Rattle.vetting.proofs.counting.element_by.Tie as tie
 
-enum-known-turn : tie.Need-enum-known-turn
-enum-known-turn c = search needs
-
-enum-known-turn-2 : tie.Need-enum-known-turn-2
-enum-known-turn-2 c = search needs
-
 returns : tie.Need-returns
 returns c =
     sym (ap (λ (x : Turn). elementBy x (c .before .before .before .args .p) (c .before .before .before .args .place)) (c .before .turn .given .1))
@@ -21,4 +15,4 @@ returns-2 c =
     sym (ap (λ (x : Turn). elementBy x (c .before .before .before .args .p) (c .before .before .before .args .place)) (c .before .turn2 .given .1))
 
 pub element-by-spec : {M : Type 1} → statement M
-element-by-spec = tie.close (tie.spec enum-known-turn enum-known-turn-2 returns returns-2)
+element-by-spec = tie.close (tie.spec (λ c. search needs) (λ c. search needs) returns returns-2)

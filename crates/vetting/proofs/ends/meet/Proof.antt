@@ -7,22 +7,10 @@ use borrow.Author.Needs.{needs}
 use Rattle.vetting.proofs.ends.meet.Statement.{statement}
 use Rattle.vetting.proofs.ends.meet.Tie as tie
 
-enum-told : tie.Need-enum-told
-enum-told c = search needs
-
-enum-known-ends : tie.Need-enum-known-ends
-enum-known-ends c = search needs
-
-larger-requires : tie.Need-larger-requires
-larger-requires c κs = search needs
-
 returns : tie.Need-returns
 returns c =
     let args = c .before .before .before .before .before .before .before .args in
     meet-same (args .ends) (args .next .0) (args .size) _ _ (c .before .before .before .before .before .ends .given .1) (c .before .if1 .taken) (c .larger .result) (c .larger .ensures)
-
-enum-told-2 : tie.Need-enum-told-2
-enum-told-2 c = search needs
 
 returns-2 : tie.Need-returns-2
 unfolding meeting
@@ -45,11 +33,11 @@ pub meet-spec : {M : Type 1} → statement M
 meet-spec =
     tie.close
     (tie.spec
-    enum-told
-    enum-known-ends
-    larger-requires
+    (λ c. search needs)
+    (λ c. search needs)
+    (λ c κs. search needs)
     returns
-    enum-told-2
+    (λ c. search needs)
     returns-2
     returns-3
     returns-4)

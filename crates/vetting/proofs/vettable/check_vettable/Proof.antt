@@ -19,12 +19,6 @@ abbrev μ-loop : tie.MeasureT-loop
 loop-holds : tie.Need-loop-holds Inv-loop μ-loop
 loop-holds c = vettable-start (c .before .args .format .now)
 
-item-at-requires : tie.Need-item-at-requires Inv-loop μ-loop
-item-at-requires c κs = search needs
-
-is-vettable-requires : tie.Need-is-vettable-requires Inv-loop μ-loop
-is-vettable-requires c κs = search needs
-
 returns : tie.Need-returns Inv-loop μ-loop
 returns c =
     let head = c .before .before .before .before .loop in
@@ -66,8 +60,8 @@ check-vettable-spec =
     Inv-loop
     μ-loop
     loop-holds
-    item-at-requires
-    is-vettable-requires
+    (λ c κs. search needs)
+    (λ c κs. search needs)
     returns
     place-after-requires
     loop-less

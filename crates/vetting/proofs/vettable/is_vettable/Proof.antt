@@ -6,24 +6,6 @@ use Rattle.vet.specs.Plain.{plainItem}
 use Rattle.vetting.proofs.vettable.is_vettable.Statement.{statement}
 use Rattle.vetting.proofs.vettable.is_vettable.Tie as tie
 
-enum-told : tie.Need-enum-told
-enum-told c = search needs
-
-enum-told-2 : tie.Need-enum-told-2
-enum-told-2 c = search needs
-
-enum-known-item : tie.Need-enum-known-item
-enum-known-item c = search needs
-
-is-vettable-directive-requires : tie.Need-is-vettable-directive-requires
-is-vettable-directive-requires c κs = search needs
-
-enum-told-3 : tie.Need-enum-told-3
-enum-told-3 c = search needs
-
-enum-told-4 : tie.Need-enum-told-4
-enum-told-4 c = search needs
-
 returns : tie.Need-returns
 unfolding plainItem
 returns c = sym (ap (plainItem true) (c .enum-told .given .1))
@@ -48,12 +30,12 @@ pub is-vettable-spec : {M : Type 1} → statement M
 is-vettable-spec =
     tie.close
     (tie.spec
-    enum-told
-    enum-told-2
-    enum-known-item
-    is-vettable-directive-requires
-    enum-told-3
-    enum-told-4
+    (λ c. search needs)
+    (λ c. search needs)
+    (λ c. search needs)
+    (λ c κs. search needs)
+    (λ c. search needs)
+    (λ c. search needs)
     returns
     returns-2
     returns-3

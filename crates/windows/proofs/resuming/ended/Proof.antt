@@ -3,11 +3,8 @@ use borrow.Author.Needs.{needs}
 use Rattle.windows.proofs.resuming.ended.Statement.{statement}
 use Rattle.windows.proofs.resuming.ended.Tie as tie
 
-no-blocks-requires : tie.Need-no-blocks-requires
-no-blocks-requires c κs = search needs
-
 returns : tie.Need-returns
 returns c = rw (c .no-blocks .ensures)
 
 pub ended-spec : {M : Type 1} → statement M
-ended-spec = tie.close (tie.spec no-blocks-requires returns)
+ended-spec = tie.close (tie.spec (λ c κs. search needs) returns)

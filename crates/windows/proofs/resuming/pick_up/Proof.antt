@@ -12,14 +12,8 @@ is-sound-requires c κs = accepted-sound (c .before .before .before .args .table
 go-on-requires : tie.Need-go-on-requires
 go-on-requires c κs = (c .before .before .before .before .before .before .pre, sym (c .before .before .is-sound .ensures) ∙ c .before .if1 .taken)
 
-same-length : tie.Need-same-length
-same-length c = search needs
-
 returns : tie.Need-returns
 returns c = let a = c .before .before .before .before .before .before .before .before .before .args in picks-up (a .format .now) (a .table .now) (a .s) (c .before .before .before .before .before .is-sound .ensures) (c .before .before .before .before .if1 .taken) (c .before .before .go-on .ensures)
-
-ended-requires : tie.Need-ended-requires
-ended-requires c κs = search needs
 
 returns-2 : tie.Need-returns-2
 returns-2 c = let a = c .before .before .before .before .before .before .args in picks-none (a .format .now) (a .table .now) (a .s) (c .before .before .is-sound .ensures) (c .before .if1 .left) (c .ended .ensures)
@@ -27,4 +21,4 @@ returns-2 c = let a = c .before .before .before .before .before .before .args in
 pub pick-up-spec : {M : Type 1} → statement M
 pick-up-spec =
     tie.close
-    (tie.spec is-sound-requires go-on-requires same-length returns ended-requires returns-2)
+    (tie.spec is-sound-requires go-on-requires (λ c. search needs) returns (λ c κs. search needs) returns-2)

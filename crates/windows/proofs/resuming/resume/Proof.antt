@@ -9,29 +9,11 @@ use Rattle.windows.proofs.resuming.resume.Tie as tie
 returns : tie.Need-returns
 returns c = let a = c .before .before .before .before .before .args in after-end (a .format .now) (a .table .now) (a .state) (c .if1 .taken)
 
-more-requires : tie.Need-more-requires
-more-requires c κs = search needs
-
 returns-2 : tie.Need-returns-2
 returns-2 c = let a = c .before .before .before .before .before .before .before .args in idle (a .format .now) (a .table .now) (a .state) (omega (arith, c .before .before .if1 .left)) (c .before .if2 .taken) (c .more .ensures)
 
-check-table-requires : tie.Need-check-table-requires
-check-table-requires c κs = search needs
-
-enum-known-tables : tie.Need-enum-known-tables
-enum-known-tables c = search needs
-
-ended-requires : tie.Need-ended-requires
-ended-requires c κs = search needs
-
-enum-told : tie.Need-enum-told
-enum-told c = search needs
-
 pick-up-requires : tie.Need-pick-up-requires
 pick-up-requires c κs = sym (c .before .before .before .before .before .check-table .ensures) ∙ c .before .before .before .enum-told .given .1
-
-same-length : tie.Need-same-length
-same-length c = search needs
 
 returns-3 : tie.Need-returns-3
 returns-3 c = let a = c .before .before .before .before .before .before .before .before .before .before .before .before .before .before .before .args in begun-state (a .format .now) (a .table .now) (a .state) (omega (arith, c .before .before .before .before .before .before .before .before .before .before .if1 .left)) (c .before .before .before .before .before .before .before .before .before .if2 .left) (c .before .before .before .before .before .before .before .before .check-table .ensures) (c .before .before .before .before .before .before .enum-told .given .1) (c .before .before .before .before .if3 .taken) (c .before .before .pick-up .ensures)
@@ -42,9 +24,6 @@ start-requires c κs = sym (c .before .before .before .before .before .check-tab
 returns-4 : tie.Need-returns-4
 returns-4 c = let a = c .before .before .before .before .before .before .before .before .before .before .before .args in table-refused (a .format .now) (a .table .now) (a .state) (omega (arith, c .before .before .before .before .before .before .if1 .left)) (c .before .before .before .before .before .if2 .left) (c .before .before .before .before .check-table .ensures) (c .before .before .tables .given .1) (c .ended .ensures)
 
-same-length-2 : tie.Need-same-length-2
-same-length-2 c = search needs
-
 returns-5 : tie.Need-returns-5
 returns-5 c = let a = c .before .before .before .before .before .before .before .before .before .before .before .before .before .before .before .args in fresh-state (a .format .now) (a .table .now) (a .state) (omega (arith, c .before .before .before .before .before .before .before .before .before .before .if1 .left)) (c .before .before .before .before .before .before .before .before .before .if2 .left) (c .before .before .before .before .before .before .before .before .check-table .ensures) (c .before .before .before .before .before .before .enum-told .given .1) (c .before .before .before .before .if3 .left) (c .before .before .start .ensures)
 
@@ -53,16 +32,16 @@ resume-spec =
     tie.close
     (tie.spec
     returns
-    more-requires
+    (λ c κs. search needs)
     returns-2
-    check-table-requires
-    enum-known-tables
-    ended-requires
-    enum-told
+    (λ c κs. search needs)
+    (λ c. search needs)
+    (λ c κs. search needs)
+    (λ c. search needs)
     pick-up-requires
-    same-length
+    (λ c. search needs)
     returns-3
     start-requires
     returns-4
-    same-length-2
+    (λ c. search needs)
     returns-5)

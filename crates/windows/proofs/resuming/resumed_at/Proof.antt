@@ -5,21 +5,6 @@ use borrow.Author.Needs.{needs}
 use Rattle.windows.proofs.resuming.resumed_at.Statement.{statement}
 use Rattle.windows.proofs.resuming.resumed_at.Tie as tie
 
-enum-known-reach : tie.Need-enum-known-reach
-enum-known-reach c = search needs
-
-sub-ended : tie.Need-sub-ended
-sub-ended c = search needs
-
-ended-requires : tie.Need-ended-requires
-ended-requires c κs = search needs
-
-begun-requires : tie.Need-begun-requires
-begun-requires c κs = search needs
-
-more-requires : tie.Need-more-requires
-more-requires c κs = search needs
-
 returns : tie.Need-returns
 returns c = rw (c .before .before .before .reach .given .1) (c .ended .ensures)
 
@@ -30,10 +15,10 @@ pub resumed-at-spec : {M : Type 1} → statement M
 resumed-at-spec =
     tie.close
     (tie.spec
-    enum-known-reach
-    sub-ended
-    ended-requires
-    begun-requires
-    more-requires
+    (λ c. search needs)
+    (λ c. search needs)
+    (λ c κs. search needs)
+    (λ c κs. search needs)
+    (λ c κs. search needs)
     returns
     returns-2)

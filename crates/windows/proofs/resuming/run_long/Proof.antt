@@ -4,17 +4,8 @@ use borrow.Author.Needs.{needs}
 use Rattle.windows.proofs.resuming.run_long.Statement.{statement}
 use Rattle.windows.proofs.resuming.run_long.Tie as tie
 
-slice-aggregate-run-by : tie.Need-slice-aggregate-run-by
-slice-aggregate-run-by c = search needs
-
 run-by-requires : tie.Need-run-by-requires
 run-by-requires c κs = (none-laid-in (c .before .before .before .before .before .args .format .now) 2050 (c .before .before .before .before .before .pre .sound .short), c .before .before .before .before .before .pre)
 
-same-length : tie.Need-same-length
-same-length c = search needs
-
-returns : tie.Need-returns
-returns c = search needs
-
 pub run-long-spec : {M : Type 1} → statement M
-run-long-spec = tie.close (tie.spec slice-aggregate-run-by run-by-requires same-length returns)
+run-long-spec = tie.close (tie.spec (λ c. search needs) run-by-requires (λ c. search needs) (λ c. search needs))

@@ -5,35 +5,14 @@ use borrow.Author.Needs.{needs}
 use Rattle.windows.proofs.resuming.start.Statement.{statement}
 use Rattle.windows.proofs.resuming.start.Tie as tie
 
-check-text-requires : tie.Need-check-text-requires
-check-text-requires c κs = search needs
-
-enum-known-texts : tie.Need-enum-known-texts
-enum-known-texts c = search needs
-
-ended-requires : tie.Need-ended-requires
-ended-requires c κs = search needs
-
-enum-told : tie.Need-enum-told
-enum-told c = search needs
-
 argument-count-requires : tie.Need-argument-count-requires
 argument-count-requires c κs = accepted-sound (c .before .before .before .before .before .before .args .table .now) (c .before .before .before .before .before .before .pre) .header
-
-start-of-requires : tie.Need-start-of-requires
-start-of-requires c κs = search needs
-
-no-blocks-requires : tie.Need-no-blocks-requires
-no-blocks-requires c κs = search needs
 
 run-on-requires : tie.Need-run-on-requires
 run-on-requires c κs = let a = c .before .before .before .before .before .before .before .before .before .before .args in start-stands (a .format .now) (a .table .now) (c .before .before .before .argument-count .ensures .0) (c .before .before .start-of .ensures) (c .before .no-blocks .ensures) (c .before .before .before .before .before .before .before .before .before .before .pre) (c .before .before .before .before .before .before .check-text .ensures) (c .before .before .before .before .enum-told .given .1)
 
 returns : tie.Need-returns
 returns c = let a = c .before .before .before .before .before .before .before .before .args in text-refused (a .format .now) (a .table .now) (c .before .before .before .before .check-text .ensures) (c .before .before .texts .given .1) (c .ended .ensures)
-
-same-length : tie.Need-same-length
-same-length c = search needs
 
 returns-2 : tie.Need-returns-2
 returns-2 c = let a = c .before .before .before .before .before .before .before .before .before .before .before .before .before .args in starts (a .format .now) (a .table .now) (c .before .before .before .before .before .before .argument-count .ensures .0) (c .before .before .before .before .before .start-of .ensures) (c .before .before .before .before .no-blocks .ensures) (c .before .before .before .before .before .before .before .before .before .check-text .ensures) (c .before .before .before .before .before .before .before .enum-told .given .1) (c .before .before .run-on .ensures)
@@ -42,14 +21,14 @@ pub start-spec : {M : Type 1} → statement M
 start-spec =
     tie.close
     (tie.spec
-    check-text-requires
-    enum-known-texts
-    ended-requires
-    enum-told
+    (λ c κs. search needs)
+    (λ c. search needs)
+    (λ c κs. search needs)
+    (λ c. search needs)
     argument-count-requires
-    start-of-requires
-    no-blocks-requires
+    (λ c κs. search needs)
+    (λ c κs. search needs)
     run-on-requires
     returns
-    same-length
+    (λ c. search needs)
     returns-2)

@@ -8,11 +8,8 @@ use Rattle.windows.proofs.state.block_lies.Tie as tie
 returns : tie.Need-returns
 returns c = let a = c .before .before .before .args in rw (lt-leb (a .block .inside) (a .size) (c .if1 .taken))
 
-hand-lies-requires : tie.Need-hand-lies-requires
-hand-lies-requires c κs = search needs
-
 returns-2 : tie.Need-returns-2
 returns-2 c = let a = c .before .before .before .before .before .before .args in rw (le-leb (a .block .inside) (a .size) (omega (arith, c .before .before .before .if1 .left))) (c .hand-lies .ensures)
 
 pub block-lies-spec : {M : Type 1} → statement M
-block-lies-spec = tie.close (tie.spec returns hand-lies-requires returns-2)
+block-lies-spec = tie.close (tie.spec returns (λ c κs. search needs) returns-2)

@@ -5,9 +5,6 @@ use borrow.Author.Needs.{needs}
 use Rattle.windows.proofs.state.hand_lies.Statement.{statement}
 use Rattle.windows.proofs.state.hand_lies.Tie as tie
 
-entry-count-requires : tie.Need-entry-count-requires
-entry-count-requires c κs = search needs
-
 returns : tie.Need-returns
 returns c = let a = c .before .before .before .before .before .args in hand-out (a .hand .first .0) (a .hand .count) (a .next .0) (c .before .before .entry-count .ensures .0) (omega (arith, c .if1 .taken))
 
@@ -18,4 +15,4 @@ returns-3 : tie.Need-returns-3
 returns-3 c = let a = c .before .before .before .before .before .before .before .before .before .before .args in hand-in (a .hand .first .0) (a .hand .count) (a .next .0) (c .before .before .before .before .before .before .before .entry-count .ensures .0) (omega (arith, c .before .before .if2 .left, c .before .before .before .before .before .if1 .left))
 
 pub hand-lies-spec : {M : Type 1} → statement M
-hand-lies-spec = tie.close (tie.spec entry-count-requires returns returns-2 returns-3)
+hand-lies-spec = tie.close (tie.spec (λ c κs. search needs) returns returns-2 returns-3)

@@ -12,9 +12,6 @@ use Rattle.working.proofs.arguments.argument_at.Tie as tie
 entry-of-requires : tie.Need-entry-of-requires
 entry-of-requires c κs = omega (arith, hand-small (c .before .before .pre .0), c .before .before .pre .1)
 
-read-argument-requires : tie.Need-read-argument-requires
-read-argument-requires c κs = search needs
-
 returns : tie.Need-returns
 returns c =
     let hand = c .before .before .before .before .args .hand in
@@ -22,4 +19,4 @@ returns c =
     (h, answer-in-view h (omega (arith, c .before .before .before .before .pre .0 .within, c .before .before .before .before .pre .1)))
 
 pub argument-at-spec : {M : Type 1} → statement M
-argument-at-spec = tie.close (tie.spec entry-of-requires read-argument-requires returns)
+argument-at-spec = tie.close (tie.spec entry-of-requires (λ c κs. search needs) returns)

@@ -13,15 +13,6 @@ is-next c = record { below = c .before .if1 .left; value = c .argument-at .ensur
 returns : tie.Need-returns
 returns c = none-left (c .if1 .taken)
 
-argument-at-requires : tie.Need-argument-at-requires
-argument-at-requires c κs = search needs
-
-enum-known-argument : tie.Need-enum-known-argument
-enum-known-argument c = search needs
-
-wide-requires : tie.Need-wide-requires
-wide-requires c κs = search needs
-
 following-requires : tie.Need-following-requires
 following-requires c κs =
     let a = c .before .before .before .before in
@@ -40,9 +31,9 @@ character-argument-spec =
     tie.close
     (tie.spec
     returns
-    argument-at-requires
-    enum-known-argument
-    wide-requires
+    (λ c κs. search needs)
+    (λ c. search needs)
+    (λ c κs. search needs)
     following-requires
     returns-2
     returns-3)

@@ -16,15 +16,6 @@ is-next c = record { below = c .before .if1 .left; value = c .argument-at .ensur
 returns : tie.Need-returns
 returns c = none-left (c .if1 .taken)
 
-argument-at-requires : tie.Need-argument-at-requires
-argument-at-requires c κs = search needs
-
-enum-known-argument : tie.Need-enum-known-argument
-enum-known-argument c = search needs
-
-is-negative-requires : tie.Need-is-negative-requires
-is-negative-requires c κs = search needs
-
 returns-2 : tie.Need-returns-2
 returns-2 c =
     let k = c .before .before in
@@ -34,16 +25,10 @@ returns-2 c =
     (toZ-ofZ w64 (k .before .argument .given .0 .0) (record { sfits = k .known-told .given .0 .1 }))
     (sym (c .before .is-negative .ensures) ∙ (c .if2 .taken))
 
-magnitude-requires : tie.Need-magnitude-requires
-magnitude-requires c κs = search needs
-
 following-requires : tie.Need-following-requires
 following-requires c κs =
     let a = c .before .before .before .before .before .before in
     omega (arith, hand-small (a .before .before .before .before .before .pre .0), is-next a .below)
-
-in-range-requires : tie.Need-in-range-requires
-in-range-requires c κs = search needs
 
 returns-3 : tie.Need-returns-3
 returns-3 c =
@@ -63,12 +48,12 @@ number-argument-spec =
     tie.close
     (tie.spec
     returns
-    argument-at-requires
-    enum-known-argument
-    is-negative-requires
+    (λ c κs. search needs)
+    (λ c. search needs)
+    (λ c κs. search needs)
     returns-2
-    magnitude-requires
+    (λ c κs. search needs)
     following-requires
-    in-range-requires
+    (λ c κs. search needs)
     returns-3
     returns-4)

@@ -4,18 +4,9 @@ use Rattle.working.proofs.WorkLaws.{tag-written, work-written, work-cou
 use Rattle.working.proofs.places.work_out.Statement.{statement}
 use Rattle.working.proofs.places.work_out.Tie as tie
 
-enum-told : tie.Need-enum-told
-enum-told c = search needs
-
 work-next-requires : tie.Need-work-next-requires
 work-next-requires c κs =
     (c .before .before .before .pre .0 (c .enum-told .given .1), c .before .before .before .pre .1)
-
-enum-told-2 : tie.Need-enum-told-2
-enum-told-2 c = search needs
-
-work-remaining-requires : tie.Need-work-remaining-requires
-work-remaining-requires c κs = search needs
 
 written-requires : tie.Need-written-requires
 written-requires c κs =
@@ -37,10 +28,10 @@ pub work-out-spec : {M : Type 1} → statement M
 work-out-spec =
     tie.close
     (tie.spec
-    enum-told
+    (λ c. search needs)
     work-next-requires
-    enum-told-2
-    work-remaining-requires
+    (λ c. search needs)
+    (λ c κs. search needs)
     written-requires
     returns
     returns-2

@@ -3,18 +3,9 @@ use borrow.Author.Needs.{needs}
 use Rattle.working.proofs.settling.refusal.Statement.{statement}
 use Rattle.working.proofs.settling.refusal.Tie as tie
 
-enum-known-a : tie.Need-enum-known-a
-enum-known-a c = search needs
-
-enum-told : tie.Need-enum-told
-enum-told c = search needs
-
 returns : tie.Need-returns
 returns c =
     rw (c .before .a .given .1)
 
-returns-2 : tie.Need-returns-2
-returns-2 c = search needs
-
 pub refusal-spec : {M : Type 1} → statement M
-refusal-spec = tie.close (tie.spec enum-known-a enum-told returns returns-2)
+refusal-spec = tie.close (tie.spec (λ c. search needs) (λ c. search needs) returns (λ c. search needs))

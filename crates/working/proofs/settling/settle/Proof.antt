@@ -4,9 +4,6 @@ use borrow.Author.Needs.{needs}
 use Rattle.working.proofs.settling.settle.Statement.{statement}
 use Rattle.working.proofs.settling.settle.Tie as tie
 
-all-written-requires : tie.Need-all-written-requires
-all-written-requires c κs = search needs
-
 settle-written-requires : tie.Need-settle-written-requires
 settle-written-requires c κs =
     sym (c .before .all-written .ensures) ∙ c .if1 .taken
@@ -15,13 +12,7 @@ returns : tie.Need-returns
 returns c =
     c .settle-written .ensures .is _ _ _ (c .before .before .before .before .pre .1)
 
-settle-each-requires : tie.Need-settle-each-requires
-settle-each-requires c κs = search needs
-
-returns-2 : tie.Need-returns-2
-returns-2 c = search needs
-
 pub settle-spec : {M : Type 1} → statement M
 settle-spec =
     tie.close
-    (tie.spec all-written-requires settle-written-requires returns settle-each-requires returns-2)
+    (tie.spec (λ c κs. search needs) settle-written-requires returns (λ c κs. search needs) (λ c. search needs))
