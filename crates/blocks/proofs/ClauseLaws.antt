@@ -19,9 +19,9 @@ use Rattle.rules.specs.declared.Argument.the-variants.{Integer}
 use Rattle.rules.specs.declared.ArgumentPosition.{ArgumentPosition}
 use Rattle.rules.proofs.RunLaws.{choose-yes, choose-no}
 use Rattle.rules.proofs.Tests.{not-both-ways}
-use Rattle.checking.specs.Ends.{AnotherClause}
-use Rattle.working.specs.Settling.{handAt}
-use Rattle.working.specs.declared.arguments.Hand.{Hand}
+use Rattle.syntax.specs.Ends.{AnotherClause}
+use Rattle.parameters.specs.Settling.{handAt}
+use Rattle.parameters.specs.declared.arguments.Hand.{Hand}
 use Rattle.blocks.specs.declared.wanting.Wanted.{Wanted}
 use Rattle.blocks.specs.declared.wanting.Wanted.the-variants.{Clause, Nothing as wantsNothing, Wrong as wantsWrong}
 use Rattle.blocks.specs.declared.clauses.Found.{Found}

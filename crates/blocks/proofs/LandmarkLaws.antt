@@ -14,7 +14,7 @@ use lib.Seq.{getD-set-same, getD-set-other}
 use Rattle.rules.specs.Choice.{both}
 use Rattle.rules.specs.Text.{Clauses, clause, innermost, asClauses, levelsAt}
 use Rattle.rules.proofs.Tests.{not-both-ways}
-use Rattle.checking.specs.Ends.{AfterBlock, LastClause, AnotherClause}
+use Rattle.syntax.specs.Ends.{AfterBlock, LastClause, AnotherClause}
 use Rattle.blocks.specs.declared.landmarks.Landmark.{Landmark}
 use Rattle.blocks.specs.Clauses.{wantedOf, InsideAt, Seeking}
 use Rattle.blocks.specs.Landmarks.{StandsAt, Sound, cellAt, landmarkAt, Landmarks, Small, leadsTo, Lays, Marks}

@@ -11,8 +11,8 @@ use Rattle.rules.specs.Run.{Flow, refused, fallbackOf, clauseAt, isFalse, withA
 use Rattle.rules.specs.declared.ArgumentPosition.{ArgumentPosition}
 use Rattle.rules.specs.declared.Directive.{Directive}
 use Rattle.rules.specs.declared.Settings.{Settings}
-use Rattle.working.specs.Settling.{handAt}
-use Rattle.working.specs.declared.arguments.Hand.{Hand}
+use Rattle.parameters.specs.Settling.{handAt}
+use Rattle.parameters.specs.declared.arguments.Hand.{Hand}
 use Rattle.blocks.specs.declared.wanting.Wanted.{Wanted}
 use Rattle.blocks.specs.declared.wanting.Wanted.the-variants.{Clause, Nothing as wantsNothing, Wrong as wantsWrong}
 use Rattle.blocks.specs.declared.clauses.Found.{Found}
@@ -102,5 +102,5 @@ pub record Picks (t : List ℕ) (start count : ℕ) (f : ℕ → ℕ → ℕ →
 -- r is what the conditional d picks, whose inside is at its next place
 abbrev pub Chooses : List ℕ → List ℕ → Hand → Directive → Settings → ℕ → Chosen → Type 0
 Chooses t table hand d settings i r =
-    Picks t (d .next) (hand .count)
-    (λ p m j on. pick (viewOf table) p m d (asClauses false (levelsAt t (d .next))) (handAt hand j) settings i on) r
+    Picks t (d .after) (hand .count)
+    (λ p m j on. pick (viewOf table) p m d (asClauses false (levelsAt t (d .after))) (handAt hand j) settings i on) r

@@ -8,7 +8,7 @@ use lib.Dec.{eqb, leb}
 use lib.ListN.{length, getD}
 use Rattle.rules.specs.Choice.{both}
 use Rattle.rules.specs.Text.{none, innermost, asClauses, levelsAt}
-use Rattle.checking.specs.Ends.{AfterBlock}
+use Rattle.syntax.specs.Ends.{AfterBlock}
 use Rattle.blocks.specs.Clauses.{wantedOf, InsideAt}
 use Rattle.blocks.specs.declared.landmarks.Landmark.{Landmark}
 

@@ -17,8 +17,8 @@ use Rattle.rules.specs.declared.Item.{Item}
 use Rattle.rules.specs.declared.Item.the-variants.{End, Literal, Written, BadNumber, Unfinished}
 use Rattle.rules.specs.declared.Setting.{Setting}
 use Rattle.rules.specs.declared.Settings.{Settings}
-use Rattle.working.specs.Settling.{InHand, handAt}
-use Rattle.working.specs.declared.arguments.Hand.{Hand}
+use Rattle.parameters.specs.Settling.{InHand, handAt}
+use Rattle.parameters.specs.declared.arguments.Hand.{Hand}
 use Rattle.blocks.specs.declared.passes.Over.{Over}
 use Rattle.blocks.specs.declared.passes.Over.the-variants.{Is as OverIs, Wrong as OverWrong}
 use Rattle.blocks.specs.declared.passes.Listed.{Listed}
@@ -96,7 +96,7 @@ OverIn t hand false i (OverIs inner first) = InHand t inner × ((first .0 ≡ 0)
 OverIn t hand false i (OverWrong code) = Unit {0}
 
 -- r is what an iteration goes over, where i is the next argument
-pub record GoesOver (t : List ℕ) (hand : Hand) (at : Bool) (i : ℕ) (r : Over) : Type 0 where
-  pub is : (p m j : ℕ) (d : Directive) → d .at ≡ at → (st : Settings) (body rest : Sequence) (on : Frame → Context → Flow)
-      → enter (viewOf t) p m d body rest (handAt hand j) st i on ≡ onOver p m (st .first) body rest (outsideOf at hand i) r on
-  pub inside : OverIn t hand at i r
+pub record GoesOver (t : List ℕ) (hand : Hand) (atsign : Bool) (i : ℕ) (r : Over) : Type 0 where
+  pub is : (p m j : ℕ) (d : Directive) → d .atsign ≡ atsign → (st : Settings) (body rest : Sequence) (on : Frame → Context → Flow)
+      → enter (viewOf t) p m d body rest (handAt hand j) st i on ≡ onOver p m (st .first) body rest (outsideOf atsign hand i) r on
+  pub inside : OverIn t hand atsign i r

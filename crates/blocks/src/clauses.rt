@@ -5,15 +5,15 @@ use crate::landmarks::leads;
 use crate::landmarks::nearest;
 use crate::wanting::Wanted;
 use crate::wanting::want_clause;
-use checking::ends::ClauseEnd;
-use checking::ends::after_block;
-use checking::ends::next_clause;
+use parameters::Hand;
 use rules::ArgumentPosition;
 use rules::Directive;
 use rules::Settings;
 use rules::scalars::both;
 use rules::scalars::less;
-use working::Hand;
+use syntax::ends::ClauseEnd;
+use syntax::ends::after_block;
+use syntax::ends::next_clause;
 ghost use mathlib.Core.Path.{_≡_};
 ghost use mathlib.Core.Bool.{false, cond};
 ghost use Prim.Native.Nat.{ℕ, _-_, _≤_};
@@ -21,8 +21,8 @@ ghost use lib.Dec.{leb};
 ghost use lib.ListN.{length};
 ghost use Rattle.rules.specs.Choice.{both as bothOf};
 ghost use Rattle.rules.specs.Text.{Sequence, asClauses, levelsAt};
-ghost use Rattle.checking.specs.Ends.{AfterBlock};
-ghost use Rattle.working.specs.Settling.{InHand};
+ghost use Rattle.syntax.specs.Ends.{AfterBlock};
+ghost use Rattle.parameters.specs.Settling.{InHand};
 ghost use Rattle.blocks.specs.Clauses.{wantedOf, InsideAt, Finds, Seeking, followedBy, Chooses};
 ghost use Rattle.blocks.specs.Landmarks.{Sound, Landmarks};
 ghost use Rattle.blocks.specs.declared.clauses.Found.the-variants.{At as foundAt, Nothing as foundNothing};
@@ -93,11 +93,14 @@ fn seek_clause(
         }
         let e = next_clause(text, z);
         match e {
-            ClauseEnd::Last { at: _, next: _ } => return fall_back(z, fallback, marked),
+            ClauseEnd::Last {
+                position: _,
+                after: _,
+            } => return fall_back(z, fallback, marked),
             ClauseEnd::Another {
-                at: _,
+                position: _,
                 colon: another,
-                next,
+                after: next,
             } => {
                 z = next;
                 marked = another;
@@ -179,10 +182,10 @@ pub fn choose_clause(
     requires { ⌜ Landmarks (now text) (now marks) ⌝ }
     requires { ⌜ InHand (now table) hand ⌝ }
     requires { ⌜ i .0 ≤ hand .count ⌝ }
-    requires { ⌜ d .next ≤ length (now text) ⌝ }
+    requires { ⌜ d .after ≤ length (now text) ⌝ }
     ensures { λ r. ⌜ Chooses (now (text .entry)) (now (table .entry)) hand d settings (i .0) r ⌝ }
 {
-    let start = d.next;
+    let start = d.after;
     let wanted = want_clause(table, hand, d, settings, i);
     match wanted {
         Wanted::Clause {

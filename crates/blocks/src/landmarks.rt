@@ -2,12 +2,12 @@
 // end would be looked for through all that lies before them. So where clauses stand that are far from the one before,
 // and where long blocks end, is written down once. Landmarks are sound and no more: what has none is looked for in the
 // text, so they cost or save time and decide nothing.
-use checking::ends::ClauseEnd;
-use checking::ends::Shape;
-use checking::ends::next_clause;
-use checking::ends::shape_at;
 use reader::short::skip_short;
 use rules::scalars::widened;
+use syntax::ends::ClauseEnd;
+use syntax::ends::Shape;
+use syntax::ends::next_clause;
+use syntax::ends::shape_at;
 ghost use mathlib.Core.Path.{_≡_};
 ghost use mathlib.Core.List.{List};
 ghost use Prim.Native.Nat.{ℕ, _+_, _≤_, _<_};
@@ -218,10 +218,17 @@ fn mark_block(text: &[u8], start: usize, marks: &mut [u16], first: usize) -> usi
     loop {
         let e = next_clause(text, l.place);
         match e {
-            ClauseEnd::Last { at: _, next } => {
+            ClauseEnd::Last {
+                position: _,
+                after: next,
+            } => {
                 return lay_far(marks, k, from, next, ending(l, next));
             }
-            ClauseEnd::Another { at: _, colon, next } => {
+            ClauseEnd::Another {
+                position: _,
+                colon,
+                after: next,
+            } => {
                 l = another(l, next, colon);
                 k = lay_far(marks, k, from, next, l);
                 from = later(from, next);
@@ -250,7 +257,10 @@ pub fn mark_text(text: &[u8], marks: &mut [u16])
                 k = mark_block(text, q, marks, k);
                 p = q;
             }
-            Shape::Splits { colon: _, next } => p = next,
+            Shape::Splits {
+                colon: _,
+                after: next,
+            } => p = next,
             Shape::Finishes(q) => p = q,
         }
     }

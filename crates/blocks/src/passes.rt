@@ -1,9 +1,11 @@
 // The passes of an iteration: how many are left, and over which entries.
+use parameters::Hand;
+use parameters::argument_at;
 use rules::Argument;
 use rules::ArgumentPosition;
 use rules::Setting;
-use working::Hand;
-use working::argument_at;
+use rules::codes::NO_ARGUMENT;
+use rules::codes::WRONG_KIND;
 ghost use mathlib.Core.Path.{_≡_};
 ghost use mathlib.Core.Bool.{cond};
 ghost use mathlib.Core.List.{List};
@@ -11,7 +13,7 @@ ghost use Prim.Native.Nat.{ℕ, _+_, _≤_, _<_};
 ghost use Rattle.rules.specs.Choice.{either};
 ghost use Rattle.rules.specs.Working.{noneRemain};
 ghost use Rattle.rules.specs.Run.{usedUp, oneLess};
-ghost use Rattle.working.specs.Settling.{InHand, handAt};
+ghost use Rattle.parameters.specs.Settling.{InHand, handAt};
 ghost use Rattle.blocks.specs.Parts.{ListsTo, GoesOver};
 
 fn used_up(passes: Setting) -> bool
@@ -72,21 +74,21 @@ pub enum Over {
 }
 
 // With @ the arguments that remain, and else the entries of the list that the next argument is.
-pub fn go_over(table: &[u8], hand: Hand, at: bool, i: ArgumentPosition) -> Over
+pub fn go_over(table: &[u8], hand: Hand, atsign: bool, i: ArgumentPosition) -> Over
     requires { ⌜ InHand (now table) hand ⌝ }
     requires { ⌜ i .0 ≤ hand .count ⌝ }
-    ensures { λ r. ⌜ GoesOver (now (table .entry)) hand at (i .0) r ⌝ }
+    ensures { λ r. ⌜ GoesOver (now (table .entry)) hand atsign (i .0) r ⌝ }
 {
-    if at {
+    if atsign {
         return Over::Is { hand, first: i };
     }
     if hand.count <= i.0 {
-        return Over::Wrong(6);
+        return Over::Wrong(NO_ARGUMENT);
     }
     let argument = argument_at(table, hand, i);
     let listed = list_of(argument);
     match listed {
-        Listed::Not => Over::Wrong(7),
+        Listed::Not => Over::Wrong(WRONG_KIND),
         Listed::Is(inner) => Over::Is {
             hand: inner,
             first: ArgumentPosition(0),
@@ -95,11 +97,11 @@ pub fn go_over(table: &[u8], hand: Hand, at: bool, i: ArgumentPosition) -> Over
 }
 
 // The next argument after an iteration: with @ the one that its last pass left, and else the one after the list.
-pub fn next_after(at: bool, last: ArgumentPosition, i: ArgumentPosition) -> ArgumentPosition
+pub fn next_after(atsign: bool, last: ArgumentPosition, i: ArgumentPosition) -> ArgumentPosition
     requires { ⌜ i .0 < 18446744073709551615 ⌝ }
-    ensures { λ r. ⌜ r .0 ≡ cond at (last .0) (i .0 + 1) ⌝ }
+    ensures { λ r. ⌜ r .0 ≡ cond atsign (last .0) (i .0 + 1) ⌝ }
 {
-    if at {
+    if atsign {
         return last;
     }
     ArgumentPosition(i.0 + 1)

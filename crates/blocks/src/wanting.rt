@@ -1,21 +1,23 @@
 // Which clause a conditional wants, by its parameter or its argument. The text is not looked at.
 use numbers::is_negative;
 use numbers::magnitude;
+use parameters::Hand;
+use parameters::argument_at;
 use rules::Argument;
 use rules::ArgumentPosition;
 use rules::Directive;
 use rules::Setting;
 use rules::Settings;
+use rules::codes::NO_ARGUMENT;
+use rules::codes::WRONG_KIND;
 use rules::scalars::not;
-use working::Hand;
-use working::argument_at;
 ghost use mathlib.Core.Path.{_≡_};
 ghost use mathlib.Core.Bool.{cond};
 ghost use mathlib.Core.List.{List};
 ghost use Prim.Native.Nat.{ℕ, _≤_};
 ghost use Rattle.rules.specs.Table.{meant, viewOf};
 ghost use Rattle.rules.specs.Run.{isFalse, pick, pickNumbered};
-ghost use Rattle.working.specs.Settling.{InHand, handAt};
+ghost use Rattle.parameters.specs.Settling.{InHand, handAt};
 ghost use Rattle.blocks.specs.Clauses.{pickTwo, pickOne, pickOwn, Wants};
 
 // A clause by its number, if it is counted, and else, with a fallback, the one after a last ~:;; no clause; each with
@@ -60,7 +62,7 @@ fn want_two(table: &[u8], hand: Hand, i: ArgumentPosition) -> Wanted
 {
     let k = i.0;
     if hand.count <= k {
-        return Wanted::Wrong(6);
+        return Wanted::Wrong(NO_ARGUMENT);
     }
     let argument = argument_at(table, hand, i);
     Wanted::Clause {
@@ -79,7 +81,7 @@ fn want_one(table: &[u8], hand: Hand, i: ArgumentPosition) -> Wanted
 {
     let k = i.0;
     if hand.count <= k {
-        return Wanted::Wrong(6);
+        return Wanted::Wrong(NO_ARGUMENT);
     }
     let argument = argument_at(table, hand, i);
     let after = ArgumentPosition(k + 1);
@@ -102,20 +104,20 @@ fn want_own(table: &[u8], hand: Hand, i: ArgumentPosition) -> Wanted
 {
     let k = i.0;
     if hand.count <= k {
-        return Wanted::Wrong(6);
+        return Wanted::Wrong(NO_ARGUMENT);
     }
     let argument = argument_at(table, hand, i);
     match argument {
-        Argument::Boolean(_) => Wanted::Wrong(7),
+        Argument::Boolean(_) => Wanted::Wrong(WRONG_KIND),
         Argument::Integer(z) => Wanted::Clause {
             number: magnitude(z) as usize,
             counted: not(is_negative(z)),
             fallback: true,
             next: ArgumentPosition(k + 1),
         },
-        Argument::Character(_) => Wanted::Wrong(7),
-        Argument::Text { start: _, end: _ } => Wanted::Wrong(7),
-        Argument::Entries { first: _, count: _ } => Wanted::Wrong(7),
+        Argument::Character(_) => Wanted::Wrong(WRONG_KIND),
+        Argument::Text { start: _, end: _ } => Wanted::Wrong(WRONG_KIND),
+        Argument::Entries { first: _, count: _ } => Wanted::Wrong(WRONG_KIND),
     }
 }
 
@@ -151,7 +153,7 @@ pub fn want_clause(
     if d.colon {
         return want_two(table, hand, i);
     }
-    if d.at {
+    if d.atsign {
         return want_one(table, hand, i);
     }
     let first = settings.first;

@@ -23,16 +23,16 @@ use Rattle.rules.specs.declared.Item.the-variants.{Literal, Written}
 use Rattle.rules.specs.declared.Setting.{Setting}
 use Rattle.rules.proofs.Item as item-declared
 use Rattle.rules.proofs.TextLaws.{next-inside, stands}
-use Rattle.checking.specs.Ends.{AfterBlock}
-use Rattle.working.specs.Settling.{handAt}
-use Rattle.working.specs.declared.arguments.Hand.{Hand}
-use Rattle.acting.specs.declared.state.Ran.{Ran}
-use Rattle.acting.specs.declared.state.Spot.{Spot}
-use Rattle.acting.specs.declared.state.Stop.{Stop}
-use Rattle.acting.specs.declared.state.Stop.the-variants.{Ended, Left, Refused}
-use Rattle.acting.specs.Ran.{refusedRan, endedRan, begun, hand}
-use Rattle.acting.proofs.Joining.{no-end-left}
-use Rattle.acting.proofs.state.Stop as stop-declared
+use Rattle.syntax.specs.Ends.{AfterBlock}
+use Rattle.parameters.specs.Settling.{handAt}
+use Rattle.parameters.specs.declared.arguments.Hand.{Hand}
+use Rattle.actions.specs.declared.state.Ran.{Ran}
+use Rattle.actions.specs.declared.state.Spot.{Spot}
+use Rattle.actions.specs.declared.state.Stop.{Stop}
+use Rattle.actions.specs.declared.state.Stop.the-variants.{Ended, Escaped, Refused}
+use Rattle.actions.specs.Ran.{refusedRan, endedRan, begun, hand}
+use Rattle.actions.proofs.Joining.{no-end-left}
+use Rattle.actions.proofs.state.Stop as stop-declared
 use Rattle.running.specs.Runs.{EndsAt, EndsBlock, After, restAt, Runs, Steps, Strides, Blocks, Passes, opening}
 use Rattle.blocks.specs.Clauses.{InsideAt}
 use Rattle.blocks.specs.Parts.{endsSequence, opensBlock, iterates, outsideOf, OverIn}
@@ -65,7 +65,7 @@ sequence-stops s n v first count level p i left at b {e} {r} u h = by (r .stop) 
         strides-runs-on s n v first count level p i left at b u q
         (subst (Runs s n v (hand first count) level (r .place) (r .next .0) (r .left) (r .at) e e) (ended-as q)
         (runs-end s n v first count level (r .place) (r .next .0) (r .left) (r .at) e (h q) (u .most q) (omega (arith, u .does .most, u .does .size)) (u .does .inside)))
-    by Left q = strides-runs-left s n v first count level p i left at b u q
+    by Escaped q = strides-runs-left s n v first count level p i left at b u q
     by (Refused code x) q = strides-runs-refused s n v first count level p i left at b u code x q
 
 -- an item at which the run stops
@@ -100,50 +100,50 @@ module _ (t : List ℕ) (v : View) (first count level p i left at : ℕ) (b : Li
   abbrev StepsHere : List ℕ → Ran → Type 0
   StepsHere b₂ r = Steps (levelsAt t) (length t) v (hand first count) level p i left at b b₂ r
 
-  pub block-deep : (r : Ran) → opensBlock (d .code) ≡ true → level ≡ 0 → r ≡ refusedRan 4 p i left at (d .next) → at ≤ length b → i ≤ count → StepsHere b r
+  pub block-deep : (r : Ran) → opensBlock (d .code) ≡ true → level ≡ 0 → r ≡ refusedRan 4 p i left at (d .after) → at ≤ length b → i ≤ count → StepsHere b r
   block-deep r o z q l k = subst (StepsHere b) (sym q) (by (d .code) refl o)
     where
-      by : (c : Code) → d .code ≡ c → opensBlock c ≡ true → StepsHere b (refusedRan 4 p i left at (d .next))
+      by : (c : Code) → d .code ≡ c → opensBlock c ≡ true → StepsHere b (refusedRan 4 p i left at (d .after))
       by (Writes f) w o = absurd (not-both o refl)
       by Jump w o = absurd (not-both o refl)
       by Escape w o = absurd (not-both o refl)
-      by (Opens Conditional) w o = steps-deep (levelsAt t) (length t) v first count level p i left at b p _ z (chooses-run (levelsAt t) v first count p p i left d (d .next) (conditional-at t p d e w)) (d .next) l k
+      by (Opens Conditional) w o = steps-deep (levelsAt t) (length t) v first count level p i left at b p _ z (chooses-run (levelsAt t) v first count p p i left d (d .after) (conditional-at t p d e w)) (d .after) l k
       by Separator w o = absurd (not-both o refl)
-      by (Opens Iteration) w o = steps-deep (levelsAt t) (length t) v first count level p i left at b p _ z (iterates-run (levelsAt t) v first count p p i left d (d .next) (iteration-at t p d e w)) (d .next) l k
+      by (Opens Iteration) w o = steps-deep (levelsAt t) (length t) v first count level p i left at b p _ z (iterates-run (levelsAt t) v first count p p i left d (d .after) (iteration-at t p d e w)) (d .after) l k
       by (Closes c) w o = absurd (not-both o refl)
       by Unknown w o = absurd (not-both o refl)
 
-  pub block-none : (r : Ran) → opensBlock (d .code) ≡ true → (level ≡ 0 → ⊥) → left ≡ 0 → r ≡ refusedRan 9 p i left at (d .next) → at ≤ length b → i ≤ count → StepsHere b r
+  pub block-none : (r : Ran) → opensBlock (d .code) ≡ true → (level ≡ 0 → ⊥) → left ≡ 0 → r ≡ refusedRan 9 p i left at (d .after) → at ≤ length b → i ≤ count → StepsHere b r
   block-none r o lv z q l k = subst (StepsHere b) (sym q) (by (d .code) refl o)
     where
-      by : (c : Code) → d .code ≡ c → opensBlock c ≡ true → StepsHere b (refusedRan 9 p i left at (d .next))
+      by : (c : Code) → d .code ≡ c → opensBlock c ≡ true → StepsHere b (refusedRan 9 p i left at (d .after))
       by (Writes f) w o = absurd (not-both o refl)
       by Jump w o = absurd (not-both o refl)
       by Escape w o = absurd (not-both o refl)
-      by (Opens Conditional) w o = steps-block-none (levelsAt t) (length t) v first count level p i left at b p _ lv z (chooses-run (levelsAt t) v first count p p i left d (d .next) (conditional-at t p d e w)) (d .next) l k
+      by (Opens Conditional) w o = steps-block-none (levelsAt t) (length t) v first count level p i left at b p _ lv z (chooses-run (levelsAt t) v first count p p i left d (d .after) (conditional-at t p d e w)) (d .after) l k
       by Separator w o = absurd (not-both o refl)
-      by (Opens Iteration) w o = steps-block-none (levelsAt t) (length t) v first count level p i left at b p _ lv z (iterates-run (levelsAt t) v first count p p i left d (d .next) (iteration-at t p d e w)) (d .next) l k
+      by (Opens Iteration) w o = steps-block-none (levelsAt t) (length t) v first count level p i left at b p _ lv z (iterates-run (levelsAt t) v first count p p i left d (d .after) (iteration-at t p d e w)) (d .after) l k
       by (Closes c) w o = absurd (not-both o refl)
       by Unknown w o = absurd (not-both o refl)
 
-  pub block-opens : (level ≡ 0 → ⊥) → (left ≡ 0 → ⊥) → {b₂ : List ℕ} {r : Ran} → opensBlock (d .code) ≡ true → {spot : Spot} → spot ≡ begun (spotAt p (d .next) left at)
-      → Blocks (levelsAt t) (length t) v (hand first count) (level - 1) (d .next) (opening (iterates (d .code)) (levelsAt t) v (hand first count) (spot .position) d (d .next) i (spot .left)) (spot .left) (spot .at) b b₂ r
+  pub block-opens : (level ≡ 0 → ⊥) → (left ≡ 0 → ⊥) → {b₂ : List ℕ} {r : Ran} → opensBlock (d .code) ≡ true → {spot : Spot} → spot ≡ begun (spotAt p (d .after) left at)
+      → Blocks (levelsAt t) (length t) v (hand first count) (level - 1) (d .after) (opening (iterates (d .code)) (levelsAt t) v (hand first count) (spot .position) d (d .after) i (spot .left)) (spot .left) (spot .at) b b₂ r
       → StepsHere b₂ r
   block-opens lv z {b₂} {r} o q u =
-      by (d .code) refl o (subst (λ (y : Spot). Blocks (levelsAt t) (length t) v (hand first count) (level - 1) (d .next) (opening (iterates (d .code)) (levelsAt t) v (hand first count) (y .position) d (d .next) i (y .left)) (y .left) (y .at) b b₂ r) q u)
+      by (d .code) refl o (subst (λ (y : Spot). Blocks (levelsAt t) (length t) v (hand first count) (level - 1) (d .after) (opening (iterates (d .code)) (levelsAt t) v (hand first count) (y .position) d (d .after) i (y .left)) (y .left) (y .at) b b₂ r) q u)
     where
       by : (c : Code) → d .code ≡ c → opensBlock c ≡ true
-          → Blocks (levelsAt t) (length t) v (hand first count) (level - 1) (d .next) (opening (iterates c) (levelsAt t) v (hand first count) p d (d .next) i (left - 1)) (left - 1) at b b₂ r
+          → Blocks (levelsAt t) (length t) v (hand first count) (level - 1) (d .after) (opening (iterates c) (levelsAt t) v (hand first count) p d (d .after) i (left - 1)) (left - 1) at b b₂ r
           → StepsHere b₂ r
       by (Writes f) w o u = absurd (not-both o refl)
       by Jump w o u = absurd (not-both o refl)
       by Escape w o u = absurd (not-both o refl)
       by (Opens Conditional) w o u =
-          steps-block (levelsAt t) (length t) v first count level p i left at b p (d .next) (λ m ks. opening false (levelsAt t) v (hand first count) p d (d .next) i m ks) lv z
-          (chooses-run (levelsAt t) v first count p p i left d (d .next) (conditional-at t p d e w)) (ap outer (conditional-at t p d e w .is)) (omega (arith, next-inside t p d e .above)) u
+          steps-block (levelsAt t) (length t) v first count level p i left at b p (d .after) (λ m ks. opening false (levelsAt t) v (hand first count) p d (d .after) i m ks) lv z
+          (chooses-run (levelsAt t) v first count p p i left d (d .after) (conditional-at t p d e w)) (ap outer (conditional-at t p d e w .is)) (omega (arith, next-inside t p d e .above)) u
       by (Opens Iteration) w o u =
-          steps-block (levelsAt t) (length t) v first count level p i left at b p (d .next) (λ m ks. opening true (levelsAt t) v (hand first count) p d (d .next) i m ks) lv z
-          (iterates-run (levelsAt t) v first count p p i left d (d .next) (iteration-at t p d e w)) (ap outer (iteration-at t p d e w .is)) (omega (arith, next-inside t p d e .above)) u
+          steps-block (levelsAt t) (length t) v first count level p i left at b p (d .after) (λ m ks. opening true (levelsAt t) v (hand first count) p d (d .after) i m ks) lv z
+          (iterates-run (levelsAt t) v first count p p i left d (d .after) (iteration-at t p d e w)) (ap outer (iteration-at t p d e w .is)) (omega (arith, next-inside t p d e .above)) u
       by Separator w o u = absurd (not-both o refl)
       by (Closes y) w o u = absurd (not-both o refl)
       by Unknown w o u = absurd (not-both o refl)
@@ -163,23 +163,23 @@ pub ends-inside : {t : List ℕ} {q z p : ℕ} → InsideAt t q z → EndsAt (le
 ends-inside h e = record { outside = e .around ∙ h .outside; least = omega (arith, h .least, e .least); most = e .most }
 
 -- an iteration over the entries inner, after which the arguments in hand outside come back
-pub over-blocks : (s : ℕ → List Level) (n : ℕ) (v : View) (t : List ℕ) (level p q : ℕ) (f : List Frame → Flow) (left at : ℕ) (b : List ℕ) (hand inner : Hand) (with-at : Bool) (i : ℕ) (first : ArgumentPosition) (passes : Setting)
+pub over-blocks : (s : ℕ → List Level) (n : ℕ) (v : View) (t : List ℕ) (level p q : ℕ) (f : List Frame → Flow) (left atsign : ℕ) (b : List ℕ) (hand inner : Hand) (with-at : Bool) (i : ℕ) (first : ArgumentPosition) (passes : Setting)
     {e : List ℕ} {r : Ran} (o : ArgumentPosition) → OverIn t hand with-at i (OverIs inner first) → o .0 ≡ cond with-at (r .next .0) (i + 1)
     → ((ks : List Frame) → f ks ≡ run v left end (iteration p passes (restAt s q) (innermost (outer (s q)) .rest) (outsideOf with-at hand i) ∷ ks) (handAt inner (first .0)))
-    → Passes s n v (handAt inner) level p q (first .0) passes left at b e r
-    → Blocks s n v (handAt hand) level q f left at b e (record { stop = r .stop; next = o; left = r .left; at = r .at; place = r .place })
-over-blocks s n v t level p q f left at b hand inner true i first passes {e} {r} o w k h u =
-    let u₂ : Passes s n v (handAt hand) level p q (first .0) passes left at b e r = subst (λ (x : Hand). Passes s n v (handAt x) level p q (first .0) passes left at b e r) (w .0) u in
+    → Passes s n v (handAt inner) level p q (first .0) passes left atsign b e r
+    → Blocks s n v (handAt hand) level q f left atsign b e (record { stop = r .stop; next = o; left = r .left; at = r .at; place = r .place })
+over-blocks s n v t level p q f left atsign b hand inner true i first passes {e} {r} o w k h u =
+    let u₂ : Passes s n v (handAt hand) level p q (first .0) passes left atsign b e r = subst (λ (x : Hand). Passes s n v (handAt x) level p q (first .0) passes left atsign b e r) (w .0) u in
     let h₂ : (ks : List Frame) → f ks ≡ run v left end (iteration p passes (restAt s q) (innermost (outer (s q)) .rest) sameArguments ∷ ks) (handAt hand (first .0)) =
     λ ks. h ks ∙ ap (λ (x : Hand). run v left end (iteration p passes (restAt s q) (innermost (outer (s q)) .rest) sameArguments ∷ ks) (handAt x (first .0))) (w .0) in
-    subst (λ (x : ℕ). Blocks s n v (handAt hand) level q f left at b e (record { stop = r .stop; next = record { 0 = x }; left = r .left; at = r .at; place = r .place })) (sym k)
-    (blocks-same s n v (hand .first .0) (hand .count) level q f left at b p (first .0) passes h₂ u₂)
-over-blocks s n v t level p q f left at b hand inner false i first passes {e} {r} o w k h u =
-    let u₂ : Passes s n v (handAt inner) level p q 0 passes left at b e r = subst (λ (x : ℕ). Passes s n v (handAt inner) level p q x passes left at b e r) (w .1 .0) u in
+    subst (λ (x : ℕ). Blocks s n v (handAt hand) level q f left atsign b e (record { stop = r .stop; next = record { 0 = x }; left = r .left; at = r .at; place = r .place })) (sym k)
+    (blocks-same s n v (hand .first .0) (hand .count) level q f left atsign b p (first .0) passes h₂ u₂)
+over-blocks s n v t level p q f left atsign b hand inner false i first passes {e} {r} o w k h u =
+    let u₂ : Passes s n v (handAt inner) level p q 0 passes left atsign b e r = subst (λ (x : ℕ). Passes s n v (handAt inner) level p q x passes left atsign b e r) (w .1 .0) u in
     let h₂ : (ks : List Frame) → f ks ≡ run v left end (iteration p passes (restAt s q) (innermost (outer (s q)) .rest) (other (handAt hand (i + 1))) ∷ ks) (handAt inner 0) =
     λ ks. h ks ∙ ap (λ (x : ℕ). run v left end (iteration p passes (restAt s q) (innermost (outer (s q)) .rest) (other (handAt hand (i + 1))) ∷ ks) (handAt inner x)) (w .1 .0) in
-    subst (λ (x : ℕ). Blocks s n v (handAt hand) level q f left at b e (record { stop = r .stop; next = record { 0 = x }; left = r .left; at = r .at; place = r .place })) (sym k)
-    (blocks-list s n v (hand .first .0) (hand .count) level q f left at b p (i + 1) (inner .first .0) (inner .count) passes h₂ u₂ (omega (arith, w .1 .1)))
+    subst (λ (x : ℕ). Blocks s n v (handAt hand) level q f left atsign b e (record { stop = r .stop; next = record { 0 = x }; left = r .left; at = r .at; place = r .place })) (sym k)
+    (blocks-list s n v (hand .first .0) (hand .count) level q f left atsign b p (i + 1) (inner .first .0) (inner .count) passes h₂ u₂ (omega (arith, w .1 .1)))
 
 -- passes by another name of the spot where they begin
 pub passes-from : {s : ℕ → List Level} {n : ℕ} {v : View} {c : ℕ → Context} {level q i : ℕ} {passes : Setting} {b e : List ℕ} {r : Ran} {x y : Spot} → x ≡ y
@@ -218,17 +218,17 @@ module _ (s : ℕ → List Level) (n : ℕ) (v : View) (first count level q i : 
         where
           by : (x : Stop) → r .stop ≡ x → isEnded x ≡ false → PassesHere e o
           by Ended y f = absurd (not-both refl f)
-          by Left y f =
+          by Escaped y f =
               let m = w .left y in
               subst (PassesHere e) (sym (m .is)) (passes-left s n v first count level (on .position) q i passes (on .left) (on .at) b h z pass y (o .place) (m .after))
           by (Refused code x) y f =
               subst (PassesHere e) (sym (w .refused code x y)) (passes-refused s n v first count level (on .position) q i passes (on .left) (on .at) b h z pass code x y)
 
 -- which stops are answered as they are
-pub left-not-refused : {x : Stop} {code p : ℕ} → x ≡ Left → x ≡ Refused code p → ⊥
+pub left-not-refused : {x : Stop} {code p : ℕ} → x ≡ Escaped → x ≡ Refused code p → ⊥
 left-not-refused q r = let z : _≡_ {A = ℕ} 0 1 = cc in omega arith
 
-pub not-left : (keys : List ℕ) (x : Stop) → keys ≡ 0 ∷ 2 ∷ [] → OneOf keys (tagOf stop-declared.the-type x) → x ≡ Left → ⊥
+pub not-left : (keys : List ℕ) (x : Stop) → keys ≡ 0 ∷ 2 ∷ [] → OneOf keys (tagOf stop-declared.the-type x) → x ≡ Escaped → ⊥
 not-left keys Ended q o e = no-end-left e refl
-not-left keys Left q o e = miss (0 ∷ 2 ∷ []) 1 tt (subst (λ (k : List ℕ). OneOf k 1) q o)
+not-left keys Escaped q o e = miss (0 ∷ 2 ∷ []) 1 tt (subst (λ (k : List ℕ). OneOf k 1) q o)
 not-left keys (Refused code p) q o e = left-not-refused e refl

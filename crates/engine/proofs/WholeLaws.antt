@@ -14,12 +14,12 @@ use Rattle.rules.specs.declared.Verdict.the-variants.{Accepted, Refused}
 use Rattle.rules.proofs.RunLaws.{run-done}
 use Rattle.rules.proofs.TableLaws.{accepted-sound}
 use Rattle.rules.proofs.ViewLaws.{view-arguments}
-use Rattle.working.specs.Settling.{InHand}
-use Rattle.acting.specs.declared.state.Ran.{Ran}
-use Rattle.acting.specs.declared.state.Stop.{Stop}
-use Rattle.acting.specs.declared.state.Stop.the-variants.{Ended, Left, Refused as RefusedAt}
-use Rattle.acting.specs.Ran.{hand, onward}
-use Rattle.acting.proofs.Joining.{same-fit}
+use Rattle.parameters.specs.Settling.{InHand}
+use Rattle.actions.specs.declared.state.Ran.{Ran}
+use Rattle.actions.specs.declared.state.Stop.{Stop}
+use Rattle.actions.specs.declared.state.Stop.the-variants.{Ended, Escaped, Refused as RefusedAt}
+use Rattle.actions.specs.Ran.{hand, onward}
+use Rattle.actions.proofs.Joining.{same-fit}
 use Rattle.engine.specs.declared.formatting.Outcome.{Outcome}
 use Rattle.running.specs.Runs.{leaving, Runs}
 use Rattle.engine.specs.Whole.{codeOf, positionOf, outcomeOf}
@@ -41,7 +41,7 @@ outcome-is : (v : View) (first count room : ℕ) (out : List ℕ) (o : Stop) (le
     → fit room out (onward (λ l j. run v l end [] (hand first count j)) (leaving v [] (hand first count)) o left i) ≡ answered out o left
 unfolding fit
 outcome-is v first count room out Ended left i = ap (fit room out) (run-done v (hand first count i) left)
-outcome-is v first count room out Left left i = refl
+outcome-is v first count room out Escaped left i = refl
 outcome-is v first count room out (RefusedAt code p) left i = refl
 
 answers-by : (f t b e : List ℕ) (x : Answer) (code position steps written : ℕ) → answerOf f t (length b) ≡ x

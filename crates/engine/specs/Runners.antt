@@ -6,9 +6,9 @@ use Prim.Native.Nat.{ℕ}
 use Rattle.rules.specs.Directive.{itemAt}
 use Rattle.rules.specs.Text.{Level, end, levelsAt}
 use Rattle.rules.specs.declared.Item.{Item}
-use Rattle.acting.specs.declared.state.Ran.{Ran}
-use Rattle.acting.specs.declared.state.Spot.{Spot}
-use Rattle.acting.specs.declared.state.Stop.the-variants.{Ended, Left, Refused}
+use Rattle.actions.specs.declared.state.Ran.{Ran}
+use Rattle.actions.specs.declared.state.Spot.{Spot}
+use Rattle.actions.specs.declared.state.Stop.the-variants.{Ended, Escaped, Refused}
 use Rattle.blocks.specs.Parts.{endsAt}
 use Rattle.running.specs.Runs.{restAt, EndsBlock}
 
@@ -23,5 +23,5 @@ pub record ItemAfter (t : List ℕ) (s : Ran) (x : Item) : Type 0 where
 
 -- o is what the passes of the block whose inside is at q answer after the pass r, if that was left or refused
 pub record LeavesPasses (s : ℕ → List Level) (n q : ℕ) (r o : Ran) : Type 0 where
-  pub left : r .stop ≡ Left → EndsBlock s n (spotAt q q (r .left) (r .at)) q (r .next .0) o
+  pub left : r .stop ≡ Escaped → EndsBlock s n (spotAt q q (r .left) (r .at)) q (r .next .0) o
   pub refused : (code x : ℕ) → r .stop ≡ Refused code x → o ≡ r

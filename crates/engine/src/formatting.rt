@@ -1,19 +1,21 @@
 // A whole call of format: the table is checked, then the text, and then the text is run.
 use crate::runners::run_sequence;
-use acting::state::Ran;
-use acting::state::Stand;
-use acting::state::Stop;
+use actions::state::Ran;
+use actions::state::Stand;
+use actions::state::Stop;
 use blocks::landmarks::CELLS;
 use blocks::landmarks::EMPTY;
 use blocks::landmarks::is_worth_landmarks;
 use blocks::landmarks::mark_text;
-use checking::text::check_text;
+use parameters::Hand;
 use rules::ArgumentPosition;
 use rules::EntryIndex;
 use rules::Verdict;
+use rules::limits::DEEPEST;
+use rules::limits::MOST_STEPS;
+use syntax::text::check_text;
 use table::argument_count;
 use table::check_table;
-use working::Hand;
 ghost use mathlib.Core.Path.{_≡_};
 ghost use Prim.Native.Nat.{_≤_};
 ghost use Rattle.rules.specs.Answer.{Answers};
@@ -21,12 +23,6 @@ ghost use Rattle.rules.specs.Table.{tableVerdict};
 ghost use Rattle.rules.specs.Text.{textVerdict};
 ghost use Rattle.rules.specs.declared.Verdict.the-variants.{Accepted};
 ghost use Rattle.engine.specs.Whole.{outcomeOf};
-
-// How many steps a call does at most.
-const MOST_STEPS: usize = 65536;
-
-// How deep blocks nest at most.
-const DEEPEST: usize = 8;
 
 // The answer of a call beside the text: 01's code, the position, the steps done and the bytes written.
 pub struct Outcome {
@@ -50,7 +46,7 @@ fn outcome_of(r: Ran) -> Outcome
             steps,
             written,
         },
-        Stop::Left => Outcome {
+        Stop::Escaped => Outcome {
             code: 0,
             position: 0,
             steps,

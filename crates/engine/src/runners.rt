@@ -1,12 +1,12 @@
 // The runners. The runner of a sequence calls the runners of blocks and is called by them: the levels left for blocks
 // fall at each block, and the text or the steps that are left fall in each turn of a loop. All of them have the landmarks
 // of the text, if it has any.
-use acting::state::Ran;
-use acting::state::Spot;
-use acting::state::Stand;
-use acting::state::Stop;
-use acting::state::begin;
-use acting::state::refuse;
+use actions::state::Ran;
+use actions::state::Spot;
+use actions::state::Stand;
+use actions::state::Stop;
+use actions::state::begin;
+use actions::state::refuse;
 use blocks::clauses::Chosen;
 use blocks::clauses::block_end;
 use blocks::clauses::choose_clause;
@@ -19,19 +19,22 @@ use blocks::passes::go_over;
 use blocks::passes::is_over;
 use blocks::passes::next_after;
 use blocks::passes::one_less;
-use fitting::places::is_well_written;
+use directives::places::is_well_written;
+use parameters::Hand;
+use parameters::SettledOut;
+use parameters::settle_directive;
 use rules::ArgumentPosition;
 use rules::Directive;
 use rules::Item;
 use rules::Setting;
 use rules::Settings;
+use rules::codes::BAD_BLOCK;
+use rules::codes::BAD_PARAMETER;
+use rules::codes::STEP_LIMIT;
 use stepping::items::act;
 use stepping::items::is_ended;
 use stepping::items::put_literal;
 use stepping::short::run_short;
-use working::Hand;
-use working::SettledOut;
-use working::settle_directive;
 ghost use mathlib.Core.Path.{_≡_};
 ghost use mathlib.Core.Bool.{true, false};
 ghost use Prim.Native.Nat.{ℕ, _≤_};
@@ -40,8 +43,8 @@ ghost use Rattle.rules.specs.Directive.{itemAt};
 ghost use Rattle.rules.specs.Table.{viewOf};
 ghost use Rattle.rules.specs.Text.{levelsAt};
 ghost use Rattle.rules.specs.declared.Item.the-variants.{Written};
-ghost use Rattle.working.specs.Settling.{InHand, handAt};
-ghost use Rattle.acting.specs.Ran.{Stands};
+ghost use Rattle.parameters.specs.Settling.{InHand, handAt};
+ghost use Rattle.actions.specs.Ran.{Stands};
 ghost use Rattle.running.specs.Runs.{Runs, Steps, Blocks, Passes, RunsClause, EndsBlock, picking, entering, opening};
 ghost use Rattle.blocks.specs.Clauses.{InsideAt};
 ghost use Rattle.blocks.specs.Landmarks.{Landmarks};
@@ -155,7 +158,7 @@ fn run_item(
             }
             act(p, d, table, stand, out)
         }
-        _ => refuse(spot_at(p, p, stand.left, stand.at), 4, next),
+        _ => refuse(spot_at(p, p, stand.left, stand.at), BAD_BLOCK, next),
     }
 }
 
@@ -178,12 +181,12 @@ fn run_block(
 {
     let hand = stand.hand;
     let next = stand.next;
-    let spot = spot_at(p, d.next, stand.left, stand.at);
+    let spot = spot_at(p, d.after, stand.left, stand.at);
     if level == 0 {
-        return refuse(spot, 4, next);
+        return refuse(spot, BAD_BLOCK, next);
     }
     if stand.left == 0 {
-        return refuse(spot, 9, next);
+        return refuse(spot, STEP_LIMIT, next);
     }
     let begun = begin(spot);
     run_opened(text, marks, table, level - 1, begun, d, hand, next, out)
@@ -204,12 +207,12 @@ fn run_opened(
     requires { ⌜ Landmarks (now text) (now marks) ⌝ }
     requires { ⌜ InHand (now table) hand ⌝ }
     requires { ⌜ next .0 ≤ hand .count ⌝ }
-    requires { ⌜ d .next ≤ length (now text) ⌝ }
+    requires { ⌜ d .after ≤ length (now text) ⌝ }
     requires { ⌜ spot .at ≤ length (now out) ⌝ }
-    ensures { λ r. ⌜ Blocks (levelsAt (now (text .entry))) (length (now (text .entry))) (viewOf (now (table .entry))) (handAt hand) level (d .next) (opening (iterates (d .code)) (levelsAt (now (text .entry))) (viewOf (now (table .entry))) (handAt hand) (spot .position) d (d .next) (next .0) (spot .left)) (spot .left) (spot .at) (now (out .entry)) (now (out .exit)) r ⌝ }
+    ensures { λ r. ⌜ Blocks (levelsAt (now (text .entry))) (length (now (text .entry))) (viewOf (now (table .entry))) (handAt hand) level (d .after) (opening (iterates (d .code)) (levelsAt (now (text .entry))) (viewOf (now (table .entry))) (handAt hand) (spot .position) d (d .after) (next .0) (spot .left)) (spot .left) (spot .at) (now (out .entry)) (now (out .exit)) r ⌝ }
 {
     if !is_well_written(d) {
-        return refuse(spot, 5, next);
+        return refuse(spot, BAD_PARAMETER, next);
     }
     let settled = settle_directive(table, hand, d, next);
     match settled {
@@ -240,9 +243,9 @@ fn run_conditional(
     requires { ⌜ Landmarks (now text) (now marks) ⌝ }
     requires { ⌜ InHand (now table) hand ⌝ }
     requires { ⌜ i .0 ≤ hand .count ⌝ }
-    requires { ⌜ d .next ≤ length (now text) ⌝ }
+    requires { ⌜ d .after ≤ length (now text) ⌝ }
     requires { ⌜ spot .at ≤ length (now out) ⌝ }
-    ensures { λ r. ⌜ ((j : ℕ) → Blocks (levelsAt (now (text .entry))) (length (now (text .entry))) (viewOf (now (table .entry))) (handAt hand) level (d .next) (picking (levelsAt (now (text .entry))) (viewOf (now (table .entry))) (handAt hand) (spot .position) d (d .next) j (spot .left) settings (i .0)) (spot .left) (spot .at) (now (out .entry)) (now (out .exit)) r) ⌝ }
+    ensures { λ r. ⌜ ((j : ℕ) → Blocks (levelsAt (now (text .entry))) (length (now (text .entry))) (viewOf (now (table .entry))) (handAt hand) level (d .after) (picking (levelsAt (now (text .entry))) (viewOf (now (table .entry))) (handAt hand) (spot .position) d (d .after) j (spot .left) settings (i .0)) (spot .left) (spot .at) (now (out .entry)) (now (out .exit)) r) ⌝ }
 {
     let chosen = choose_clause(text, marks, table, hand, d, settings, i);
     match chosen {
@@ -253,9 +256,9 @@ fn run_conditional(
                 left: spot.left,
                 at: spot.at,
             };
-            run_clause(text, marks, table, level, d.next, place, stand, out)
+            run_clause(text, marks, table, level, d.after, place, stand, out)
         }
-        Chosen::Nothing { inside, next: j } => end_block(text, marks, spot, d.next, inside, j),
+        Chosen::Nothing { inside, next: j } => end_block(text, marks, spot, d.after, inside, j),
         Chosen::Wrong(code) => refuse(spot, code, i),
     }
 }
@@ -310,7 +313,7 @@ fn run_clause(
             at: r.at,
             place: block_end(text, marks, q, r.place),
         },
-        Stop::Left => r,
+        Stop::Escaped => r,
         Stop::Refused {
             code: _,
             position: _,
@@ -334,12 +337,12 @@ fn run_iteration(
     requires { ⌜ Landmarks (now text) (now marks) ⌝ }
     requires { ⌜ InHand (now table) hand ⌝ }
     requires { ⌜ i .0 ≤ hand .count ⌝ }
-    requires { ⌜ d .next ≤ length (now text) ⌝ }
+    requires { ⌜ d .after ≤ length (now text) ⌝ }
     requires { ⌜ spot .at ≤ length (now out) ⌝ }
-    ensures { λ r. ⌜ ((j : ℕ) → Blocks (levelsAt (now (text .entry))) (length (now (text .entry))) (viewOf (now (table .entry))) (handAt hand) level (d .next) (entering (levelsAt (now (text .entry))) (viewOf (now (table .entry))) (handAt hand) (spot .position) d (d .next) j (spot .left) settings (i .0)) (spot .left) (spot .at) (now (out .entry)) (now (out .exit)) r) ⌝ }
+    ensures { λ r. ⌜ ((j : ℕ) → Blocks (levelsAt (now (text .entry))) (length (now (text .entry))) (viewOf (now (table .entry))) (handAt hand) level (d .after) (entering (levelsAt (now (text .entry))) (viewOf (now (table .entry))) (handAt hand) (spot .position) d (d .after) j (spot .left) settings (i .0)) (spot .left) (spot .at) (now (out .entry)) (now (out .exit)) r) ⌝ }
 {
     let limit = settings.first;
-    let over = go_over(table, hand, d.at, i);
+    let over = go_over(table, hand, d.atsign, i);
     match over {
         Over::Wrong(code) => refuse(spot, code, i),
         Over::Is { hand: inner, first } => {
@@ -356,7 +359,7 @@ fn run_iteration(
                 table,
                 level,
                 spot.position,
-                d.next,
+                d.after,
                 limit,
                 stand,
                 out,
@@ -365,7 +368,7 @@ fn run_iteration(
             let last = r.next;
             Ran {
                 stop,
-                next: next_after(d.at, last, i),
+                next: next_after(d.atsign, last, i),
                 left: r.left,
                 at: r.at,
                 place: r.place,
@@ -401,7 +404,7 @@ fn run_passes(
             return end_block(text, marks, on, q, on.place, next);
         }
         if on.left == 0 {
-            return refuse(on, 9, next);
+            return refuse(on, STEP_LIMIT, next);
         }
         let begun = begin(on);
         let stand = Stand {
@@ -430,7 +433,7 @@ fn leave_passes(text: &[u8], marks: &[u16], q: usize, known: usize, r: Ran) -> R
     let stop = r.stop;
     let next = r.next;
     match stop {
-        Stop::Left => end_block(text, marks, spot_at(q, q, r.left, r.at), q, known, next),
+        Stop::Escaped => end_block(text, marks, spot_at(q, q, r.left, r.at), q, known, next),
         _ => r,
     }
 }

@@ -18,13 +18,13 @@ use Rattle.rules.proofs.FlowLaws.{gives-text, gives-finish}
 use Rattle.rules.proofs.RunLaws.{begin-yes, begin-no, choose-yes, choose-no, run-escapes}
 use Rattle.pieces.specs.Rest.{Appends}
 use Rattle.pieces.proofs.Rests.{append-more}
-use Rattle.working.specs.Settling.{handAt}
-use Rattle.acting.specs.declared.state.Ran.{Ran}
-use Rattle.acting.specs.declared.state.Stop.{Stop}
-use Rattle.acting.specs.declared.state.Stop.the-variants.{Ended, Left, Refused}
-use Rattle.acting.specs.Ran.{endedRan}
-use Rattle.acting.proofs.Joining.{gave-on, gave-refused, no-end, no-end-left}
-use Rattle.acting.proofs.state.Stop as stop-declared
+use Rattle.parameters.specs.Settling.{handAt}
+use Rattle.actions.specs.declared.state.Ran.{Ran}
+use Rattle.actions.specs.declared.state.Stop.{Stop}
+use Rattle.actions.specs.declared.state.Stop.the-variants.{Ended, Escaped, Refused}
+use Rattle.actions.specs.Ran.{endedRan}
+use Rattle.actions.proofs.Joining.{gave-on, gave-refused, no-end, no-end-left}
+use Rattle.actions.proofs.state.Stop as stop-declared
 use Rattle.running.specs.Runs.{EscapesAt, restAt, leaving, Strides}
 use Rattle.running.proofs.Strides.{strides-none}
 use Rattle.stepping.specs.Stepping.{HeldUp}
@@ -55,7 +55,7 @@ unheld-same keys r q o = by (r .stop) refl o
   where
     by : (x : Stop) → r .stop ≡ x → OneOf keys (tagOf stop-declared.the-type x) → r ≡ unheld r
     by Ended k o = sym (ap (λ (s : Stop). unheldBy s r) k)
-    by Left k o = sym (ap (λ (s : Stop). unheldBy s r) k)
+    by Escaped k o = sym (ap (λ (s : Stop). unheldBy s r) k)
     by (Refused code x) k o = absurd (miss (0 ∷ 1 ∷ []) 2 tt (subst (λ (i : List ℕ). OneOf i 2) q o))
 
 -- a run of short directives that found no room, as it stands then
@@ -63,7 +63,7 @@ module _ (t table : List ℕ) (h : Here) (given at : ℕ) (b e : List ℕ) (r : 
   abbrev Ahead : Ran → Type 0
   Ahead x = (level : ℕ) → Strides (levelsAt t) (length t) (viewOf table) (handAt (h .hand)) level (h .place) (h .next .0) (h .left) at b e x
 
-  pub unheld-ahead : given ≡ 0 → Ahead r → HeldUp (levelsAt t) (length t) (viewOf table) (handAt (h .hand)) (h .place) (h .next .0) (h .left) at b e r → (r .stop ≡ Left → ⊥)
+  pub unheld-ahead : given ≡ 0 → Ahead r → HeldUp (levelsAt t) (length t) (viewOf table) (handAt (h .hand)) (h .place) (h .next .0) (h .left) at b e r → (r .stop ≡ Escaped → ⊥)
       → {s : Ran} → s ≡ unheld r → RunsAhead t table h given at b e s
   unheld-ahead z d u n q = subst (RunsAhead t table h given at b e) (sym q) (by (r .stop) refl)
     where
@@ -74,7 +74,7 @@ module _ (t table : List ℕ) (h : Here) (given at : ℕ) (b e : List ℕ) (r : 
 
       by : (x : Stop) → r .stop ≡ x → RunsAhead t table h given at b e (unheldBy x r)
       by Ended k = record { does = d; none = λ g. absurd (g z); stays = n; finds = λ p f. no-end f k }
-      by Left k = absurd (n k)
+      by Escaped k = absurd (n k)
       by (Refused code x) k =
           elim (decEq code 10) [
             | yes c ↦

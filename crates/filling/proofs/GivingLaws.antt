@@ -9,12 +9,12 @@ use lib.Seq.{drop-drop, length-take-le, take-all}
 use Rattle.pieces.specs.Bytes.{Good, Inside, bytesOf}
 use Rattle.pieces.specs.Rest.{restOf, RestIn, Appends, WritesRest}
 use Rattle.pieces.specs.declared.Piece.{Piece}
-use Rattle.pieces.specs.declared.Source.the-variants.{Quoted}
+use Rattle.pieces.specs.declared.Content.the-variants.{Quoted}
 use Rattle.pieces.specs.declared.resuming.QuoteRest.{QuoteRest}
 use Rattle.pieces.specs.declared.resuming.RestWritten.{RestWritten}
 use Rattle.pieces.proofs.Rests.{quoteRest, rest-piece, rest-done, append-none}
 use Rattle.pieces.proofs.Bodies.{length-bytes}
-use Rattle.acting.proofs.Buffer.{Put as Placed, lent-between, put-between, lent-length, put-lent}
+use Rattle.actions.proofs.Buffer.{Put as Placed, lent-between, put-between, lent-length, put-lent}
 use Rattle.nesting.specs.declared.moves.Here.{Here}
 use Rattle.filling.specs.declared.giving.Reach.the-variants.{Full}
 use Rattle.filling.specs.declared.giving.Put.{Put}
@@ -105,8 +105,8 @@ module _ (w : List ℕ) (before after : Here) (given at : ℕ) (b table : List �
       cut (rw q) k (rw (drop-drop n given w) at u)
 
 -- a string in quotes lies in the table
-pub quote-in : (t : List ℕ) (p : Piece) {start end : ℕ} {q : QuoteRest} → Good t p → p .body .source ≡ Quoted start end
-    → q ≡ quoteRest 1 (p .left) start end (p .right) (p .pad) → RestIn t q
+pub quote-in : (t : List ℕ) (p : Piece) {start end : ℕ} {q : QuoteRest} → Good t p → p .body .content ≡ Quoted start end
+    → q ≡ quoteRest 1 (p .before) start end (p .behind) (p .pad) → RestIn t q
 unfolding Inside
 quote-in t p {start} {end} {q} g e k =
     let i : Inside t (p .body .word) (Quoted start end) = rw e at (g .body .inside) in
@@ -114,7 +114,7 @@ quote-in t p {start} {end} {q} g e k =
 
 -- and of one that has no room something is left
 pub given-quoted : (t : List ℕ) (p : Piece) {start end : ℕ} {q : QuoteRest} (before after : Here) (at : ℕ) {b e : List ℕ} {v : RestWritten}
-    → p .body .source ≡ Quoted start end → q ≡ quoteRest 1 (p .left) start end (p .right) (p .pad) → at ≤ length b
+    → p .body .content ≡ Quoted start end → q ≡ quoteRest 1 (p .before) start end (p .behind) (p .pad) → at ≤ length b
     → length b - at < length (bytesOf t p) → WritesRest t q at b e v
     → Given (bytesOf t p) before after 0 at b e t (record { reach = Full; here = after; given = 0; rest = v .rest; at = v .at })
 given-quoted t p {start} {end} {q} before after at {b} {e} {v} s k h l u =

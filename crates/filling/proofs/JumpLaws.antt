@@ -15,13 +15,13 @@ use Rattle.rules.specs.declared.Code.the-variants.{Jump}
 use Rattle.rules.specs.declared.Directive.{Directive}
 use Rattle.rules.specs.declared.Item.the-variants.{Written}
 use Rattle.rules.specs.declared.Settings.{Settings}
-use Rattle.acting.specs.declared.state.Ran.{Ran}
-use Rattle.acting.specs.declared.state.Spot.{Spot}
-use Rattle.acting.specs.declared.state.Stop.{Stop}
-use Rattle.acting.specs.declared.state.Stop.the-variants.{Ended, Left, Refused}
-use Rattle.acting.specs.Ran.{onward as comesAfter, Same, gives, lacks}
-use Rattle.acting.specs.Acting.{Performed}
-use Rattle.acting.proofs.ActLaws.{performed-stays}
+use Rattle.actions.specs.declared.state.Ran.{Ran}
+use Rattle.actions.specs.declared.state.Spot.{Spot}
+use Rattle.actions.specs.declared.state.Stop.{Stop}
+use Rattle.actions.specs.declared.state.Stop.the-variants.{Ended, Escaped, Refused}
+use Rattle.actions.specs.Ran.{onward as comesAfter, Same, gives, lacks}
+use Rattle.actions.specs.Acting.{Performed}
+use Rattle.actions.proofs.ActLaws.{performed-stays}
 
 -- what neither writes nor asks what follows
 pub data Silent (f : (ℕ → Flow) → Flow) : Type 0 where
@@ -52,7 +52,7 @@ module _ (count : ℕ) where
   jump-none : (d : Directive) (s : Settings) (i : ℕ) → NoText (jump count d s i)
   jump-none d s i =
       let n = orElse (s .first) 1 in
-      either-none (d .at) (jumpTo count (orElse (s .first) 0)) _ (to-none (orElse (s .first) 0))
+      either-none (d .atsign) (jumpTo count (orElse (s .first) 0)) _ (to-none (orElse (s .first) 0))
       (either-none (d .colon) (cond (leb n i) (jumpTo count (i - n)) (refuses 6)) (jumpTo count (i + n))
       (either-none (leb n i) (jumpTo count (i - n)) (refuses 6) (to-none (i - n)) tt) (to-none (i + n)))
 
@@ -119,12 +119,12 @@ module _ {f : (ℕ → Flow) → Flow} {count : ℕ} {spot : Spot} {r : Ran} (u 
           let a : r .left ≡ spot .left = cc in
           let k : r .next .0 ≡ i = cc in
           h _ ∙ sym (ap (λ (z : Stop). comesAfter on out z (r .left) (r .next .0)) q ∙ ap (λ (l : ℕ). on l (r .next .0)) a ∙ ap (λ (j : ℕ). on (spot .left) j) k)
-      by Left q e = absurd (performed-stays u q)
+      by Escaped q e = absurd (performed-stays u q)
       by (Refused code x) q e = absurd (refused-done e)
   silent-is (stops code p l h) on out = by (r .stop) refl (refuses-as code p l (h _))
     where
       by : (x : Stop) → r .stop ≡ x → comesAfter mark (λ a k. mark a k) x (r .left) (r .next .0) ≡ refused code p l
           → f (λ k. on (spot .left) k) ≡ comesAfter on out (r .stop) (r .left) (r .next .0)
       by Ended q e = absurd (refused-done (sym e))
-      by Left q e = absurd (performed-stays u q)
+      by Escaped q e = absurd (performed-stays u q)
       by (Refused code₂ x) q e = h _ ∙ sym e ∙ sym (ap (λ (z : Stop). comesAfter on out z (r .left) (r .next .0)) q)

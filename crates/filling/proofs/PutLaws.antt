@@ -28,17 +28,17 @@ use Rattle.rules.proofs.Item as item-declared
 use Rattle.rules.proofs.Tests.{not-both-ways}
 use Rattle.pieces.specs.Rest.{Appends}
 use Rattle.pieces.proofs.Rests.{append-none, append-one}
-use Rattle.working.specs.Settling.{InHand, handAt}
-use Rattle.acting.specs.declared.planning.Planned.the-variants.{Shows, Wrong}
-use Rattle.acting.specs.declared.state.Ran.{Ran}
-use Rattle.acting.specs.declared.state.Spot.{Spot}
-use Rattle.acting.specs.declared.state.Stop.{Stop}
-use Rattle.acting.specs.declared.state.Stop.the-variants.{Ended, Left, Refused}
-use Rattle.acting.specs.Planning.{Plans}
-use Rattle.acting.specs.Ran.{onward}
-use Rattle.acting.specs.Acting.{Performed}
-use Rattle.acting.proofs.ActLaws.{performed-stays}
-use Rattle.acting.proofs.state.Stop as stop-declared
+use Rattle.parameters.specs.Settling.{InHand, handAt}
+use Rattle.actions.specs.declared.planning.Planned.the-variants.{Shows, Wrong}
+use Rattle.actions.specs.declared.state.Ran.{Ran}
+use Rattle.actions.specs.declared.state.Spot.{Spot}
+use Rattle.actions.specs.declared.state.Stop.{Stop}
+use Rattle.actions.specs.declared.state.Stop.the-variants.{Ended, Escaped, Refused}
+use Rattle.actions.specs.Planning.{Plans}
+use Rattle.actions.specs.Ran.{onward}
+use Rattle.actions.specs.Acting.{Performed}
+use Rattle.actions.proofs.ActLaws.{performed-stays}
+use Rattle.actions.proofs.state.Stop as stop-declared
 use Rattle.blocks.specs.Parts.{endsSequence, opensBlock}
 use Rattle.running.specs.Runs.{ActsAt, restAt}
 use Rattle.nesting.specs.Moves.{hereAt, told, comes, Sound, weight}
@@ -120,57 +120,57 @@ module _ (byte : ℕ) (h : Here) (given at : ℕ) (z : h .left ≡ 0 → ⊥) {a
 
 -- a directive of a form
 module _ (t table : List ℕ) (form : Form) (d : Directive) (h : Here) (given at : ℕ) (z : h .left ≡ 0 → ⊥) where
-  pub form-refused : {b : List ℕ} {r : Put} {code : ℕ} {after : Here} → Plans table form d (h .hand) (h .next .0) (Wrong code) → after ≡ hereAt (d .next) (h .left - 1) (h .hand) (h .next)
-      → r ≡ putOver code (h .place) after at → at ≤ length b → Puts t table (Written d) (d .next) h given at b b r
+  pub form-refused : {b : List ℕ} {r : Put} {code : ℕ} {after : Here} → Plans table form d (h .hand) (h .next .0) (Wrong code) → after ≡ hereAt (d .after) (h .left - 1) (h .hand) (h .next)
+      → r ≡ putOver code (h .place) after at → at ≤ length b → Puts t table (Written d) (d .after) h given at b b r
   form-refused {code = code} p y e l =
-      puts-refused t table (Written d) (d .next) h given at z code (λ on. p .as-defined (h .place) (h .left - 1) on) (ap (λ (k : Here). k .left) y) e l
+      puts-refused t table (Written d) (d .after) h given at z code (λ on. p .as-defined (h .place) (h .left - 1) on) (ap (λ (k : Here). k .left) y) e l
 
   pub form-shows : {b e : List ℕ} {r : Put} {s : Settings} {a : Argument} {i : ArgumentPosition} {after : Here} {w : List ℕ} → InHand table (h .hand) → Plans table form d (h .hand) (h .next .0) (Shows s a i)
-      → w ≡ textOf form (d .colon) (d .at) s (meant table a) → after ≡ hereAt (d .next) (h .left - 1) (h .hand) i → Given w h after given at b e table r → Puts t table (Written d) (d .next) h given at b e r
+      → w ≡ textOf form (d .colon) (d .atsign) s (meant table a) → after ≡ hereAt (d .after) (h .left - 1) (h .hand) i → Given w h after given at b e table r → Puts t table (Written d) (d .after) h given at b e r
   form-shows {s = s} {a = a} {i = i} {w = w} n p q y g =
-      puts-piece t table (Written d) (d .next) h given at z w i
+      puts-piece t table (Written d) (d .after) h given at z w i
       (λ on. p .as-defined (h .place) (h .left - 1) on ∙ ap (λ (x : List ℕ). put (h .place) (h .left - 1) x (on (i .0))) (sym q))
       (λ _. lies table (h .hand) (i .0) n (p .reaches .1 .1)) y g
 
 -- a jump
 module _ (t table : List ℕ) (d : Directive) (h : Here) (given at : ℕ) (z : h .left ≡ 0 → ⊥) (c : d .code ≡ Jump) (n : InHand table (h .hand)) where
   abbrev spot : Spot
-  spot = record { position = h .place; place = d .next; left = h .left - 1; at = 0 }
+  spot = record { position = h .place; place = d .after; left = h .left - 1; at = 0 }
 
   abbrev performs : Ran → Type 0
   performs r = Performed (λ on. itemActs (viewOf table) (h .place) (h .left - 1) (Written d) (handAt (h .hand) (h .next .0)) on) (h .hand .count) spot [] [] r
 
   module _ {r : Ran} (u : performs r) where
-    comes-to : (o : Nest) → ActsAt (levelsAt t) (h .place) (h .place) (Written d) (d .next)
-        → comes t table h o ≡ onward (λ l j. run (viewOf table) l (restAt (levelsAt t) (d .next)) (framesOf (levelsAt t) o (o .depth)) (handAt (h .hand) j)) (λ l j. refused 0 0 0) (r .stop) (r .left) (r .next .0)
+    comes-to : (o : Nest) → ActsAt (levelsAt t) (h .place) (h .place) (Written d) (d .after)
+        → comes t table h o ≡ onward (λ l j. run (viewOf table) l (restAt (levelsAt t) (d .after)) (framesOf (levelsAt t) o (o .depth)) (handAt (h .hand) j)) (λ l j. refused 0 0 0) (r .stop) (r .left) (r .next .0)
     comes-to o a =
-        acts-on t table h o (Written d) (d .next) a z
+        acts-on t table h o (Written d) (d .after) a z
         ∙ silent-is u (silent-jump (viewOf table) (h .place) (h .left - 1) (handAt (h .hand) (h .next .0)) d c)
-        (λ l j. run (viewOf table) l (restAt (levelsAt t) (d .next)) (framesOf (levelsAt t) o (o .depth)) (handAt (h .hand) j)) (λ l j. refused 0 0 0)
+        (λ l j. run (viewOf table) l (restAt (levelsAt t) (d .after)) (framesOf (levelsAt t) o (o .depth)) (handAt (h .hand) j)) (λ l j. refused 0 0 0)
 
-    pub jump-on : {b : List ℕ} {s : Put} → (keys : List ℕ) → keys ≡ 0 ∷ 1 ∷ [] → OneOf keys (tagOf stop-declared.the-type (r .stop)) → s ≡ putOn (hereAt (d .next) (r .left) (h .hand) (r .next)) given at → at ≤ length b
-        → Puts t table (Written d) (d .next) h given at b b s
+    pub jump-on : {b : List ℕ} {s : Put} → (keys : List ℕ) → keys ≡ 0 ∷ 1 ∷ [] → OneOf keys (tagOf stop-declared.the-type (r .stop)) → s ≡ putOn (hereAt (d .after) (r .left) (h .hand) (r .next)) given at → at ≤ length b
+        → Puts t table (Written d) (d .after) h given at b b s
     jump-on {b} {s} keys k y e l = by (r .stop) refl y
       where
-        by : (x : Stop) → r .stop ≡ x → OneOf keys (tagOf stop-declared.the-type x) → Puts t table (Written d) (d .next) h given at b b s
+        by : (x : Stop) → r .stop ≡ x → OneOf keys (tagOf stop-declared.the-type x) → Puts t table (Written d) (d .after) h given at b b s
         by Ended q w =
             record {
               is = λ o i a m.
                   advances-on t table (comes t table h o) given (h .left) (weight h o) at b (ap (stepOf o) e)
-                  (ap told (comes-to o a ∙ ap (λ (x : Stop). onward (λ l j. run (viewOf table) l (restAt (levelsAt t) (d .next)) (framesOf (levelsAt t) o (o .depth)) (handAt (h .hand) j)) (λ l j. refused 0 0 0) x (r .left) (r .next .0)) q))
-                  (omega (arith, u .does .falls)) (steps-on (d .next) (r .left) (r .next) i m (omega (arith, u .does .falls)) (lies table (h .hand) (r .next .0) n (u .does .inside)))
+                  (ap told (comes-to o a ∙ ap (λ (x : Stop). onward (λ l j. run (viewOf table) l (restAt (levelsAt t) (d .after)) (framesOf (levelsAt t) o (o .depth)) (handAt (h .hand) j)) (λ l j. refused 0 0 0) x (r .left) (r .next .0)) q))
+                  (omega (arith, u .does .falls)) (steps-on (d .after) (r .left) (r .next) i m (omega (arith, u .does .falls)) (lies table (h .hand) (r .next .0) n (u .does .inside)))
                   (omega (arith, u .does .falls, z)) l;
             }
-        by Left q w = absurd (performed-stays u q)
+        by Escaped q w = absurd (performed-stays u q)
         by (Refused code x) q w = absurd (miss (0 ∷ 1 ∷ []) 2 tt (subst (λ (i : List ℕ). OneOf i 2) k w))
 
-    pub jump-refused : {b : List ℕ} {s : Put} {code x : ℕ} → r .stop ≡ Refused code x → s ≡ putOver code x (hereAt (d .next) (r .left) (h .hand) (r .next)) at → at ≤ length b
-        → Puts t table (Written d) (d .next) h given at b b s
+    pub jump-refused : {b : List ℕ} {s : Put} {code x : ℕ} → r .stop ≡ Refused code x → s ≡ putOver code x (hereAt (d .after) (r .left) (h .hand) (r .next)) at → at ≤ length b
+        → Puts t table (Written d) (d .after) h given at b b s
     jump-refused {b} {s} {code} {x} q e l =
         record {
           is = λ o i a m.
               advances-over t table (comes t table h o) given (h .left) (weight h o) at b (ap (stepOf o) e)
-              (ap told (comes-to o a ∙ ap (λ (k : Stop). onward (λ l j. run (viewOf table) l (restAt (levelsAt t) (d .next)) (framesOf (levelsAt t) o (o .depth)) (handAt (h .hand) j)) (λ l j. refused 0 0 0) k (r .left) (r .next .0)) q) ∙ told-refused code x (r .left))
+              (ap told (comes-to o a ∙ ap (λ (k : Stop). onward (λ l j. run (viewOf table) l (restAt (levelsAt t) (d .after)) (framesOf (levelsAt t) o (o .depth)) (handAt (h .hand) j)) (λ l j. refused 0 0 0) k (r .left) (r .next .0)) q) ∙ told-refused code x (r .left))
               (omega (arith, u .does .falls)) l;
         }
 
@@ -190,7 +190,7 @@ escape-code keys Separator q o e w = absurd (not-both-ways refl e)
 escape-code keys (Closes b) q o e w = absurd (not-both-ways refl e)
 escape-code keys Unknown q o e w = absurd (not-both-ways refl e)
 
-pub ended-stop : (keys : List ℕ) (x : Stop) → keys ≡ 0 ∷ 1 ∷ [] → (x ≡ Left → ⊥) → OneOf keys (tagOf stop-declared.the-type x) → x ≡ Ended
+pub ended-stop : (keys : List ℕ) (x : Stop) → keys ≡ 0 ∷ 1 ∷ [] → (x ≡ Escaped → ⊥) → OneOf keys (tagOf stop-declared.the-type x) → x ≡ Ended
 ended-stop keys Ended q n o = refl
-ended-stop keys Left q n o = absurd (n refl)
+ended-stop keys Escaped q n o = absurd (n refl)
 ended-stop keys (Refused code x) q n o = absurd (miss (0 ∷ 1 ∷ []) 2 tt (subst (λ (k : List ℕ). OneOf k 2) q o))

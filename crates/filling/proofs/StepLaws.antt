@@ -17,7 +17,7 @@ use Rattle.rules.proofs.RunLaws.{begin-yes, begin-no, run-acts}
 use Rattle.pieces.specs.Rest.{restOf, RestIn, Appends}
 use Rattle.pieces.specs.declared.resuming.QuoteRest.{QuoteRest}
 use Rattle.pieces.proofs.Rests.{append-none, append-before, append-more, rest-done}
-use Rattle.working.specs.Settling.{handAt}
+use Rattle.parameters.specs.Settling.{handAt}
 use Rattle.running.specs.Runs.{ActsAt, restAt}
 use Rattle.nesting.specs.Moves.{hereAt, Told, told, toldOver, comes, Sound, weight, Moves}
 use Rattle.nesting.specs.Moves.{toldBy as reachedBy}

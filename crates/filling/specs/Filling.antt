@@ -20,7 +20,7 @@ use Rattle.filling.specs.declared.giving.Put.{Put}
 use Rattle.filling.specs.declared.steps.Step.{Step}
 
 abbrev pub noRest : QuoteRest
-noRest = record { stage = 0; left = 0; start = 0; end = 0; right = 0; pad = 0 }
+noRest = record { stage = 0; before = 0; start = 0; end = 0; behind = 0; pad = 0 }
 
 abbrev pub putOn : Here → ℕ → ℕ → Put
 putOn h given at = record { reach = On; here = h; given = given; rest = noRest; at = at }

@@ -8,11 +8,11 @@ use lib.ListN.{length}
 use Rattle.rules.specs.Table.{viewOf, tableVerdict}
 use Rattle.rules.specs.Text.{levelsAt}
 use Rattle.rules.specs.declared.Verdict.the-variants.{Accepted}
-use Rattle.working.specs.Settling.{handAt}
-use Rattle.acting.specs.declared.state.Ran.{Ran}
-use Rattle.acting.specs.declared.state.Stop.{Stop}
-use Rattle.acting.specs.declared.state.Stop.the-variants.{Ended, Left, Refused}
-use Rattle.acting.specs.Ran.{endedRan}
+use Rattle.parameters.specs.Settling.{handAt}
+use Rattle.actions.specs.declared.state.Ran.{Ran}
+use Rattle.actions.specs.declared.state.Stop.{Stop}
+use Rattle.actions.specs.declared.state.Stop.the-variants.{Ended, Escaped, Refused}
+use Rattle.actions.specs.Ran.{endedRan}
 use Rattle.running.specs.Runs.{Strides}
 use Rattle.nesting.specs.Moves.{Sound}
 use Rattle.nesting.specs.declared.moves.Here.{Here}
@@ -40,7 +40,7 @@ isOn Full = false
 -- a run of short directives, where it found no room standing before the one that needs it
 abbrev pub unheldBy : Stop → Ran → Ran
 unheldBy Ended r = r
-unheldBy Left r = r
+unheldBy Escaped r = r
 unheldBy (Refused code x) r = cond (eqb code 10) (endedRan (r .next .0) (r .left + 1) (r .at) x) r
 
 abbrev pub unheld : Ran → Ran
@@ -57,5 +57,5 @@ pub record Standing (t table : List ℕ) (h : Here) (o : Nest) (at : ℕ) (b : L
 pub record RunsAhead (t table : List ℕ) (h : Here) (given at : ℕ) (b e : List ℕ) (r : Ran) : Type 0 where
   pub does : (level : ℕ) → Strides (levelsAt t) (length t) (viewOf table) (handAt (h .hand)) level (h .place) (h .next .0) (h .left) at b e r
   pub none : (given ≡ 0 → ⊥) → (r ≡ endedRan (h .next .0) (h .left) at (h .place)) × (e ≡ b)
-  pub stays : r .stop ≡ Left → ⊥
+  pub stays : r .stop ≡ Escaped → ⊥
   pub finds : (x : ℕ) → r .stop ≡ Refused 10 x → ⊥

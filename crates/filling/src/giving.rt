@@ -1,10 +1,11 @@
 // A piece that goes into the window, or as much of it as there is room for.
-use acting::planning::Planned;
-use acting::planning::plan_form;
+use actions::planning::Planned;
+use actions::planning::plan_form;
 use making::making::make_piece;
 use nesting::moves::Here;
+use parameters::Hand;
+use pieces::Content;
 use pieces::Piece;
-use pieces::Source;
 use pieces::resuming::QuoteRest;
 use pieces::resuming::quote_rest;
 use pieces::resuming::write_rest;
@@ -15,7 +16,6 @@ use rules::ArgumentPosition;
 use rules::Code;
 use rules::Directive;
 use rules::Form;
-use working::Hand;
 ghost use mathlib.Core.Path.{_≡_};
 ghost use mathlib.Core.List.{List};
 ghost use Prim.Native.Nat.{ℕ, _+_, _-_, _≤_, _<_};
@@ -23,8 +23,8 @@ ghost use lib.ListN.{length};
 ghost use Rattle.rules.specs.Directive.{FormRight};
 ghost use Rattle.rules.specs.declared.Item.the-variants.{Literal, Written};
 ghost use Rattle.pieces.specs.Bytes.{Good, bytesOf};
-ghost use Rattle.pieces.specs.declared.Source.the-variants.{Quoted};
-ghost use Rattle.working.specs.Settling.{InHand};
+ghost use Rattle.pieces.specs.declared.Content.the-variants.{Quoted};
+ghost use Rattle.parameters.specs.Settling.{InHand};
 ghost use Rattle.nesting.specs.Moves.{hereAt};
 ghost use Rattle.filling.specs.Filling.{noRest, putOn, putOver, Puts, Given};
 
@@ -51,10 +51,10 @@ pub fn no_rest() -> QuoteRest
 {
     QuoteRest {
         stage: 0,
-        left: 0,
+        before: 0,
         start: 0,
         end: 0,
-        right: 0,
+        behind: 0,
         pad: 0,
     }
 }
@@ -133,12 +133,12 @@ fn cut_quote(
     at: usize,
 ) -> Put
     requires { ⌜ Good (now table) piece ⌝ }
-    requires { ⌜ piece .body .source ≡ Quoted start end ⌝ }
+    requires { ⌜ piece .body .content ≡ Quoted start end ⌝ }
     requires { ⌜ at ≤ length (now window) ⌝ }
     requires { ⌜ length (now window) - at < length (bytesOf (now table) piece) ⌝ }
     ensures { λ r. ⌜ ((here : Here) → Given (bytesOf (now (table .entry)) piece) here after 0 at (now (window .entry)) (now (window .exit)) (now (table .entry)) r) ⌝ }
 {
-    let q = quote_rest(piece.left, piece.right, piece.pad, start, end);
+    let q = quote_rest(piece.before, piece.behind, piece.pad, start, end);
     let w = write_rest(q, table, window, at);
     let rest = w.rest;
     Put {
@@ -166,9 +166,9 @@ fn cut_piece(
     ensures { λ r. ⌜ Given (bytesOf (now (table .entry)) piece) here after given at (now (window .entry)) (now (window .exit)) (now (table .entry)) r ⌝ }
 {
     let body = piece.body;
-    let source = body.source;
-    match source {
-        Source::Quoted { start, end } => {
+    let content = body.content;
+    match content {
+        Content::Quoted { start, end } => {
             if given == 0 {
                 return cut_quote(piece, start, end, table, after, window, at);
             }
@@ -251,7 +251,7 @@ pub fn give_form(
     requires { ⌜ InHand (now table) (here .hand) ⌝ }
     requires { ⌜ here .next .0 ≤ here .hand .count ⌝ }
     requires { ⌜ at ≤ length (now window) ⌝ }
-    ensures { λ r. ⌜ ((t : List ℕ) → Puts t (now (table .entry)) (Written d) (d .next) here given at (now (window .entry)) (now (window .exit)) r) ⌝ }
+    ensures { λ r. ⌜ ((t : List ℕ) → Puts t (now (table .entry)) (Written d) (d .after) here given at (now (window .entry)) (now (window .exit)) r) ⌝ }
 {
     if here.left == 0 {
         return over(9, here.place, here, at);
@@ -265,17 +265,17 @@ pub fn give_form(
             argument,
             next: i,
         } => {
-            let piece = make_piece(form, d.colon, d.at, settings, argument, table);
+            let piece = make_piece(form, d.colon, d.atsign, settings, argument, table);
             give_piece(
                 piece,
                 table,
                 here,
-                stepped(here, d.next, i),
+                stepped(here, d.after, i),
                 given,
                 window,
                 at,
             )
         }
-        Planned::Wrong(code) => over(code, here.place, stepped(here, d.next, next), at),
+        Planned::Wrong(code) => over(code, here.place, stepped(here, d.after, next), at),
     }
 }

@@ -7,11 +7,11 @@ use crate::giving::no_rest;
 use crate::giving::on;
 use crate::giving::over;
 use crate::giving::stepped;
-use acting::acting::act_jump;
-use acting::state::Ran;
-use acting::state::Spot;
-use acting::state::Stand;
-use acting::state::Stop;
+use actions::acting::act_jump;
+use actions::state::Ran;
+use actions::state::Spot;
+use actions::state::Stand;
+use actions::state::Stop;
 use blocks::ends::element_at;
 use blocks::ends::ends_here;
 use blocks::ends::opens_block;
@@ -27,6 +27,8 @@ use pieces::resuming::QuoteRest;
 use rules::Code;
 use rules::Directive;
 use rules::Item;
+use rules::codes::NO_ROOM;
+use rules::codes::STEP_LIMIT;
 use stepping::short::run_short;
 ghost use mathlib.Core.Path.{_≡_};
 ghost use mathlib.Core.Bool.{false};
@@ -37,7 +39,7 @@ ghost use Rattle.rules.specs.Directive.{itemAt};
 ghost use Rattle.rules.specs.Table.{tableVerdict};
 ghost use Rattle.rules.specs.declared.Item.the-variants.{Written};
 ghost use Rattle.rules.specs.declared.Verdict.the-variants.{Accepted};
-ghost use Rattle.working.specs.Settling.{InHand};
+ghost use Rattle.parameters.specs.Settling.{InHand};
 ghost use Rattle.blocks.specs.Landmarks.{Landmarks, Marks};
 ghost use Rattle.blocks.specs.Parts.{endsSequence};
 ghost use Rattle.nesting.specs.Moves.{Sound, comes, weight, Moves};
@@ -105,7 +107,7 @@ fn unhold(r: Ran) -> Ran
     let next = r.next;
     match stop {
         Stop::Refused { code, position } => {
-            if code == 10 {
+            if code == NO_ROOM {
                 return Ran {
                     stop: Stop::Ended,
                     next,
@@ -161,7 +163,7 @@ fn jump(d: Directive, table: &[u8], here: Here, given: usize, at: usize) -> Put
     requires { ⌜ d .code ≡ Code.Jump ⌝ }
     requires { ⌜ InHand (now table) (here .hand) ⌝ }
     requires { ⌜ here .next .0 ≤ here .hand .count ⌝ }
-    ensures { λ r. ⌜ ((t b : List ℕ) → at ≤ length b → Puts t (now (table .entry)) (Written d) (d .next) here given at b b r) ⌝ }
+    ensures { λ r. ⌜ ((t b : List ℕ) → at ≤ length b → Puts t (now (table .entry)) (Written d) (d .after) here given at b b r) ⌝ }
 {
     if here.left == 0 {
         return over(9, here.place, here, at);
@@ -170,7 +172,7 @@ fn jump(d: Directive, table: &[u8], here: Here, given: usize, at: usize) -> Put
     let next = here.next;
     let spot = Spot {
         position: here.place,
-        place: d.next,
+        place: d.after,
         left: here.left - 1,
         at: 0,
     };
@@ -178,7 +180,7 @@ fn jump(d: Directive, table: &[u8], here: Here, given: usize, at: usize) -> Put
     let stop = r.stop;
     let after = r.next;
     let there = Here {
-        place: d.next,
+        place: d.after,
         left: r.left,
         hand,
         next: after,
@@ -201,7 +203,7 @@ fn escape(text: &[u8], marks: &[u16], table: &[u8], here: Here, nest: Nest, d: D
     if here.left == 0 {
         return Moved {
             how: How::Over {
-                code: 9,
+                code: STEP_LIMIT,
                 position: here.place,
             },
             here,
@@ -210,7 +212,7 @@ fn escape(text: &[u8], marks: &[u16], table: &[u8], here: Here, nest: Nest, d: D
     }
     let hand = here.hand;
     let next = here.next;
-    let begun = stepped(here, d.next, next);
+    let begun = stepped(here, d.after, next);
     if hand.count <= next.0 {
         return leave(text, marks, table, begun, nest);
     }

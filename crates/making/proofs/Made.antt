@@ -5,9 +5,9 @@ use Prim.Native.Nat.{ℕ, _+_, _-_, _≤_}
 use native.Mathlib.Omega.{arith}
 use lib.ListN.{length, take, replicate, length-replicate}
 use lib.Seq.{length-take-le}
-use Rattle.pieces.specs.Bytes.{part, quotedOf, figureOf, sourceOf, bytesOf, Inside, GoodFigure, Makes, Gives}
+use Rattle.pieces.specs.Bytes.{part, quotedOf, figureOf, contentOf, bytesOf, Inside, GoodFigure, Makes, Gives}
 use Rattle.pieces.specs.Given.{StringIn}
-use Rattle.pieces.specs.declared.Source.the-variants.{Run, Copied, Quoted, Figures, Word}
+use Rattle.pieces.specs.declared.Content.the-variants.{Run, Copied, Quoted, Figures, Word}
 use Rattle.pieces.specs.declared.Body.{Body}
 use Rattle.pieces.specs.declared.Figure.{Figure}
 use Rattle.pieces.specs.declared.Piece.{Piece}
@@ -34,24 +34,24 @@ lent-short {t} s l = omega (arith, ap length l, lent-length t (s .order) (s .ins
 
 module _ (t word : List ℕ) where
   pub made-run : (byte n : ℕ) → n ≤ 4096
-      → Makes t (record { size = n; word = word; source = Run byte n }) (replicate n byte)
-  unfolding sourceOf Inside
+      → Makes t (record { size = n; word = word; content = Run byte n }) (replicate n byte)
+  unfolding contentOf Inside
   made-run byte n h = record {
     good = record { size = sym (length-replicate n byte); small = omega arith; inside = omega arith };
     is = refl;
   }
 
   pub made-word : (n : ℕ) → n ≤ 12 → n ≤ length word
-      → Makes t (record { size = n; word = word; source = Word n }) (take n word)
-  unfolding sourceOf Inside
+      → Makes t (record { size = n; word = word; content = Word n }) (take n word)
+  unfolding contentOf Inside
   made-word n h k = record {
     good = record { size = sym (length-take-le n word k); small = omega arith; inside = k };
     is = refl;
   }
 
   pub made-copied : (start end : ℕ) → StringIn t start end
-      → Makes t (record { size = end - start; word = word; source = Copied start end }) (part start (end - start) t)
-  unfolding sourceOf Inside
+      → Makes t (record { size = end - start; word = word; content = Copied start end }) (part start (end - start) t)
+  unfolding contentOf Inside
   made-copied start end s = record {
     good = record {
       size = sym (lent-length t (s .order) (s .inside));
@@ -64,8 +64,8 @@ module _ (t word : List ℕ) where
   -- the size is that of the part p that is lent of the table
   pub made-quoted : (start end size : ℕ) {p : List ℕ} → StringIn t start end → p ≡ part start (end - start) t
       → size ≡ length (quotedOf p) → size ≤ 131074
-      → Makes t (record { size = size; word = word; source = Quoted start end }) (quotedOf (part start (end - start) t))
-  unfolding sourceOf Inside
+      → Makes t (record { size = size; word = word; content = Quoted start end }) (quotedOf (part start (end - start) t))
+  unfolding contentOf Inside
   made-quoted start end size s l e h = record {
     good = record {
       size = e ∙ ap (λ (x : List ℕ). length (quotedOf x)) l;
@@ -76,12 +76,12 @@ module _ (t word : List ℕ) where
   }
 
   pub made-figures : (x : Figure) (size : ℕ) → GoodFigure x → size ≡ length (figureOf x) → size ≤ 128
-      → Makes t (record { size = size; word = word; source = Figures x }) (figureOf x)
-  unfolding sourceOf Inside
+      → Makes t (record { size = size; word = word; content = Figures x }) (figureOf x)
+  unfolding contentOf Inside
   made-figures x size g e h = record { good = record { size = e; small = omega arith; inside = g }; is = refl }
 
 -- padding on its two sides
 pub made-piece : {t : List ℕ} {b : Body} {text : List ℕ} (l r pad : ℕ) → l + r ≤ 16384 → Makes t b text
-    → Gives t (record { left = l; right = r; pad = pad; body = b }) (replicate l pad ++ (text ++ replicate r pad))
+    → Gives t (record { before = l; behind = r; pad = pad; body = b }) (replicate l pad ++ (text ++ replicate r pad))
 unfolding bytesOf
 made-piece l r pad h m = record { good = record { body = m .good; padding = omega arith }; is = rw (m .is) }

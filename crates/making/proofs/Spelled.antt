@@ -98,13 +98,13 @@ pub left-is : {w p n size w′ p′ : ℕ} (text : List ℕ) → n ≡ w - size 
 unfolding padLeft
 left-is text en ew ep es = rw (append-nil text, en, ew, ep, es)
 
-module _ (at : Bool) (s : Settings) (text : List ℕ) {mw pi mp p n size : ℕ} (e₁ : mw ≡ orElse (s .first) 0)
+module _ (atsign : Bool) (s : Settings) (text : List ℕ) {mw pi mp p n size : ℕ} (e₁ : mw ≡ orElse (s .first) 0)
     (e₂ : pi ≡ orElse (s .second) 1) (e₃ : mp ≡ orElse (s .third) 0) (e₄ : p ≡ orElse (s .fourth) 32)
     (es : size ≡ length text) (en : n ≡ paddingOf mw pi mp size) where
-  pub around-left : at ≡ true → replicate n p ++ (text ++ []) ≡ around at s text
+  pub around-left : atsign ≡ true → replicate n p ++ (text ++ []) ≡ around atsign s text
   around-left e = rw (append-nil text, en, e₁, e₂, e₃, e₄, es, e)
 
-  pub around-right : at ≡ false → text ++ replicate n p ≡ around at s text
+  pub around-right : atsign ≡ false → text ++ replicate n p ≡ around atsign s text
   around-right e = rw (en, e₁, e₂, e₃, e₄, es, e)
 
 -- the text of an argument before padding
@@ -144,6 +144,6 @@ bare-list true first count = refl
 bare-list false first count = refl
 
 -- the text of a form
-pub text-at : {f k : Form} → f ≡ k → (colon at : Bool) (s : Settings) (v : Value)
-    → textOf k colon at s v ≡ textOf f colon at s v
-text-at e colon at s v = ap (λ (x : Form). textOf x colon at s v) (sym e)
+pub text-at : {f k : Form} → f ≡ k → (colon atsign : Bool) (s : Settings) (v : Value)
+    → textOf k colon atsign s v ≡ textOf f colon atsign s v
+text-at e colon atsign s v = ap (λ (x : Form). textOf x colon atsign s v) (sym e)

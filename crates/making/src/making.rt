@@ -10,8 +10,8 @@ use super::words::plural_body;
 use super::words::run_body;
 use super::words::written_body;
 use pieces::Body;
+use pieces::Content;
 use pieces::Piece;
-use pieces::Source;
 use pieces::quoting::quoted_size;
 use rules::Argument;
 use rules::Form;
@@ -40,13 +40,13 @@ fn string_body(quoted: bool, start: usize, end: usize, table: &[u8]) -> Body
         return Body {
             size,
             word,
-            source: Source::Quoted { start, end },
+            content: Content::Quoted { start, end },
         };
     }
     Body {
         size: end - start,
         word,
-        source: Source::Copied { start, end },
+        content: Content::Copied { start, end },
     }
 }
 
@@ -73,41 +73,41 @@ fn bare_body(quoted: bool, argument: Argument, table: &[u8]) -> Body
 // ~a and ~s
 fn make_object(
     quoted: bool,
-    at: bool,
+    atsign: bool,
     settings: Settings,
     argument: Argument,
     table: &[u8],
 ) -> Piece
     requires { ⌜ WellSet (Form.Object quoted) settings ⌝ }
     requires { ⌜ Reachable (now table) argument ⌝ }
-    ensures { λ r. ⌜ Gives (now (table .entry)) r (objectOf quoted at settings (meant (now (table .entry)) argument)) ⌝ }
+    ensures { λ r. ⌜ Gives (now (table .entry)) r (objectOf quoted atsign settings (meant (now (table .entry)) argument)) ⌝ }
 {
-    around(at, settings, bare_body(quoted, argument, table))
+    around(atsign, settings, bare_body(quoted, argument, table))
 }
 
 // The text of ~d, ~x, ~o and ~b before padding.
-fn numeral_body(base: u64, colon: bool, at: bool, settings: Settings, x: i64) -> Body
+fn numeral_body(base: u64, colon: bool, atsign: bool, settings: Settings, x: i64) -> Body
     requires { ⌜ WellSet (Form.Numeral base) settings ⌝ }
-    ensures { λ r. ⌜ ((t : List ℕ) → Makes t r (signOf at x ++ digitsIn colon settings (digitsOf base (magnitudeOf x)))) ⌝ }
+    ensures { λ r. ⌜ ((t : List ℕ) → Makes t r (signOf atsign x ++ digitsIn colon settings (digitsOf base (magnitudeOf x)))) ⌝ }
 {
     let third = settings.third;
     let fourth = settings.fourth;
     if colon {
         let comma = byte_or(third, b',');
         let width = number_or(fourth, 3);
-        return figure_body(base, at, width, comma, x);
+        return figure_body(base, atsign, width, comma, x);
     }
-    figure_body(base, at, 0, b',', x)
+    figure_body(base, atsign, 0, b',', x)
 }
 
 // ~d, ~x, ~o and ~b: padding stands left of the sign.
-fn make_numeral(base: u64, colon: bool, at: bool, settings: Settings, x: i64) -> Piece
+fn make_numeral(base: u64, colon: bool, atsign: bool, settings: Settings, x: i64) -> Piece
     requires { ⌜ WellSet (Form.Numeral base) settings ⌝ }
-    ensures { λ r. ⌜ ((t : List ℕ) → Gives t r (numeralOf base colon at settings x)) ⌝ }
+    ensures { λ r. ⌜ ((t : List ℕ) → Gives t r (numeralOf base colon atsign settings x)) ⌝ }
 {
     let first = settings.first;
     let second = settings.second;
-    let body = numeral_body(base, colon, at, settings, x);
+    let body = numeral_body(base, colon, atsign, settings, x);
     let width = number_or(first, 0);
     let pad = byte_or(second, b' ');
     let missing = less(width, body.size);
@@ -154,24 +154,24 @@ fn is_one(argument: Argument) -> bool
 pub fn make_piece(
     form: Form,
     colon: bool,
-    at: bool,
+    atsign: bool,
     settings: Settings,
     argument: Argument,
     table: &[u8],
 ) -> Piece
     requires { ⌜ WellSet form settings ⌝ }
     requires { ⌜ Reachable (now table) argument ⌝ }
-    ensures { λ r. ⌜ Gives (now (table .entry)) r (textOf form colon at settings (meant (now (table .entry)) argument)) ⌝ }
+    ensures { λ r. ⌜ Gives (now (table .entry)) r (textOf form colon atsign settings (meant (now (table .entry)) argument)) ⌝ }
 {
     match form {
-        Form::Object(quoted) => make_object(quoted, at, settings, argument, table),
-        Form::Numeral(base) => make_numeral(base, colon, at, settings, integer_of(argument)),
-        Form::Glyph => padded_piece(glyph_body(colon, at, code_of(argument)), 0, 0, b' '),
-        Form::Plural => padded_piece(plural_body(at, is_one(argument)), 0, 0, b' '),
+        Form::Object(quoted) => make_object(quoted, atsign, settings, argument, table),
+        Form::Numeral(base) => make_numeral(base, colon, atsign, settings, integer_of(argument)),
+        Form::Glyph => padded_piece(glyph_body(colon, atsign, code_of(argument)), 0, 0, b' '),
+        Form::Plural => padded_piece(plural_body(atsign, is_one(argument)), 0, 0, b' '),
         Form::Repeat(byte) => {
             let first = settings.first;
             padded_piece(run_body(byte, number_or(first, 1)), 0, 0, b' ')
         }
-        Form::Fold => padded_piece(fold_body(at), 0, 0, b' '),
+        Form::Fold => padded_piece(fold_body(atsign), 0, 0, b' '),
     }
 }

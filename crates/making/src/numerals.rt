@@ -2,8 +2,8 @@
 use numbers::is_negative;
 use numbers::magnitude;
 use pieces::Body;
+use pieces::Content;
 use pieces::Figure;
-use pieces::Source;
 use pieces::figuring::figure_size;
 ghost use mathlib.Core.Path.{_≡_};
 ghost use mathlib.Core.List.{List};
@@ -43,6 +43,6 @@ pub fn figure_body(base: u64, plus: bool, width: usize, comma: u8, x: i64) -> Bo
     Body {
         size,
         word,
-        source: Source::Figures(figure),
+        content: Content::Figures(figure),
     }
 }

@@ -41,23 +41,23 @@ fn padding(minwidth: usize, padinc: usize, minpad: usize, size: usize) -> usize
 }
 
 // A text with padding on its two sides.
-pub fn padded_piece(body: Body, left: usize, right: usize, pad: u8) -> Piece
-    requires { ⌜ left + right ≤ 16384 ⌝ }
-    ensures { λ r. ⌜ ((t text : List ℕ) → Makes t body text → Gives t r (beside left right pad text)) ⌝ }
+pub fn padded_piece(body: Body, before: usize, behind: usize, pad: u8) -> Piece
+    requires { ⌜ before + behind ≤ 16384 ⌝ }
+    ensures { λ r. ⌜ ((t text : List ℕ) → Makes t body text → Gives t r (beside before behind pad text)) ⌝ }
 {
     Piece {
-        left,
-        right,
+        before,
+        behind,
         pad,
         body,
     }
 }
 
 // A text padded by minwidth, padinc, minpad and padchar.
-pub fn around(at: bool, settings: Settings, body: Body) -> Piece
+pub fn around(atsign: bool, settings: Settings, body: Body) -> Piece
     requires { ⌜ InPlaces paddingPlaces settings ⌝ }
     requires { ⌜ body .size ≤ 131074 ⌝ }
-    ensures { λ r. ⌜ ((t text : List ℕ) → Makes t body text → Gives t r (aroundOf at settings text)) ⌝ }
+    ensures { λ r. ⌜ ((t text : List ℕ) → Makes t body text → Gives t r (aroundOf atsign settings text)) ⌝ }
 {
     let first = settings.first;
     let second = settings.second;
@@ -68,7 +68,7 @@ pub fn around(at: bool, settings: Settings, body: Body) -> Piece
     let minpad = number_or(third, 0);
     let pad = byte_or(fourth, b' ');
     let count = padding(minwidth, padinc, minpad, body.size);
-    if at {
+    if atsign {
         return padded_piece(body, count, 0, pad);
     }
     padded_piece(body, 0, count, pad)

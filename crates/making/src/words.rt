@@ -1,6 +1,6 @@
 // The short texts: a character and its written form, a truth value, an ending.
 use pieces::Body;
-use pieces::Source;
+use pieces::Content;
 use rules::scalars::hex_digit;
 ghost use mathlib.Core.Bool.{cond};
 ghost use mathlib.Core.List.{List, [], _∷_};
@@ -52,7 +52,7 @@ fn word_body(word: [u8; 12], size: usize) -> Body
     Body {
         size,
         word,
-        source: Source::Word(size),
+        content: Content::Word(size),
     }
 }
 
@@ -65,7 +65,7 @@ pub fn run_body(byte: u8, count: usize) -> Body
     Body {
         size: count,
         word,
-        source: Source::Run { byte, count },
+        content: Content::Run { byte, count },
     }
 }
 
@@ -117,10 +117,10 @@ pub fn written_body(code: u8) -> Body
 }
 
 // ~c
-pub fn glyph_body(colon: bool, at: bool, code: u8) -> Body
-    ensures { λ r. ⌜ ((t : List ℕ) → Makes t r (glyphOf colon at code)) ⌝ }
+pub fn glyph_body(colon: bool, atsign: bool, code: u8) -> Body
+    ensures { λ r. ⌜ ((t : List ℕ) → Makes t r (glyphOf colon atsign code)) ⌝ }
 {
-    if at {
+    if atsign {
         return written_body(code);
     }
     if colon {
@@ -135,16 +135,16 @@ pub fn glyph_body(colon: bool, at: bool, code: u8) -> Body
 }
 
 // ~p
-pub fn plural_body(at: bool, one: bool) -> Body
-    ensures { λ r. ⌜ ((t : List ℕ) → Makes t r (pluralOf at one)) ⌝ }
+pub fn plural_body(atsign: bool, one: bool) -> Body
+    ensures { λ r. ⌜ ((t : List ℕ) → Makes t r (pluralOf atsign one)) ⌝ }
 {
     if one {
-        if at {
+        if atsign {
             return run_body(b'y', 1);
         }
         return run_body(b'y', 0);
     }
-    if at {
+    if atsign {
         return word_body(IES, 3);
     }
     run_body(b's', 1)
@@ -161,10 +161,10 @@ pub fn flag_body(flag: bool) -> Body
 }
 
 // Tilde-newline.
-pub fn fold_body(at: bool) -> Body
-    ensures { λ r. ⌜ ((t : List ℕ) → Makes t r (cond at (10 ∷ []) [])) ⌝ }
+pub fn fold_body(atsign: bool) -> Body
+    ensures { λ r. ⌜ ((t : List ℕ) → Makes t r (cond atsign (10 ∷ []) [])) ⌝ }
 {
-    if at {
+    if atsign {
         return run_body(b'\n', 1);
     }
     run_body(b'\n', 0)

@@ -19,11 +19,11 @@ use Rattle.rules.specs.declared.Setting.the-variants.{Absent, Is}
 use Rattle.rules.specs.declared.Verdict.the-variants.{Accepted}
 use Rattle.rules.proofs.Reading.{item-end}
 use Rattle.rules.proofs.RunLaws.{begin-yes, begin-no, run-done, run-clause-end, run-passes-over, run-pass}
-use Rattle.checking.specs.Ends.{AfterBlock}
+use Rattle.syntax.specs.Ends.{AfterBlock}
 use Rattle.rules.proofs.Tests.{both-true, true-both}
-use Rattle.working.specs.Settling.{InHand, handAt}
-use Rattle.working.specs.declared.arguments.Hand.{Hand}
-use Rattle.working.proofs.WorkLaws.{hand-small}
+use Rattle.parameters.specs.Settling.{InHand, handAt}
+use Rattle.parameters.specs.declared.arguments.Hand.{Hand}
+use Rattle.parameters.proofs.WorkLaws.{hand-small}
 use Rattle.running.specs.Runs.{restAt}
 use Rattle.running.proofs.Places.{end-at}
 use Rattle.nesting.specs.declared.moves.Here.{Here}

@@ -13,8 +13,8 @@ use Rattle.rules.specs.Run.{run, Outside, sameArguments, other, afterwards}
 use Rattle.rules.specs.declared.ArgumentPosition.{ArgumentPosition}
 use Rattle.rules.specs.declared.Directive.{Directive}
 use Rattle.rules.specs.declared.Verdict.the-variants.{Accepted}
-use Rattle.working.specs.Settling.{handAt}
-use Rattle.working.specs.declared.arguments.Hand.{Hand}
+use Rattle.parameters.specs.Settling.{handAt}
+use Rattle.parameters.specs.declared.arguments.Hand.{Hand}
 use Rattle.running.specs.Runs.{restAt}
 use Rattle.nesting.specs.declared.moves.Here.{Here}
 use Rattle.nesting.specs.declared.moves.How.{How}
@@ -32,7 +32,7 @@ overAt code p h o = record { how = Over code p; here = h; nest = o }
 
 -- the kind of an iteration, with `@` or not
 abbrev pub kindOf : Bool → ℕ
-kindOf at = cond at 2 1
+kindOf atsign = cond atsign 2 1
 
 -- what a flow gives, and how it ends
 pub record Told : Type 0 where
@@ -84,7 +84,7 @@ pub record Ready (t table : List ℕ) (h : Here) (o : Nest) (d : Directive) : Ty
   pub accepted : tableVerdict table ≡ Accepted
   pub sound : Sound (length t) table h o
   pub level : o .depth < 8
-  pub inside : d .next ≤ length t
+  pub inside : d .after ≤ length t
 
 -- the run goes on after the block whose inside is at a place
 pub record Closes (t : List ℕ) (inside left : ℕ) (hand : Hand) (next : ArgumentPosition) (o : Nest) (r : Moved) : Type 0 where

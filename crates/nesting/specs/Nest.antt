@@ -11,8 +11,8 @@ use Rattle.rules.specs.Text.{Level, innermost, outer}
 use Rattle.rules.specs.Run.{Frame, iteration, conditional, sameArguments, other}
 use Rattle.rules.specs.declared.Setting.{Setting}
 use Rattle.rules.specs.declared.Setting.the-variants.{Absent, Is}
-use Rattle.working.specs.Settling.{handAt}
-use Rattle.working.specs.declared.arguments.Hand.{Hand}
+use Rattle.parameters.specs.Settling.{handAt}
+use Rattle.parameters.specs.declared.arguments.Hand.{Hand}
 use Rattle.running.specs.Runs.{restAt}
 use Rattle.nesting.specs.declared.nests.Block.{Block}
 use Rattle.nesting.specs.declared.nests.Nest.{Nest}

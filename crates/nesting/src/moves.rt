@@ -17,14 +17,15 @@ use blocks::passes::go_over;
 use blocks::passes::is_over;
 use blocks::passes::next_after;
 use blocks::passes::one_less;
-use fitting::places::is_well_written;
+use directives::places::is_well_written;
+use parameters::Hand;
+use parameters::SettledOut;
+use parameters::settle_directive;
 use rules::ArgumentPosition;
 use rules::Directive;
 use rules::Setting;
 use rules::Settings;
-use working::Hand;
-use working::SettledOut;
-use working::settle_directive;
+use rules::limits::DEEPEST;
 ghost use mathlib.Core.Path.{_≡_};
 ghost use mathlib.Core.Bool.{true};
 ghost use Prim.Native.Nat.{ℕ, _+_, _≤_, _<_};
@@ -34,15 +35,12 @@ ghost use Rattle.rules.specs.Table.{viewOf, tableVerdict};
 ghost use Rattle.rules.specs.Text.{end, levelsAt};
 ghost use Rattle.rules.specs.declared.Item.the-variants.{Written};
 ghost use Rattle.rules.specs.declared.Verdict.the-variants.{Accepted};
-ghost use Rattle.working.specs.Settling.{handAt};
+ghost use Rattle.parameters.specs.Settling.{handAt};
 ghost use Rattle.running.specs.Runs.{restAt, leaving, picking, entering, opening};
 ghost use Rattle.blocks.specs.Landmarks.{Landmarks};
 ghost use Rattle.blocks.specs.Parts.{opensBlock, iterates};
 ghost use Rattle.nesting.specs.Nest.{framesOf, FitsPasses};
 ghost use Rattle.nesting.specs.Moves.{kindOf, hereAt, overAt, Sound, Ready, comes, weight, Moves, Closes, Passing, endsBlock, afterBlock};
-
-// How deep blocks nest at most.
-const DEEPEST: usize = 8;
 
 // Where a run stands: the place of the text where it goes on, the steps that are left, and the arguments in hand with
 // the next of them.
@@ -87,10 +85,10 @@ fn over(code: u32, position: usize, here: Here, nest: Nest) -> Moved
     }
 }
 
-fn iteration_kind(at: bool) -> usize
-    ensures { λ r. ⌜ r ≡ kindOf at ⌝ }
+fn iteration_kind(atsign: bool) -> usize
+    ensures { λ r. ⌜ r ≡ kindOf atsign ⌝ }
 {
-    if at { OVER_ARGUMENTS } else { OVER_LIST }
+    if atsign { OVER_ARGUMENTS } else { OVER_LIST }
 }
 
 // The iteration that d opens, whose parameters are worked out: it stands before its first pass.
@@ -106,21 +104,21 @@ fn open_iteration(
     requires { ⌜ Ready (now text) (now table) here nest d ⌝ }
     requires { ⌜ i .0 ≤ here .hand .count ⌝ }
     requires { ⌜ FitsPasses (settings .first) ⌝ }
-    ensures { λ r. ⌜ ((j : ℕ) → Moves (now (text .entry)) (now (table .entry)) (entering (levelsAt (now (text .entry))) (viewOf (now (table .entry))) (handAt (here .hand)) (here .place) d (d .next) j (here .left) settings (i .0) (framesOf (levelsAt (now (text .entry))) nest (nest .depth))) (here .left) (weight here nest + 2) r) ⌝ }
+    ensures { λ r. ⌜ ((j : ℕ) → Moves (now (text .entry)) (now (table .entry)) (entering (levelsAt (now (text .entry))) (viewOf (now (table .entry))) (handAt (here .hand)) (here .place) d (d .after) j (here .left) settings (i .0) (framesOf (levelsAt (now (text .entry))) nest (nest .depth))) (here .left) (weight here nest + 2) r) ⌝ }
 {
     let hand = here.hand;
     let limit = settings.first;
-    let entries = go_over(table, hand, d.at, i);
+    let entries = go_over(table, hand, d.atsign, i);
     match entries {
         Over::Wrong(code) => over(code, here.place, here, nest),
         Over::Is { hand: inner, first } => {
             let block = Block {
-                kind: iteration_kind(d.at),
+                kind: iteration_kind(d.atsign),
                 place: here.place,
-                inside: d.next,
+                inside: d.after,
                 passes: limit,
                 hand,
-                next: next_after(d.at, i, i),
+                next: next_after(d.atsign, i, i),
             };
             Moved {
                 how: How::On,
@@ -145,7 +143,7 @@ fn open_conditional(
     requires { ⌜ Landmarks (now text) (now marks) ⌝ }
     requires { ⌜ Ready (now text) (now table) here nest d ⌝ }
     requires { ⌜ i .0 ≤ here .hand .count ⌝ }
-    ensures { λ r. ⌜ ((j : ℕ) → Moves (now (text .entry)) (now (table .entry)) (picking (levelsAt (now (text .entry))) (viewOf (now (table .entry))) (handAt (here .hand)) (here .place) d (d .next) j (here .left) settings (i .0) (framesOf (levelsAt (now (text .entry))) nest (nest .depth))) (here .left) (weight here nest + 2) r) ⌝ }
+    ensures { λ r. ⌜ ((j : ℕ) → Moves (now (text .entry)) (now (table .entry)) (picking (levelsAt (now (text .entry))) (viewOf (now (table .entry))) (handAt (here .hand)) (here .place) d (d .after) j (here .left) settings (i .0) (framesOf (levelsAt (now (text .entry))) nest (nest .depth))) (here .left) (weight here nest + 2) r) ⌝ }
 {
     let hand = here.hand;
     let chosen = choose_clause(text, marks, table, hand, d, settings, i);
@@ -154,7 +152,7 @@ fn open_conditional(
             let block = Block {
                 kind: CONDITIONAL,
                 place: here.place,
-                inside: d.next,
+                inside: d.after,
                 passes: Setting::Absent,
                 hand,
                 next,
@@ -168,7 +166,7 @@ fn open_conditional(
         Chosen::Nothing { inside, next } => Moved {
             how: How::On,
             here: stand(
-                block_end(text, marks, d.next, inside),
+                block_end(text, marks, d.after, inside),
                 here.left,
                 hand,
                 next,
@@ -190,7 +188,7 @@ fn open_begun(
 ) -> Moved
     requires { ⌜ Landmarks (now text) (now marks) ⌝ }
     requires { ⌜ Ready (now text) (now table) here nest d ⌝ }
-    ensures { λ r. ⌜ Moves (now (text .entry)) (now (table .entry)) (opening (iterates (d .code)) (levelsAt (now (text .entry))) (viewOf (now (table .entry))) (handAt (here .hand)) (here .place) d (d .next) (here .next .0) (here .left) (framesOf (levelsAt (now (text .entry))) nest (nest .depth))) (here .left) (weight here nest + 2) r ⌝ }
+    ensures { λ r. ⌜ Moves (now (text .entry)) (now (table .entry)) (opening (iterates (d .code)) (levelsAt (now (text .entry))) (viewOf (now (table .entry))) (handAt (here .hand)) (here .place) d (d .after) (here .next .0) (here .left) (framesOf (levelsAt (now (text .entry))) nest (nest .depth))) (here .left) (weight here nest + 2) r ⌝ }
 {
     let hand = here.hand;
     let next = here.next;

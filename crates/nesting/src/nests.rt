@@ -1,9 +1,9 @@
 // The open blocks as numbers, the outermost first.
+use parameters::Hand;
 use rules::ArgumentPosition;
 use rules::EntryIndex;
 use rules::Setting;
 use rules::scalars::widened;
-use working::Hand;
 ghost use mathlib.Core.Path.{_≡_};
 ghost use Prim.Native.Nat.{_-_, _<_};
 ghost use Rattle.nesting.specs.Nest.{blockAt, passesOf, Fits, FitsPasses, Pushes};

@@ -4,19 +4,19 @@ use mathlib.Core.List.{List, _++_}
 use Prim.Native.Nat.{ℕ, _+_, _-_, _≤_}
 use native.Mathlib.Nat.{sub-zero}
 use lib.ListN.{length, replicate, length-append, length-replicate}
-use Rattle.pieces.specs.Bytes.{part, quotedOf, figureOf, sourceOf, bodyOf, bytesOf, Inside, GoodFigure, GoodBody}
-use Rattle.pieces.specs.declared.Source.the-variants.{Run, Copied, Quoted, Figures, Word}
+use Rattle.pieces.specs.Bytes.{part, quotedOf, figureOf, contentOf, bodyOf, bytesOf, Inside, GoodFigure, GoodBody}
+use Rattle.pieces.specs.declared.Content.the-variants.{Run, Copied, Quoted, Figures, Word}
 use Rattle.pieces.specs.declared.Body.{Body}
 use Rattle.pieces.specs.declared.Figure.{Figure}
 use Rattle.pieces.specs.declared.Piece.{Piece}
 
-pub length-bytes : (t : List ℕ) (p : Piece) → length (bytesOf t p) ≡ p .left + (length (bodyOf t (p .body)) + p .right)
+pub length-bytes : (t : List ℕ) (p : Piece) → length (bytesOf t p) ≡ p .before + (length (bodyOf t (p .body)) + p .behind)
 unfolding bytesOf
 length-bytes t p =
     let body = bodyOf t (p .body) in
-    let right = replicate (p .right) (p .pad) in
-    length-append (replicate (p .left) (p .pad)) (body ++ right)
-    ∙ rw (length-append body right, length-replicate (p .left) (p .pad), length-replicate (p .right) (p .pad))
+    let right = replicate (p .behind) (p .pad) in
+    length-append (replicate (p .before) (p .pad)) (body ++ right)
+    ∙ rw (length-append body right, length-replicate (p .before) (p .pad), length-replicate (p .behind) (p .pad))
 
 -- a source's text and places
 pub record Is (t : List ℕ) (b : Body) (bytes : List ℕ) (Places : Type 0) : Type 0 where
@@ -25,8 +25,8 @@ pub record Is (t : List ℕ) (b : Body) (bytes : List ℕ) (Places : Type 0) : T
   pub places : Places
 
 module _ {t : List ℕ} {b : Body} (g : GoodBody t b) where
-  pub is-run : (byte n : ℕ) → b .source ≡ Run byte n → Is t b (replicate n byte) (b .size ≡ n)
-  unfolding sourceOf
+  pub is-run : (byte n : ℕ) → b .content ≡ Run byte n → Is t b (replicate n byte) (b .size ≡ n)
+  unfolding contentOf
   is-run byte n e = record {
     size = rw e at (g .size);
     text = rw e;
@@ -34,31 +34,31 @@ module _ {t : List ℕ} {b : Body} (g : GoodBody t b) where
   }
 
   -- of a string, as the part p that is lent of the table
-  pub is-copied : (start end : ℕ) {p : List ℕ} → p ≡ part start (end - start) t → b .source ≡ Copied start end
+  pub is-copied : (start end : ℕ) {p : List ℕ} → p ≡ part start (end - start) t → b .content ≡ Copied start end
       → Is t b p ((start ≤ end) × (end ≤ length t))
-  unfolding sourceOf Inside
+  unfolding contentOf Inside
   is-copied start end l e = record {
     size = rw (e, ← l) at (g .size);
     text = rw e (sym l);
     places = rw e at (g .inside);
   }
 
-  pub is-quoted : (start end : ℕ) {p : List ℕ} → p ≡ part start (end - start) t → b .source ≡ Quoted start end
+  pub is-quoted : (start end : ℕ) {p : List ℕ} → p ≡ part start (end - start) t → b .content ≡ Quoted start end
       → Is t b (quotedOf p) ((start ≤ end) × (end ≤ length t))
-  unfolding sourceOf Inside
+  unfolding contentOf Inside
   is-quoted start end l e = record {
     size = rw (e, ← l) at (g .size);
     text = rw e (ap quotedOf (sym l));
     places = rw e at (g .inside);
   }
 
-  pub is-figures : (x : Figure) → b .source ≡ Figures x → Is t b (figureOf x) (GoodFigure x)
-  unfolding sourceOf Inside
+  pub is-figures : (x : Figure) → b .content ≡ Figures x → Is t b (figureOf x) (GoodFigure x)
+  unfolding contentOf Inside
   is-figures x e = record { size = rw e at (g .size); text = rw e; places = rw e at (g .inside) }
 
   -- as the part that is lent of the word
-  pub is-word : (n : ℕ) → b .source ≡ Word n → Is t b (part 0 (n - 0) (b .word)) (n ≤ length (b .word))
-  unfolding sourceOf Inside
+  pub is-word : (n : ℕ) → b .content ≡ Word n → Is t b (part 0 (n - 0) (b .word)) (n ≤ length (b .word))
+  unfolding contentOf Inside
   is-word n e = record {
     size = rw sub-zero (rw e at (g .size));
     text = rw (sub-zero, e);

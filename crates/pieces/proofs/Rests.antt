@@ -15,10 +15,10 @@ use lib.ListN.{length, take, drop, set, replicate, length-append, length-set, le
 use lib.ListN.{length-drop, take-append-drop, replicate-append-replicate}
 use lib.Seq.{drop-drop, take-nil, take-all, take-at, drop-at, take-suc-set, drop-set-lt, append-snoc, length-take-le}
 use Rattle.rules.specs.Piece.{escaped}
-use Rattle.pieces.specs.Bytes.{part, owed, quotedOf, beside, sourceOf, bytesOf}
+use Rattle.pieces.specs.Bytes.{part, owed, quotedOf, beside, contentOf, bytesOf}
 use Rattle.pieces.specs.Rest.{stringOf, closingOf, restOf, RestIn, Appends, Pads, Escapes, WritesRest}
 use Rattle.pieces.specs.declared.Piece.{Piece}
-use Rattle.pieces.specs.declared.Source.the-variants.{Quoted}
+use Rattle.pieces.specs.declared.Content.the-variants.{Quoted}
 use Rattle.pieces.specs.declared.resuming.QuoteRest.{QuoteRest}
 use Rattle.pieces.specs.declared.resuming.RestWritten.{RestWritten}
 use Rattle.pieces.proofs.Segments.{Begun, begun-more, lent}
@@ -31,7 +31,7 @@ module _ (t : List ℕ) (q : QuoteRest) where
   unfolding restOf
   rest-done e = rw (eq-eqb (q .stage) 0 e)
 
-  pub rest-whole : q .stage ≡ 1 → restOf t q ≡ beside (q .left) (q .right) (q .pad) (quotedOf (stringOf t q))
+  pub rest-whole : q .stage ≡ 1 → restOf t q ≡ beside (q .before) (q .behind) (q .pad) (quotedOf (stringOf t q))
   unfolding restOf
   rest-whole e = rw (ne-eqb (q .stage) 0 (omega arith), eq-eqb (q .stage) 1 e)
 
@@ -44,7 +44,7 @@ module _ (t : List ℕ) (q : QuoteRest) where
         | no e ↦ rw (ne-eqb (q .stage) 2 e, eq-eqb (q .stage) 3 (omega (arith, e)))
       ])
 
-  pub rest-padding : 3 < q .stage → restOf t q ≡ replicate (q .right) (q .pad)
+  pub rest-padding : 3 < q .stage → restOf t q ≡ replicate (q .behind) (q .pad)
   unfolding restOf
   rest-padding h =
       rw (
@@ -54,26 +54,26 @@ module _ (t : List ℕ) (q : QuoteRest) where
         ne-eqb (q .stage) 3 (omega arith),
       )
 
-abbrev pub quoteRest : (stage left start end right pad : ℕ) → QuoteRest
-quoteRest stage left start end right pad = record {
+abbrev pub quoteRest : (stage before start end behind pad : ℕ) → QuoteRest
+quoteRest stage before start end behind pad = record {
   stage = stage;
-  left = left;
+  before = before;
   start = start;
   end = end;
-  right = right;
+  behind = behind;
   pad = pad;
 }
 
 -- the same string
-pub still-in : {t : List ℕ} {q : QuoteRest} {stage left right pad : ℕ} → RestIn t q → left ≤ q .left → right ≤ q .right
-    → RestIn t (quoteRest stage left (q .start) (q .end) right pad)
+pub still-in : {t : List ℕ} {q : QuoteRest} {stage before behind pad : ℕ} → RestIn t q → before ≤ q .before → behind ≤ q .behind
+    → RestIn t (quoteRest stage before (q .start) (q .end) behind pad)
 still-in k l r = record { order = k .order; inside = k .inside; before = omega (arith, l, k .before); behind = omega (arith, r, k .behind) }
 
 -- all of a piece is left before any of it is written
-pub rest-piece : (t : List ℕ) (p : Piece) (start end : ℕ) → p .body .source ≡ Quoted start end
-    → bytesOf t p ≡ restOf t (quoteRest 1 (p .left) start end (p .right) (p .pad))
-unfolding bytesOf sourceOf
-rest-piece t p start end e = rw e (sym (rest-whole t (quoteRest 1 (p .left) start end (p .right) (p .pad)) refl))
+pub rest-piece : (t : List ℕ) (p : Piece) (start end : ℕ) → p .body .content ≡ Quoted start end
+    → bytesOf t p ≡ restOf t (quoteRest 1 (p .before) start end (p .behind) (p .pad))
+unfolding bytesOf contentOf
+rest-piece t p start end e = rw e (sym (rest-whole t (quoteRest 1 (p .before) start end (p .behind) (p .pad)) refl))
 
 drop-later : (m n : ℕ) (xs ys : List ℕ) → m ≤ n → drop m xs ≡ drop m ys → drop n xs ≡ drop n ys
 drop-later m n xs ys h e =
@@ -244,29 +244,29 @@ rest-empty {r = r} w e =
     ]
 
 -- the padding on the right
-module _ (t : List ℕ) (q : QuoteRest) {from : ℕ} {b e : List ℕ} {left at : ℕ} (h : 3 < q .stage) (k : RestIn t q)
-    (p : Pads (q .right) (q .pad) from b e left at) where
-  in-padding : Appends (restOf t q) from b e at (replicate left (q .pad))
+module _ (t : List ℕ) (q : QuoteRest) {from : ℕ} {b e : List ℕ} {missing at : ℕ} (h : 3 < q .stage) (k : RestIn t q)
+    (p : Pads (q .behind) (q .pad) from b e missing at) where
+  in-padding : Appends (restOf t q) from b e at (replicate missing (q .pad))
   in-padding = rw (rest-padding t q h) (p .written)
 
-  pub padding-done : left ≡ 0
+  pub padding-done : missing ≡ 0
       → WritesRest t q from b e
-      (record { rest = quoteRest 0 (q .left) (q .start) (q .end) left (q .pad); at = at })
+      (record { rest = quoteRest 0 (q .before) (q .start) (q .end) missing (q .pad); at = at })
   padding-done z =
-      let rest = quoteRest 0 (q .left) (q .start) (q .end) left (q .pad) in
+      let rest = quoteRest 0 (q .before) (q .start) (q .end) missing (q .pad) in
       rest-written t q _ (rw (rest-done t rest refl) (rw z at in-padding))
       (still-in k (omega arith) (omega (arith, p .over))) (λ n. absurd (n refl))
 
-  pub padding-more : left ≢ 0
+  pub padding-more : missing ≢ 0
       → WritesRest t q from b e
-      (record { rest = quoteRest (q .stage) (q .left) (q .start) (q .end) left (q .pad); at = at })
+      (record { rest = quoteRest (q .stage) (q .before) (q .start) (q .end) missing (q .pad); at = at })
   padding-more z =
-      let rest = quoteRest (q .stage) (q .left) (q .start) (q .end) left (q .pad) in
-      let is : restOf t rest ≡ replicate left (q .pad) = rest-padding t rest h in
+      let rest = quoteRest (q .stage) (q .before) (q .start) (q .end) missing (q .pad) in
+      let is : restOf t rest ≡ replicate missing (q .pad) = rest-padding t rest h in
       rest-written t q _ (rw is in-padding) (still-in k (omega arith) (omega (arith, p .over)))
       (λ _. (
         omega (arith, z, p .place, p .over, p .written .most, p .written .least),
-        rw (is, length-replicate left (q .pad)) (omega (arith, z)),
+        rw (is, length-replicate missing (q .pad)) (omega (arith, z)),
       ))
 
 -- inside the quotes
@@ -277,19 +277,19 @@ module _ (t : List ℕ) (q : QuoteRest) {src : List ℕ} {from : ℕ} {b c : Lis
   in-string = rw (rest-inside t q (l .0) (l .1), ← s) (append-before (w .written) (closingOf q))
 
   pub string-closed : {e : List ℕ} {r : RestWritten} → at < length c
-      → WritesRest t (quoteRest 4 (q .left) (q .start) (q .end) (q .right) (q .pad)) (at + 1) (set c at 34) e r
+      → WritesRest t (quoteRest 4 (q .before) (q .start) (q .end) (q .behind) (q .pad)) (at + 1) (set c at 34) e r
       → WritesRest t q from b e r
   string-closed {e} {r} h v =
-      let rest = quoteRest 4 (q .left) (q .start) (q .end) (q .right) (q .pad) in
+      let rest = quoteRest 4 (q .before) (q .start) (q .end) (q .behind) (q .pad) in
       let ended : length src ≤ i = w .ends (omega (arith, w .written .size)) in
       rest-goes-on t q r rest
       (rw (rest-padding t rest (omega arith)) (append-one in-string 34 h (rw (ends src i gone ended)))) v
 
   pub string-more : length c ≤ at → {stage : ℕ} → stage ≡ cond gone 3 2
       → WritesRest t q from b c
-      (record { rest = quoteRest stage (q .left) (q .start + i) (q .end) (q .right) (q .pad); at = at })
+      (record { rest = quoteRest stage (q .before) (q .start + i) (q .end) (q .behind) (q .pad); at = at })
   string-more h {stage} e =
-      let rest = quoteRest stage (q .left) (q .start + i) (q .end) (q .right) (q .pad) in
+      let rest = quoteRest stage (q .before) (q .start + i) (q .end) (q .behind) (q .pad) in
       let size : length src ≡ q .end - q .start =
       ap length s ∙ length-part (q .start) (q .end - q .start) t (omega (arith, k .inside)) in
       let is : restOf t rest ≡ owed gone (drop i src) ++ closingOf q =
@@ -303,32 +303,32 @@ module _ (t : List ℕ) (q : QuoteRest) {src : List ℕ} {from : ℕ} {b c : Lis
       ))
 
 -- the padding on the left
-module _ (t : List ℕ) (q : QuoteRest) {from : ℕ} {b c : List ℕ} {left at : ℕ} (one : q .stage ≡ 1) (k : RestIn t q)
-    (p : Pads (q .left) (q .pad) from b c left at) where
-  in-front : Appends (restOf t q) from b c at (beside left (q .right) (q .pad) (quotedOf (stringOf t q)))
+module _ (t : List ℕ) (q : QuoteRest) {from : ℕ} {b c : List ℕ} {missing at : ℕ} (one : q .stage ≡ 1) (k : RestIn t q)
+    (p : Pads (q .before) (q .pad) from b c missing at) where
+  in-front : Appends (restOf t q) from b c at (beside missing (q .behind) (q .pad) (quotedOf (stringOf t q)))
   in-front = rw (rest-whole t q one) (append-before (p .written) _)
 
   pub string-opened : {e : List ℕ} {r : RestWritten} → at < length c
-      → WritesRest t (quoteRest 2 (q .left) (q .start) (q .end) (q .right) (q .pad)) (at + 1) (set c at 34) e r
+      → WritesRest t (quoteRest 2 (q .before) (q .start) (q .end) (q .behind) (q .pad)) (at + 1) (set c at 34) e r
       → WritesRest t q from b e r
   string-opened {e} {r} h v =
-      let rest = quoteRest 2 (q .left) (q .start) (q .end) (q .right) (q .pad) in
-      let none : left ≡ 0 = omega (arith, p .place, p .over, p .written .size) in
+      let rest = quoteRest 2 (q .before) (q .start) (q .end) (q .behind) (q .pad) in
+      let none : missing ≡ 0 = omega (arith, p .place, p .over, p .written .size) in
       rest-goes-on t q r rest
       (rw (rest-inside t rest (omega arith) (omega arith))
-      (append-one in-front 34 h (rw none (quote-first (stringOf t q) (replicate (q .right) (q .pad)))))) v
+      (append-one in-front 34 h (rw none (quote-first (stringOf t q) (replicate (q .behind) (q .pad)))))) v
 
   pub front-more : length c ≤ at
       → WritesRest t q from b c
-      (record { rest = quoteRest (q .stage) left (q .start) (q .end) (q .right) (q .pad); at = at })
+      (record { rest = quoteRest (q .stage) missing (q .start) (q .end) (q .behind) (q .pad); at = at })
   front-more h =
-      let rest = quoteRest (q .stage) left (q .start) (q .end) (q .right) (q .pad) in
+      let rest = quoteRest (q .stage) missing (q .start) (q .end) (q .behind) (q .pad) in
       let text = quotedOf (stringOf t q) in
-      let padding = replicate (q .right) (q .pad) in
-      let is : restOf t rest ≡ beside left (q .right) (q .pad) text = rest-whole t rest one in
+      let padding = replicate (q .behind) (q .pad) in
+      let is : restOf t rest ≡ beside missing (q .behind) (q .pad) text = rest-whole t rest one in
       rest-written t q _ (rw is in-front) (still-in k (omega (arith, p .over)) (omega arith))
       (λ _. (
         omega (arith, p .written .most, p .written .size),
-        rw (is, length-append (replicate left (q .pad)) (text ++ padding), length-append text padding)
+        rw (is, length-append (replicate missing (q .pad)) (text ++ padding), length-append text padding)
             (omega (arith, length-quoted (stringOf t q))),
       ))

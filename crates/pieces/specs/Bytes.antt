@@ -9,8 +9,8 @@ use Rattle.rules.specs.Letters.{letter, bytes}
 use Rattle.rules.specs.Number.{digitsOf, grouped}
 use Rattle.rules.specs.Piece.{escaped}
 use Rattle.pieces.specs.declared.Figure.{Figure}
-use Rattle.pieces.specs.declared.Source.{Source}
-use Rattle.pieces.specs.declared.Source.the-variants.{Run, Copied, Quoted, Figures, Word}
+use Rattle.pieces.specs.declared.Content.{Content}
+use Rattle.pieces.specs.declared.Content.the-variants.{Run, Copied, Quoted, Figures, Word}
 use Rattle.pieces.specs.declared.Body.{Body}
 use Rattle.pieces.specs.declared.Piece.{Piece}
 
@@ -45,24 +45,24 @@ signed sign = cond (eqb sign 0) [] (sign ∷ [])
 unfoldable pub figureOf : Figure → List ℕ
 figureOf x = signed (x .sign) ++ digitsIn x
 
-unfoldable pub sourceOf : List ℕ → List ℕ → Source → List ℕ
-sourceOf t word (Run b n) = replicate n b
-sourceOf t word (Copied start end) = part start (end - start) t
-sourceOf t word (Quoted start end) = quotedOf (part start (end - start) t)
-sourceOf t word (Figures x) = figureOf x
-sourceOf t word (Word n) = take n word
+unfoldable pub contentOf : List ℕ → List ℕ → Content → List ℕ
+contentOf t word (Run b n) = replicate n b
+contentOf t word (Copied start end) = part start (end - start) t
+contentOf t word (Quoted start end) = quotedOf (part start (end - start) t)
+contentOf t word (Figures x) = figureOf x
+contentOf t word (Word n) = take n word
 
 -- the text before padding, from the table t
 abbrev pub bodyOf : List ℕ → Body → List ℕ
-bodyOf t b = sourceOf t (b .word) (b .source)
+bodyOf t b = contentOf t (b .word) (b .content)
 
 -- a text with so many bytes of padding on its left and on its right
 abbrev pub beside : ℕ → ℕ → ℕ → List ℕ → List ℕ
-beside left right pad text = replicate left pad ++ (text ++ replicate right pad)
+beside before behind pad text = replicate before pad ++ (text ++ replicate behind pad)
 
 -- the bytes of a piece
 unfoldable pub bytesOf : List ℕ → Piece → List ℕ
-bytesOf t p = beside (p .left) (p .right) (p .pad) (bodyOf t (p .body))
+bytesOf t p = beside (p .before) (p .behind) (p .pad) (bodyOf t (p .body))
 
 pub record GoodFigure (x : Figure) : Type 0 where
   pub base : (2 ≤ x .base) × (x .base ≤ 36)
@@ -70,7 +70,7 @@ pub record GoodFigure (x : Figure) : Type 0 where
   pub digits : length (digitsOf (x .base) (x .magnitude)) ≤ 64
 
 -- the places that a source names are there
-unfoldable pub Inside : List ℕ → List ℕ → Source → Type 0
+unfoldable pub Inside : List ℕ → List ℕ → Content → Type 0
 Inside t word (Run b n) = 0 ≤ n
 Inside t word (Copied start end) = (start ≤ end) × (end ≤ length t)
 Inside t word (Quoted start end) = (start ≤ end) × (end ≤ length t)
@@ -81,11 +81,11 @@ Inside t word (Word n) = n ≤ length word
 pub record GoodBody (t : List ℕ) (b : Body) : Type 0 where
   pub size : b .size ≡ length (bodyOf t b)
   pub small : b .size ≤ 131074
-  pub inside : Inside t (b .word) (b .source)
+  pub inside : Inside t (b .word) (b .content)
 
 pub record Good (t : List ℕ) (p : Piece) : Type 0 where
   pub body : GoodBody t (p .body)
-  pub padding : p .left + p .right ≤ 65536
+  pub padding : p .before + p .behind ≤ 65536
 
 -- a body that is in order and stands for a text, and a piece that does
 pub record Makes (t : List ℕ) (b : Body) (text : List ℕ) : Type 0 where

@@ -18,23 +18,23 @@ stringOf t q = part (q .start) (q .end - q .start) t
 
 -- what follows the string: the last quote, and the padding on the right
 abbrev pub closingOf : QuoteRest → List ℕ
-closingOf q = letter "\"" ∷ replicate (q .right) (q .pad)
+closingOf q = letter "\"" ∷ replicate (q .behind) (q .pad)
 
 -- what is left of the piece, by how far it has come: 0 nothing; 1 all from its padding on the left; 2 inside the
 -- quotes; 3 the same, with the backslash of the first byte gone; above that the padding on the right
 unfoldable pub restOf : List ℕ → QuoteRest → List ℕ
 restOf t q =
     cond (eqb (q .stage) 0) []
-    (cond (eqb (q .stage) 1) (beside (q .left) (q .right) (q .pad) (quotedOf (stringOf t q)))
+    (cond (eqb (q .stage) 1) (beside (q .before) (q .behind) (q .pad) (quotedOf (stringOf t q)))
     (cond (eqb (q .stage) 2) (escaped (stringOf t q) ++ closingOf q)
-    (cond (eqb (q .stage) 3) (owed true (stringOf t q) ++ closingOf q) (replicate (q .right) (q .pad)))))
+    (cond (eqb (q .stage) 3) (owed true (stringOf t q) ++ closingOf q) (replicate (q .behind) (q .pad)))))
 
 -- the string lies in the table, and the padding is no longer than that of a piece may be
 pub record RestIn (t : List ℕ) (q : QuoteRest) : Type 0 where
   pub order : q .start ≤ q .end
   pub inside : q .end ≤ length t
-  pub before : q .left ≤ 65536
-  pub behind : q .right ≤ 65536
+  pub before : q .before ≤ 65536
+  pub behind : q .behind ≤ 65536
 
 -- a front of a text is written into the buffer b from a place on, up to the place `at` of e, and the rest is left
 pub record Appends (text : List ℕ) (from : ℕ) (b e : List ℕ) (at : ℕ) (rest : List ℕ) : Type 0 where
@@ -45,10 +45,10 @@ pub record Appends (text : List ℕ) (from : ℕ) (b e : List ℕ) (at : ℕ) (r
   pub most : at ≤ length b
 
 -- of a byte repeated so many times as many as there is room for
-pub record Pads (count pad from : ℕ) (b e : List ℕ) (left at : ℕ) : Type 0 where
-  pub written : Appends (replicate count pad) from b e at (replicate left pad)
+pub record Pads (count pad from : ℕ) (b e : List ℕ) (missing at : ℕ) : Type 0 where
+  pub written : Appends (replicate count pad) from b e at (replicate missing pad)
   pub place : at ≡ from + min count (length b - from)
-  pub over : left ≡ count - (length b - from)
+  pub over : missing ≡ count - (length b - from)
 
 -- of what a string owes as much as there is room for: its byte i is next
 pub record Escapes (src : List ℕ) (gone₀ : Bool) (from : ℕ) (b e : List ℕ) (i : ℕ) (gone : Bool) (at : ℕ) : Type 0 where

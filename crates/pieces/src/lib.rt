@@ -17,7 +17,7 @@ pub struct Figure {
 }
 
 // Where the bytes of a text come from. A string is given by its place in the table.
-pub enum Source {
+pub enum Content {
     Run { byte: u8, count: usize },
     Copied { start: usize, end: usize },
     Quoted { start: usize, end: usize },
@@ -30,13 +30,13 @@ pub enum Source {
 pub struct Body {
     pub size: usize,
     pub word: [u8; 12],
-    pub source: Source,
+    pub content: Content,
 }
 
 // A text with the padding on its two sides.
 pub struct Piece {
-    pub left: usize,
-    pub right: usize,
+    pub before: usize,
+    pub behind: usize,
     pub pad: u8,
     pub body: Body,
 }

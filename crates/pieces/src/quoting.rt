@@ -60,12 +60,12 @@ pub fn quote_whole(src: &[u8], out: &mut [u8])
 }
 
 // Where a place of the escaped text falls: at a byte of the string, whose backslash is gone already or not.
-struct Spot {
+struct Landing {
     at: usize,
     gone: bool,
 }
 
-fn find_spot(src: &[u8], from: usize) -> Spot
+fn find_landing(src: &[u8], from: usize) -> Landing
     ensures spot { λ r. ⌜ drop from (escaped (now (src .entry))) ≡ owed (r .gone) (drop (r .at) (now (src .entry))) ⌝ }
     ensures inside { λ r. ⌜ r .at ≤ length (now (src .entry)) ⌝ }
 {
@@ -73,12 +73,12 @@ fn find_spot(src: &[u8], from: usize) -> Spot
     let mut skip = from;
     while 0 < skip {
         if src.len() <= i {
-            return Spot { at: i, gone: false };
+            return Landing { at: i, gone: false };
         }
         let byte = src[i];
         if is_marked(byte) {
             if skip == 1 {
-                return Spot { at: i, gone: true };
+                return Landing { at: i, gone: true };
             }
             skip -= 2;
             i += 1;
@@ -87,7 +87,7 @@ fn find_spot(src: &[u8], from: usize) -> Spot
             i += 1;
         }
     }
-    Spot { at: i, gone: false }
+    Landing { at: i, gone: false }
 }
 
 // The string's next byte, whose backslash is gone already or not, and the place after what is written.
@@ -143,7 +143,7 @@ fn escape_part(src: &[u8], from: usize, out: &mut [u8])
     requires { ⌜ length (now out) ≤ length (escaped (now src)) - from ⌝ }
     ensures { λ _. ⌜ now (out .exit) ≡ part from (length (now (out .entry))) (escaped (now (src .entry))) ⌝ }
 {
-    let spot = find_spot(src, from);
+    let spot = find_landing(src, from);
     let start = spot.at;
     let end = src.len();
     escape_some(&src[start..end], spot.gone, out, 0);

@@ -16,10 +16,10 @@ ghost use Rattle.pieces.specs.Rest.{RestIn, Pads, WritesRest};
 #[repr(C)]
 pub struct QuoteRest {
     pub stage: usize,
-    pub left: usize,
+    pub before: usize,
     pub start: usize,
     pub end: usize,
-    pub right: usize,
+    pub behind: usize,
     pub pad: u8,
 }
 
@@ -45,34 +45,34 @@ const HALFWAY: usize = 3;
 const PADDING: usize = 4;
 
 // A piece none of which is written, whose text is the string from start to end in quotes.
-pub fn quote_rest(left: usize, right: usize, pad: u8, start: usize, end: usize) -> QuoteRest
-    ensures { λ r. ⌜ r ≡ record { stage = 1; left = left; start = start; end = end; right = right; pad = pad } ⌝ }
+pub fn quote_rest(before: usize, behind: usize, pad: u8, start: usize, end: usize) -> QuoteRest
+    ensures { λ r. ⌜ r ≡ record { stage = 1; before = before; start = start; end = end; behind = behind; pad = pad } ⌝ }
 {
     QuoteRest {
         stage: WHOLE,
-        left,
+        before,
         start,
         end,
-        right,
+        behind,
         pad,
     }
 }
 
 // How many bytes of padding are left, and the place after those written.
 struct Padded {
-    left: usize,
+    missing: usize,
     at: usize,
 }
 
 fn pad_some(count: usize, pad: u8, out: &mut [u8], from: usize) -> Padded
     requires { ⌜ from ≤ length (now out) ⌝ }
-    ensures { λ r. ⌜ Pads count pad from (now (out .entry)) (now (out .exit)) (r .left) (r .at) ⌝ }
+    ensures { λ r. ⌜ Pads count pad from (now (out .entry)) (now (out .exit)) (r .missing) (r .at) ⌝ }
 {
     let n = reach(out.len(), from, count);
     let end = from + n;
     fill(pad, &mut out[from..end]);
     Padded {
-        left: count - n,
+        missing: count - n,
         at: end,
     }
 }
@@ -90,10 +90,10 @@ fn write_padding(q: QuoteRest, out: &mut [u8], from: usize) -> RestWritten
     requires { ⌜ from ≤ length (now out) ⌝ }
     ensures { λ r. ⌜ ((t : List ℕ) → RestIn t q → WritesRest t q from (now (out .entry)) (now (out .exit)) r) ⌝ }
 {
-    let padded = pad_some(q.right, q.pad, out, from);
+    let padded = pad_some(q.behind, q.pad, out, from);
     let mut rest = q;
-    rest.right = padded.left;
-    if padded.left == 0 {
+    rest.behind = padded.missing;
+    if padded.missing == 0 {
         rest.stage = DONE;
     }
     RestWritten {
@@ -132,7 +132,7 @@ fn write_from_left(q: QuoteRest, table: &[u8], out: &mut [u8], from: usize) -> R
     requires { ⌜ from ≤ length (now out) ⌝ }
     ensures { λ r. ⌜ WritesRest (now (table .entry)) q from (now (out .entry)) (now (out .exit)) r ⌝ }
 {
-    let padded = pad_some(q.left, q.pad, out, from);
+    let padded = pad_some(q.before, q.pad, out, from);
     let at = padded.at;
     let mut rest = q;
     if at < out.len() {
@@ -140,7 +140,7 @@ fn write_from_left(q: QuoteRest, table: &[u8], out: &mut [u8], from: usize) -> R
         rest.stage = INSIDE;
         return write_inside(rest, table, out, at + 1);
     }
-    rest.left = padded.left;
+    rest.before = padded.missing;
     RestWritten { rest, at }
 }
 

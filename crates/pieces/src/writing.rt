@@ -1,7 +1,7 @@
 // A piece: its length, and its writers, of the whole and of any part.
 use super::Body;
+use super::Content;
 use super::Piece;
-use super::Source;
 use super::copying::copy_part;
 use super::copying::fill;
 use super::figuring::figure_part;
@@ -22,7 +22,7 @@ pub fn piece_length(piece: Piece) -> usize
     ensures length { λ r. ⌜ ((t : List ℕ) → Good t piece → r ≡ length (bytesOf t piece)) ⌝ }
     ensures within { λ r. ⌜ r ≤ 262144 ⌝ }
 {
-    piece.left + (piece.body.size + piece.right)
+    piece.before + (piece.body.size + piece.behind)
 }
 
 // A part of the text before padding.
@@ -33,18 +33,18 @@ fn body_part(body: Body, table: &[u8], from: usize, out: &mut [u8])
 {
     let size = body.size;
     let word = body.word;
-    let source = body.source;
-    match source {
-        Source::Run { byte, count: _ } => fill(byte, out),
-        Source::Copied { start, end } => copy_part(string_part(table, start, end), from, out),
-        Source::Quoted { start, end } => quote_part(
+    let content = body.content;
+    match content {
+        Content::Run { byte, count: _ } => fill(byte, out),
+        Content::Copied { start, end } => copy_part(string_part(table, start, end), from, out),
+        Content::Quoted { start, end } => quote_part(
             string_part(table, start, end),
             size,
             from,
             out,
         ),
-        Source::Figures(x) => figure_part(x, size, from, out),
-        Source::Word(n) => copy_part(&word[0..n], from, out),
+        Content::Figures(x) => figure_part(x, size, from, out),
+        Content::Word(n) => copy_part(&word[0..n], from, out),
     }
 }
 
@@ -55,11 +55,11 @@ pub fn write_part(piece: Piece, table: &[u8], from: usize, out: &mut [u8])
     ensures { λ _. ⌜ now (out .exit) ≡ take (length (now (out .entry))) (drop from (bytesOf (now (table .entry)) piece)) ⌝ }
 {
     let n = out.len();
-    let left = piece.left;
+    let before = piece.before;
     let pad = piece.pad;
     let body = piece.body;
     let size = body.size;
-    let cuts = cut(left, size, from, n);
+    let cuts = cut(before, size, from, n);
     let a = cuts.a;
     let b = cuts.b;
     let start = cuts.start;
@@ -75,13 +75,13 @@ fn body_whole(body: Body, table: &[u8], out: &mut [u8])
     ensures { λ _. ⌜ now (out .exit) ≡ bodyOf (now (table .entry)) body ⌝ }
 {
     let word = body.word;
-    let source = body.source;
-    match source {
-        Source::Run { byte, count: _ } => fill(byte, out),
-        Source::Copied { start, end } => copy_part(string_part(table, start, end), 0, out),
-        Source::Quoted { start, end } => quote_whole(string_part(table, start, end), out),
-        Source::Figures(x) => figure_whole(x, out),
-        Source::Word(n) => copy_part(&word[0..n], 0, out),
+    let content = body.content;
+    match content {
+        Content::Run { byte, count: _ } => fill(byte, out),
+        Content::Copied { start, end } => copy_part(string_part(table, start, end), 0, out),
+        Content::Quoted { start, end } => quote_whole(string_part(table, start, end), out),
+        Content::Figures(x) => figure_whole(x, out),
+        Content::Word(n) => copy_part(&word[0..n], 0, out),
     }
 }
 
@@ -92,11 +92,11 @@ pub fn write_whole(piece: Piece, table: &[u8], out: &mut [u8])
     ensures { λ _. ⌜ now (out .exit) ≡ bytesOf (now (table .entry)) piece ⌝ }
 {
     let n = out.len();
-    let left = piece.left;
+    let before = piece.before;
     let pad = piece.pad;
     let body = piece.body;
-    let end = left + body.size;
-    fill(pad, &mut out[0..left]);
-    body_whole(body, table, &mut out[left..end]);
+    let end = before + body.size;
+    fill(pad, &mut out[0..before]);
+    body_whole(body, table, &mut out[before..end]);
     fill(pad, &mut out[end..n]);
 }

@@ -52,9 +52,9 @@ fits-is kind byte f = elim (decEq kind 1) [
 ]
 
 -- the code at i, by its byte in lower case and its kind
-module _ (t : List ℕ) (i number byte : ℕ) {b₀ b kind : ℕ} (at : b₀ ≡ getD t i 0) (low : b ≡ lowerCase b₀) (is : kind ≡ shortKind b) where
+module _ (t : List ℕ) (i number byte : ℕ) {b₀ b kind : ℕ} (atsign : b₀ ≡ getD t i 0) (low : b ≡ lowerCase b₀) (is : kind ≡ shortKind b) where
   byte-at : b ≡ lowerCase (getD t i 0)
-  byte-at = low ∙ ap lowerCase at
+  byte-at = low ∙ ap lowerCase atsign
 
   pub coded-one : (detail : ℕ) → detail ≡ shortDetail b → fitsIn kind byte ≡ true
       → IsOne kind detail number byte (i + 1) ≡ codedAt t number byte i

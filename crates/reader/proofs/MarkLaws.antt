@@ -77,7 +77,7 @@ nothing t p z = absurd (z refl)
 module _ (t : List ℕ) (p : ℕ) (e : getD t p 0 ≡ 126) where
   two : (m b : ℕ) → (b ≡ 0 → ⊥) → step start blank b ≡ ends (markDirective m 0)
       → skips b (markDirective m 0 .colon) ≡ false → markSize m ≡ 2
-      → ((next : ℕ) → wellWritten (markDirective m next) ≡ true) → getD t (p + 1) 0 ≡ b → Stands t p m
+      → ((after : ℕ) → wellWritten (markDirective m after) ≡ true) → getD t (p + 1) 0 ≡ b → Stands t p m
   unfolding markDirective
   two m b z s k n w q y = record { item = rw n (two-bytes t p e b (markDirective m 0) q z s k); well = w }
 

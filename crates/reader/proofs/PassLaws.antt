@@ -32,18 +32,18 @@ module _ {t : List ℕ} {first p : ℕ} (k : Skips t first p) where
         most = λ z. omega arith;
       }
 
-  module _ {b : Brief} {x y : Setting} {next : ℕ} (u : IsShort t p b x y next) where
-    skip-on : Within p (length t) next
+  module _ {b : Brief} {x y : Setting} {after : ℕ} (u : IsShort t p b x y after) where
+    skip-on : Within p (length t) after
     skip-on =
-        let w = next-inside t p (shortDirective (formOf b) x y next) (u .item) in
+        let w = next-inside t p (shortDirective (formOf b) x y after) (u .item) in
         record { above = omega (arith, w .above); most = w .most }
 
-    skip-directive : Skips t first next
+    skip-directive : Skips t first after
     unfolding directiveMet
     skip-directive =
-        let l = levels-writes t p (shortDirective (formOf b) x y next) (u .item) (formOf b) refl in
+        let l = levels-writes t p (shortDirective (formOf b) x y after) (u .item) (formOf b) refl in
         record {
-          same = λ os. k .same os ∙ verdict-written t os p (shortDirective (formOf b) x y next) (u .item) ∙ rw (short-well b x y next (u .suits));
+          same = λ os. k .same os ∙ verdict-written t os p (shortDirective (formOf b) x y after) (u .item) ∙ rw (short-well b x y after (u .suits));
           more = k .more ∙ ap (λ xs. innermost xs .more) l;
           outside = k .outside ∙ ap outer l;
           least = omega (arith, k .least, skip-on .above);
@@ -54,14 +54,14 @@ module _ {t : List ℕ} {first p : ℕ} (k : Skips t first p) where
   module _ {q : ℕ} (a : AfterShort t p q) where
     after-by : (s : Short) → ShortAt t p s → (nextOr p s ≡ p → ⊥) → Skips t first (nextOr p s) × Within p (length t) (nextOr p s)
     after-by Other u z = absurd (z refl)
-    after-by (IsOne kind detail number byte next) u z = (skip-directive u, skip-on u)
+    after-by (IsOne kind detail number byte after) u z = (skip-directive u, skip-on u)
 
     pub skip-after : (q ≡ p → ⊥) → Skips t first q × Within p (length t) q
     skip-after z = rw (a .is) (after-by (shortAt t p) (a .means) (λ e. z (a .is ∙ e)))
 
     none-by : (s : Short) → ShortAt t p s → nextOr p s ≡ p → s ≡ Other
     none-by Other u z = refl
-    none-by (IsOne kind detail number byte next) u z = absurd (omega (arith, z, skip-on u .above))
+    none-by (IsOne kind detail number byte after) u z = absurd (omega (arith, z, skip-on u .above))
 
     pub skip-stops : getD t p 0 ≡ 126 → q ≡ p → SkipsShort t first p
     skip-stops e z = record { over = k; stops = inr (e, none-by (shortAt t p) (a .means) (sym (a .is) ∙ z)) }

@@ -213,7 +213,7 @@ module _ (t : List ℕ) (p : ℕ) (d : Directive) (h : p < length t) where
       → ((getD t p 0 ≡ 86) ⊎ (getD t p 0 ≡ 118) → ⊥) → (getD t p 0 ≡ 35 → ⊥)
       → scan start d (drop p t) p ≡ afterAt t start d p
   unfolding step
-  start-other e plus minus quoted next remaining =
+  start-other e plus minus quoted after remaining =
       let b = getD t p 0 in
       rw (
         scan-on t p start d h,
@@ -223,7 +223,7 @@ module _ (t : List ℕ) (p : ℕ) (d : Directive) (h : p < length t) where
         ne-eqb b 43 plus,
         ne-eqb b 45 minus,
         ne-eqb b 39 quoted,
-        not-next b (λ z. next (inr z)) (λ z. next (inl z)),
+        not-next b (λ z. after (inr z)) (λ z. after (inl z)),
         ne-eqb b 35 remaining,
       )
 
@@ -245,28 +245,28 @@ module _ (t : List ℕ) (p : ℕ) (r : Reading) (d : Directive) where
 
 -- modifiers and code
 abbrev pub marked : Bool → Bool → Parameters → Directive
-marked colon at ps = record { code = Unknown; colon = colon; at = at; parameters = ps; next = 0 }
+marked colon atsign ps = record { code = Unknown; colon = colon; atsign = atsign; parameters = ps; after = 0 }
 
-module _ (t : List ℕ) (p : ℕ) (colon at : Bool) (ps : Parameters) (h : p < length t) where
+module _ (t : List ℕ) (p : ℕ) (colon atsign : Bool) (ps : Parameters) (h : p < length t) where
   pub colon-on : both (eqb (getD t p 0) 58) (not colon) ≡ true
-      → scan modifiers (marked colon at ps) (drop p t) p ≡ scan modifiers (marked true at ps) (drop (p + 1) t) (p + 1)
+      → scan modifiers (marked colon atsign ps) (drop p t) p ≡ scan modifiers (marked true atsign ps) (drop (p + 1) t) (p + 1)
   unfolding step
-  colon-on e = rw (scan-on t p modifiers (marked colon at ps) h, step, e)
+  colon-on e = rw (scan-on t p modifiers (marked colon atsign ps) h, step, e)
 
-  pub at-on : both (eqb (getD t p 0) 58) (not colon) ≡ false → both (eqb (getD t p 0) 64) (not at) ≡ true
-      → scan modifiers (marked colon at ps) (drop p t) p
+  pub at-on : both (eqb (getD t p 0) 58) (not colon) ≡ false → both (eqb (getD t p 0) 64) (not atsign) ≡ true
+      → scan modifiers (marked colon atsign ps) (drop p t) p
       ≡ scan modifiers (marked colon true ps) (drop (p + 1) t) (p + 1)
   unfolding step
-  at-on e f = rw (scan-on t p modifiers (marked colon at ps) h, step, e, f)
+  at-on e f = rw (scan-on t p modifiers (marked colon atsign ps) h, step, e, f)
 
-  pub code-ends : both (eqb (getD t p 0) 58) (not colon) ≡ false → both (eqb (getD t p 0) 64) (not at) ≡ false
-      → (code : Code) → code ≡ codeOf (getD t p 0) → (next : ℕ)
-      → next ≡ p + 1 + skipped (getD t p 0) colon (drop (p + 1) t)
-      → scan modifiers (marked colon at ps) (drop p t) p
-      ≡ Written (record { code = code; colon = colon; at = at; parameters = ps; next = next })
+  pub code-ends : both (eqb (getD t p 0) 58) (not colon) ≡ false → both (eqb (getD t p 0) 64) (not atsign) ≡ false
+      → (code : Code) → code ≡ codeOf (getD t p 0) → (after : ℕ)
+      → after ≡ p + 1 + skipped (getD t p 0) colon (drop (p + 1) t)
+      → scan modifiers (marked colon atsign ps) (drop p t) p
+      ≡ Written (record { code = code; colon = colon; atsign = atsign; parameters = ps; after = after })
   unfolding step
-  code-ends e f code is next after =
-      rw (after, is) (rw (scan-on t p modifiers (marked colon at ps) h, step, e, f))
+  code-ends e f code is after onward =
+      rw (onward, is) (rw (scan-on t p modifiers (marked colon atsign ps) h, step, e, f))
 
 -- the loop over digits: the number that begins at first, if a digit stands there, is n so far, and goes on at i
 pub record Numbering (t : List ℕ) (first : ℕ) (m : Bool) (n i : ℕ) : Type 0 where
@@ -366,9 +366,9 @@ module _ (t : List ℕ) (first : ℕ) (m : Bool) where
       let h = span-inside isZero t i some in
       let b = zero-byte (getD t i 0) (span-first isZero t i some) in
       let on : k ≤ zeros t (i + 1) = omega (arith, e, span-on isZero t i h (rw b)) in
-      let next : i + 1 + k ≡ i + suc k = omega arith in
+      let after : i + 1 + k ≡ i + suc k = omega arith in
       let more = number-more s 48 (greatestOf m) (rw (lt-ltb i (length t) h, b)) (sym b) (refl, greatest-few m) (omega arith) in
-      rw next at (zeros-passed k (i + 1) more on)
+      rw after at (zeros-passed k (i + 1) more on)
 
   pub zeros-first : (i : ℕ) → first ≤ i → i ≤ first + zeros t first → Numbering t first m 0 i
   zeros-first i h k =
@@ -379,7 +379,7 @@ module _ (t : List ℕ) (first : ℕ) (m : Bool) where
 later : (t : List ℕ) (i j : ℕ) → i ≤ j → (r : NumberRead) → Advances t j (numberParameter r)
     → Advances t i (numberParameter r)
 later t i j h BadOne a = tt
-later t i j h (WholeOne n next) a = record { on = omega (arith, a .on); within = a .within; empty = refl }
+later t i j h (WholeOne n after) a = record { on = omega (arith, a .on); within = a .within; empty = refl }
 
 pub number-written : (t : List ℕ) (i j : ℕ) (m : Bool) (r : NumberRead) (q : ParameterRead) → q ≡ numberParameter r
     → i ≤ j → ((d : Directive) → scan start d (drop i t) i ≡ scan (signed m) d (drop j t) j) → Numbers t j m r
@@ -388,11 +388,11 @@ number-written t i j m r q e h on s =
     rw e (record { is = λ d. on d ∙ s .is d; advances = later t i j h r (s .advances) })
 
 -- any other parameter that is written
-pub parameter-written : (t : List ℕ) (i : ℕ) (x : Parameter) (next : ℕ) (q : ParameterRead) → q ≡ Whole x true next
-    → i ≤ next → next ≤ length t
-    → ((d : Directive) → scan start d (drop i t) i ≡ afterAt t (whole x) d next)
+pub parameter-written : (t : List ℕ) (i : ℕ) (x : Parameter) (after : ℕ) (q : ParameterRead) → q ≡ Whole x true after
+    → i ≤ after → after ≤ length t
+    → ((d : Directive) → scan start d (drop i t) i ≡ afterAt t (whole x) d after)
     → Parametrises t i q
-parameter-written t i x next q e h k on =
+parameter-written t i x after q e h k on =
     rw e (record { is = on; advances = record { on = h; within = k; empty = refl } })
 
 -- the loop over parameters: those before i are ps
@@ -404,9 +404,9 @@ pub record Directing (t : List ℕ) (first : ℕ) (ps : Parameters) (i : ℕ) : 
 pub directive-first : (t : List ℕ) (p : ℕ) (ps : Parameters) → ps ≡ noParameters → p ≤ length t → Directing t p ps p
 directive-first t p ps e h = rw e (record { same = refl; few = omega arith; within = h })
 
-pub parameter-ends : {t : List ℕ} {i : ℕ} {r : ParameterRead} (x : Parameter) (written : Bool) (next : ℕ)
-    → Parametrises t i r → r ≡ Whole x written next → Ends t i x written next
-parameter-ends x written next q e = rw e at (q .advances)
+pub parameter-ends : {t : List ℕ} {i : ℕ} {r : ParameterRead} (x : Parameter) (written : Bool) (after : ℕ)
+    → Parametrises t i r → r ≡ Whole x written after → Ends t i x written after
+parameter-ends x written after q e = rw e at (q .advances)
 
 module _ {t : List ℕ} {first : ℕ} {ps : Parameters} {i : ℕ} {r : ParameterRead} (s : Directing t first ps i)
     (q : Parametrises t i r) where
@@ -416,23 +416,23 @@ module _ {t : List ℕ} {first : ℕ} {ps : Parameters} {i : ℕ} {r : Parameter
   pub directive-cut : r ≡ Cut → Unfinished ≡ scan start blank (drop first t) first
   directive-cut e = sym (s .same ∙ q .is (having blank ps) ∙ rw e)
 
-  module _ (x : Parameter) (written : Bool) (next : ℕ) (e : r ≡ Whole x written next) where
-    goes-on : scan start blank (drop first t) first ≡ afterAt t (reading written x) (having blank ps) next
+  module _ (x : Parameter) (written : Bool) (after : ℕ) (e : r ≡ Whole x written after) where
+    goes-on : scan start blank (drop first t) first ≡ afterAt t (reading written x) (having blank ps) after
     goes-on = s .same ∙ q .is (having blank ps) ∙ rw e
 
-    pub directive-more : commaAt t next ≡ true → (more : Parameters) → more ≡ withParameter ps x
-        → Directing t first more (next + 1)
+    pub directive-more : commaAt t after ≡ true → (more : Parameters) → more ≡ withParameter ps x
+        → Directing t first more (after + 1)
     directive-more c more is =
-        let end = parameter-ends x written next q e in
-        let h : next < length t = test-inside t next (eqb (getD t next 0) 44) c in
+        let end = parameter-ends x written after q e in
+        let h : after < length t = test-inside t after (eqb (getD t after 0) 44) c in
         rw is (record {
-          same = goes-on ∙ comma-on t next (reading written x) (having blank ps) c ∙ rw (end .empty);
+          same = goes-on ∙ comma-on t after (reading written x) (having blank ps) c ∙ rw (end .empty);
           few = omega (arith, end .on, s .few);
           within = omega arith;
         })
 
-    pub directive-whole : commaAt t next ≡ false → (all : Parameters) → all ≡ closed (reading written x) ps
-        → (item : Item) → item ≡ scan modifiers (having blank all) (drop next t) next
+    pub directive-whole : commaAt t after ≡ false → (all : Parameters) → all ≡ closed (reading written x) ps
+        → (item : Item) → item ≡ scan modifiers (having blank all) (drop after t) after
         → item ≡ scan start blank (drop first t) first
     directive-whole c all is item last =
-        last ∙ rw is (sym (goes-on ∙ comma-none t next (reading written x) (having blank ps) c))
+        last ∙ rw is (sym (goes-on ∙ comma-none t after (reading written x) (having blank ps) c))

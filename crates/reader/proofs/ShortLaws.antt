@@ -79,15 +79,15 @@ module _ (t : List ℕ) (first : ℕ) (h : first ≤ length t) where
     pub leads-bad : r ≡ BadOne → Leads t first 4097 (length t)
     leads-bad q = leads-past (leads-same ∙ ap (shortAfter t) q)
 
-    pub leads-number : (n next : ℕ) → r ≡ WholeOne n next → Leads t first n next
-    leads-number n next q =
-        let u : Numbers t first false (WholeOne n next) = subst (Numbers t first false) q s in
+    pub leads-number : (n after : ℕ) → r ≡ WholeOne n after → Leads t first n after
+    leads-number n after q =
+        let u : Numbers t first false (WholeOne n after) = subst (Numbers t first false) q s in
         let z : n ≡ 4097 → ⊥ = λ y. omega (arith, y, u .few) in
         let k = test-inside t first (isDigit (getD t first 0)) e in
         record {
           same = leads-same ∙ ap (shortAfter t) q;
           is = λ i o d. start-digit t first d k (test-true t first (isDigit (getD t first 0)) e)
-              ∙ u .is d ∙ ap (λ (x : Setting). afterAt t (leading x) d next) (sym (setting-is 4097 n z));
+              ∙ u .is d ∙ ap (λ (x : Setting). afterAt t (leading x) d after) (sym (setting-is 4097 n z));
           within = u .advances .within;
           few = omega (arith, u .few);
         }
@@ -147,7 +147,7 @@ comma-sign t i q = record {
 module _ (t : List ℕ) (i : ℕ) (f : Form) (h : i < length t) (e : codeOf (getD t i 0) ≡ Writes f)
     (s : shortKind (lowerCase (getD t i 0)) ≡ 3 → ⊥) where
   code-read : (r : Reading) (d : Directive) (ps : Parameters) → having d (closed r (d .parameters)) ≡ marked false false ps
-      → afterAt t r d i ≡ Written (record { code = Writes f; colon = false; at = false; parameters = ps; next = i + 1 })
+      → afterAt t r d i ≡ Written (record { code = Writes f; colon = false; atsign = false; parameters = ps; after = i + 1 })
   code-read r d ps q =
       comma-none t i r d (rw (lt-ltb i (length t) h, ne-eqb (getD t i 0) 44 (no-comma (getD t i 0) s)))
       ∙ ap (λ (m : Directive). scan modifiers m (drop i t) i) q
@@ -286,15 +286,15 @@ after-read t p s u = record { is = ap (nextOr p) (u .is); means = subst (ShortAt
 
 -- 5. It is well written.
 
-pub short-well : (b : Brief) (x y : Setting) (next : ℕ) → ShortIn b x y → wellWritten (shortDirective (formOf b) x y next) ≡ true
+pub short-well : (b : Brief) (x y : Setting) (after : ℕ) → ShortIn b x y → wellWritten (shortDirective (formOf b) x y after) ≡ true
 unfolding wellWritten
-short-well (object q) Absent Absent next s = refl
-short-well (object q) (Is n) Absent next s = rw (le-leb 0 n (omega arith), le-leb n 4096 (s .0))
-short-well (object q) x (Is c) next s = absurd (s .1)
-short-well (numeral b) Absent Absent next s = refl
-short-well (numeral b) (Is n) Absent next s = rw (le-leb 0 n (omega arith), le-leb n 4096 (s .0))
-short-well (numeral b) Absent (Is c) next s = refl
-short-well (numeral b) (Is n) (Is c) next s = rw (le-leb 0 n (omega arith), le-leb n 4096 (s .0))
-short-well (repeats b) Absent Absent next s = refl
-short-well (repeats b) (Is n) Absent next s = rw (le-leb 0 n (omega arith), le-leb n 4096 (s .0))
-short-well (repeats b) x (Is c) next s = absurd (s .1)
+short-well (object q) Absent Absent after s = refl
+short-well (object q) (Is n) Absent after s = rw (le-leb 0 n (omega arith), le-leb n 4096 (s .0))
+short-well (object q) x (Is c) after s = absurd (s .1)
+short-well (numeral b) Absent Absent after s = refl
+short-well (numeral b) (Is n) Absent after s = rw (le-leb 0 n (omega arith), le-leb n 4096 (s .0))
+short-well (numeral b) Absent (Is c) after s = refl
+short-well (numeral b) (Is n) (Is c) after s = rw (le-leb 0 n (omega arith), le-leb n 4096 (s .0))
+short-well (repeats b) Absent Absent after s = refl
+short-well (repeats b) (Is n) Absent after s = rw (le-leb 0 n (omega arith), le-leb n 4096 (s .0))
+short-well (repeats b) x (Is c) after s = absurd (s .1)

@@ -72,8 +72,8 @@ module _ (f : ℕ → Bool) (t : List ℕ) (i : ℕ) where
       let one = at-most-one (f (getD t (i + k) 0)) in
       let last = span-on f t (i + k) (omega arith) (one-or-none (f (getD t (i + k) 0)) (omega (arith, e, few, one))) in
       let before = count-whole k (omega (arith, e, few, one)) (omega arith) in
-      let next : i + k + 1 ≡ i + suc k = omega arith in
-      before ∙ rw (last, next) (omega arith)
+      let after : i + k + 1 ≡ i + suc k = omega arith in
+      before ∙ rw (last, after) (omega arith)
 
 -- along a span: where it begins, a byte or a stride further, and where it ends
 pub along-first : (f : ℕ → Bool) (t : List ℕ) (first : ℕ) → first ≤ length t → Along f t first first

@@ -59,18 +59,18 @@ markCode m =
 
 -- the directive that a mark stands for, after which the text goes on at next
 unfoldable pub markDirective : ℕ → ℕ → Directive
-markDirective m next = record {
+markDirective m after = record {
   code = markCode m;
   colon = eqb m 5;
-  at = either (eqb m 6) (eqb m 8);
+  atsign = either (eqb m 6) (eqb m 8);
   parameters = noParameters;
-  next = next;
+  after = after;
 }
 
 -- the mark m stands at p
 pub record IsMark (t : List ℕ) (p m : ℕ) : Type 0 where
   pub item : itemAt t p ≡ Written (markDirective m (p + markSize m))
-  pub well : (next : ℕ) → wellWritten (markDirective m next) ≡ true
+  pub well : (after : ℕ) → wellWritten (markDirective m after) ≡ true
 
 -- `~;` `~]` and `~}`
 abbrev pub isCloser : ℕ → Bool

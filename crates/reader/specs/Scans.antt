@@ -51,24 +51,24 @@ reading false x = start
 
 abbrev pub numberParameter : NumberRead → ParameterRead
 numberParameter BadOne = Bad
-numberParameter (WholeOne n next) = Whole (Number n) true next
+numberParameter (WholeOne n after) = Whole (Number n) true after
 
 -- how reading goes on
 abbrev pub onParameter : List ℕ → Directive → ParameterRead → Item
 onParameter t d Bad = BadNumber
 onParameter t d Cut = Unfinished
-onParameter t d (Whole x written next) = afterAt t (reading written x) d next
+onParameter t d (Whole x written after) = afterAt t (reading written x) d after
 
 -- a parameter that begins at i ends at next, and one that is not written is empty
-pub record Ends (t : List ℕ) (i : ℕ) (x : Parameter) (written : Bool) (next : ℕ) : Type 0 where
-  pub on : i ≤ next
-  pub within : next ≤ length t
+pub record Ends (t : List ℕ) (i : ℕ) (x : Parameter) (written : Bool) (after : ℕ) : Type 0 where
+  pub on : i ≤ after
+  pub within : after ≤ length t
   pub empty : pending (reading written x) ≡ x
 
 abbrev pub Advances : List ℕ → ℕ → ParameterRead → Type 0
 Advances t i Bad = Unit {0}
 Advances t i Cut = Unit {0}
-Advances t i (Whole x written next) = Ends t i x written next
+Advances t i (Whole x written after) = Ends t i x written after
 
 -- the number whose digits stand at the head of the bytes from i on, n so far and at most `most`
 unfoldable pub numberFrom : ℕ → ℕ → List ℕ → ℕ → NumberRead
@@ -82,7 +82,7 @@ numberAt t minus i = cond (digitAt t i) (numberFrom (greatestOf minus) 0 (drop i
 
 abbrev pub Few : NumberRead → Type 0
 Few BadOne = Unit {0}
-Few (WholeOne n next) = n ≤ 4096
+Few (WholeOne n after) = n ≤ 4096
 
 -- r is the number whose digits begin at i
 pub record Numbers (t : List ℕ) (i : ℕ) (minus : Bool) (r : NumberRead) : Type 0 where

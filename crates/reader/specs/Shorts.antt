@@ -82,8 +82,8 @@ shortParameters (Is n) (Is c) =
     record { count = 2; first = Number n; second = Character c; third = Default; fourth = Default; fifth = Default }
 
 abbrev pub shortDirective : Form → Setting → Setting → ℕ → Directive
-shortDirective f x y next =
-    record { code = Writes f; colon = false; at = false; parameters = shortParameters x y; next = next }
+shortDirective f x y after =
+    record { code = Writes f; colon = false; atsign = false; parameters = shortParameters x y; after = after }
 
 -- the parameters that a short directive takes
 abbrev pub NumberIn : Setting → Type 0
@@ -104,21 +104,21 @@ ShortIn (numeral base) x y = NumberIn x × CharacterIn y
 ShortIn (repeats b) x y = NumberIn x × NoneIn y
 
 -- a short directive stands at p
-pub record IsShort (t : List ℕ) (p : ℕ) (s : Brief) (x y : Setting) (next : ℕ) : Type 0 where
-  pub item : itemAt t p ≡ Written (shortDirective (formOf s) x y next)
+pub record IsShort (t : List ℕ) (p : ℕ) (s : Brief) (x y : Setting) (after : ℕ) : Type 0 where
+  pub item : itemAt t p ≡ Written (shortDirective (formOf s) x y after)
   pub suits : ShortIn s x y
 
 abbrev pub ShortAt : List ℕ → ℕ → Short → Type 0
 ShortAt t p Other = Unit {0}
-ShortAt t p (IsOne kind detail number byte next) =
-    IsShort t p (briefOf kind detail) (settingOf 4097 number) (settingOf 256 byte) next
+ShortAt t p (IsOne kind detail number byte after) =
+    IsShort t p (briefOf kind detail) (settingOf 4097 number) (settingOf 256 byte) after
 
 -- whether a directive of the kind is short with this character, or none: only a numeral may have one
 abbrev pub fitsIn : ℕ → ℕ → Bool
 fitsIn kind byte = cond (eqb kind 1) true (cond (eqb kind 3) false (eqb byte 256))
 
 abbrev pub shortOf : ℕ → ℕ → ℕ → ℕ → ℕ → Short
-shortOf kind detail number byte next = cond (fitsIn kind byte) (IsOne kind detail number byte next) Other
+shortOf kind detail number byte after = cond (fitsIn kind byte) (IsOne kind detail number byte after) Other
 
 -- the short directive whose parameters are read, and whose code stands at i
 unfoldable pub codedAt : List ℕ → ℕ → ℕ → ℕ → Short
@@ -155,7 +155,7 @@ pub record ShortRead (t : List ℕ) (p : ℕ) (r : Short) : Type 0 where
 -- where the text goes on after a short directive at p, or p if none stands there
 abbrev pub nextOr : ℕ → Short → ℕ
 nextOr p Other = p
-nextOr p (IsOne kind detail number byte next) = next
+nextOr p (IsOne kind detail number byte after) = after
 
 pub record AfterShort (t : List ℕ) (p r : ℕ) : Type 0 where
   pub is : r ≡ nextOr p (shortAt t p)
@@ -176,11 +176,11 @@ pub record NoSign (t : List ℕ) (i : ℕ) : Type 0 where
 
 -- the number that begins at `first`, or none, ends at next, unless a sign, a character, `v` or `#` follows; then nothing
 -- short stands there
-pub record Leads (t : List ℕ) (first number next : ℕ) : Type 0 where
-  pub same : shortAfter t (leadingAt t first) ≡ shortAfter t (Whole number next)
-  pub is : next < length t → NoSign t next → (d : Directive)
-      → scan starting d (drop first t) first ≡ afterAt t (leading (settingOf 4097 number)) d next
-  pub within : next ≤ length t
+pub record Leads (t : List ℕ) (first number after : ℕ) : Type 0 where
+  pub same : shortAfter t (leadingAt t first) ≡ shortAfter t (Whole number after)
+  pub is : after < length t → NoSign t after → (d : Directive)
+      → scan starting d (drop first t) first ≡ afterAt t (leading (settingOf 4097 number)) d after
+  pub within : after ≤ length t
   pub few : number ≤ 4097
 
 -- whatever blocks are open, what is found in reading from `first` on is found from r on, and both stand in one clause

@@ -27,7 +27,7 @@ ghost use Rattle.reader.specs.Spans.{isZero, spanOf, Along};
 // A number that is read: its value and the position after it, or a number that is refused.
 pub enum NumberRead {
     Bad,
-    Whole { value: usize, next: usize },
+    Whole { value: usize, after: usize },
 }
 
 // A parameter that is read, if one is written, and the position after it.
@@ -37,7 +37,7 @@ enum ParameterRead {
     Whole {
         parameter: Parameter,
         written: bool,
-        next: usize,
+        after: usize,
     },
 }
 
@@ -162,17 +162,17 @@ pub fn read_number(text: &[u8], start: usize, minus: bool) -> NumberRead
     if i == start {
         return NumberRead::Bad;
     }
-    NumberRead::Whole { value: n, next: i }
+    NumberRead::Whole { value: n, after: i }
 }
 
 // A parameter that is written, up to next.
-fn written_parameter(x: Parameter, next: usize) -> ParameterRead
-    ensures { λ r. ⌜ r ≡ Whole x true next ⌝ }
+fn written_parameter(x: Parameter, after: usize) -> ParameterRead
+    ensures { λ r. ⌜ r ≡ Whole x true after ⌝ }
 {
     ParameterRead::Whole {
         parameter: x,
         written: true,
-        next,
+        after,
     }
 }
 
@@ -183,9 +183,9 @@ fn number_parameter(r: NumberRead) -> ParameterRead
 {
     match r {
         NumberRead::Bad => ParameterRead::Bad,
-        NumberRead::Whole { value, next } => {
+        NumberRead::Whole { value, after } => {
             let small = value as u16;
-            written_parameter(Parameter::Number(small), next)
+            written_parameter(Parameter::Number(small), after)
         }
     }
 }
@@ -201,22 +201,22 @@ fn read_parameter(text: &[u8], i: usize) -> ParameterRead
     if is_digit(b) {
         return number_parameter(read_number(text, i, false));
     }
-    let next = i + 1;
+    let after = i + 1;
     match b {
-        b'+' => number_parameter(read_number(text, next, false)),
-        b'-' => number_parameter(read_number(text, next, true)),
+        b'+' => number_parameter(read_number(text, after, false)),
+        b'-' => number_parameter(read_number(text, after, true)),
         b'\'' => {
-            if next < text.len() {
-                return written_parameter(Parameter::Character(text[next]), next + 1);
+            if after < text.len() {
+                return written_parameter(Parameter::Character(text[after]), after + 1);
             }
             ParameterRead::Cut
         }
-        b'v' | b'V' => written_parameter(Parameter::Next, next),
-        b'#' => written_parameter(Parameter::Remaining, next),
+        b'v' | b'V' => written_parameter(Parameter::Next, after),
+        b'#' => written_parameter(Parameter::Remaining, after),
         _ => ParameterRead::Whole {
             parameter: Parameter::Default,
             written: false,
-            next: i,
+            after: i,
         },
     }
 }
@@ -286,25 +286,25 @@ fn read_code(text: &[u8], start: usize, ps: Parameters) -> Item
     ensures { λ r. ⌜ r ≡ scan modifiers (having blank ps) (drop start (now (text .entry))) start ⌝ }
 {
     let mut colon = false;
-    let mut at = false;
+    let mut atsign = false;
     let mut i = start;
     while i < text.len() {
         let b = text[i];
         if is_new(b, b':', colon) {
             colon = true;
             i += 1;
-        } else if is_new(b, b'@', at) {
-            at = true;
+        } else if is_new(b, b'@', atsign) {
+            atsign = true;
             i += 1;
         } else {
             let code = code_of(b);
-            let next = after_code(text, b, colon, i + 1);
+            let after = after_code(text, b, colon, i + 1);
             return Item::Written(Directive {
                 code,
                 colon,
-                at,
+                atsign,
                 parameters: ps,
-                next,
+                after,
             });
         }
     }
@@ -354,13 +354,13 @@ fn read_directive(text: &[u8], start: usize) -> Item
             ParameterRead::Whole {
                 parameter,
                 written,
-                next,
+                after,
             } => {
-                if comma_at(text, next) {
+                if comma_at(text, after) {
                     ps = with_parameter(ps, parameter);
-                    i = next + 1;
+                    i = after + 1;
                 } else {
-                    return read_code(text, next, close_parameters(ps, parameter, written));
+                    return read_code(text, after, close_parameters(ps, parameter, written));
                 }
             }
         }

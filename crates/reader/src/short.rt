@@ -39,44 +39,44 @@ pub enum Short {
         detail: u8,
         number: usize,
         byte: usize,
-        next: usize,
+        after: usize,
     },
 }
 
 // A number that may be left out, and the position after it.
 struct Leading {
     number: usize,
-    next: usize,
+    after: usize,
 }
 
 // The number that begins at start, if one does. Behind one that is refused nothing short follows, nor behind one that
 // begins with two zeros: thousands of them would be read here, and again where the directive turns out not to be short.
 fn leading_number(text: &[u8], start: usize) -> Leading
     requires { ⌜ start ≤ length (now text) ⌝ }
-    ensures { λ r. ⌜ Leads (now (text .entry)) start (r .number) (r .next) ⌝ }
+    ensures { λ r. ⌜ Leads (now (text .entry)) start (r .number) (r .after) ⌝ }
 {
     if digit_at(text, start) {
         if zeros_at(text, start) {
             return Leading {
                 number: NO_NUMBER,
-                next: text.len(),
+                after: text.len(),
             };
         }
         let r = read_number(text, start, false);
         return match r {
             NumberRead::Bad => Leading {
                 number: NO_NUMBER,
-                next: text.len(),
+                after: text.len(),
             },
-            NumberRead::Whole { value, next } => Leading {
+            NumberRead::Whole { value, after } => Leading {
                 number: value,
-                next,
+                after,
             },
         };
     }
     Leading {
         number: NO_NUMBER,
-        next: start,
+        after: start,
     }
 }
 
@@ -199,7 +199,7 @@ fn short_of(text: &[u8], i: usize, number: usize, byte: usize) -> Short
             detail: detail_of(b),
             number,
             byte,
-            next: i + 1,
+            after: i + 1,
         };
     }
     Short::Other
@@ -213,8 +213,8 @@ pub fn read_short(text: &[u8], p: usize) -> Short
         return Short::Other;
     }
     let first = leading_number(text, p + 1);
-    let byte = second_character(text, first.next);
-    short_of(text, after_character(first.next, byte), first.number, byte)
+    let byte = second_character(text, first.after);
+    short_of(text, after_character(first.after, byte), first.number, byte)
 }
 
 // The position after the short directive whose tilde stands at p; p itself if there is none.
@@ -223,8 +223,8 @@ fn after_short(text: &[u8], p: usize) -> usize
     ensures { λ r. ⌜ AfterShort (now (text .entry)) p r ⌝ }
 {
     let first = leading_number(text, p + 1);
-    let byte = second_character(text, first.next);
-    let i = after_character(first.next, byte);
+    let byte = second_character(text, first.after);
+    let i = after_character(first.after, byte);
     let b = lower_case(byte_at(text, i));
     if fits(kind_of(b), byte) { i + 1 } else { p }
 }

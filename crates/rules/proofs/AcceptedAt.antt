@@ -40,7 +40,7 @@ module _ (t : List ℕ) (p : ℕ) (a : AcceptedAt t p) where
     accepted-known k = sound-known t (a .blocks) p (a .sound) d e k
 
     -- every directive is well written, and reading goes on where it ends
-    pub accepted-written : (wellWritten d ≡ true) × AcceptedAt t (d .next)
+    pub accepted-written : (wellWritten d ≡ true) × AcceptedAt t (d .after)
     accepted-written = by (d .code) refl
       where
         os : List Block
@@ -49,11 +49,11 @@ module _ (t : List ℕ) (p : ℕ) (a : AcceptedAt t p) where
         s : Sound t os p
         s = a .sound
 
-        by : (c : Code) → d .code ≡ c → (wellWritten d ≡ true) × AcceptedAt t (d .next)
-        by (Writes f) k = let r = sound-writes t os p s d e f k in (r .0, inside t os (d .next) (r .1))
-        by Jump k = let r = sound-jump t os p s d e k in (r .0, inside t os (d .next) (r .1))
-        by Escape k = let r = sound-escape t os p s d e k in (r .0, inside t os (d .next) (r .1))
-        by (Opens b) k = let r = sound-opener t os p s d e b k in (r .written, inside t _ (d .next) (r .on))
-        by Separator k = let r = sound-separator t os p s d e k in (r .written, inside t _ (d .next) (r .on))
-        by (Closes b) k = let r = sound-closer t os p s d e b k in (r .written, inside t _ (d .next) (r .on))
+        by : (c : Code) → d .code ≡ c → (wellWritten d ≡ true) × AcceptedAt t (d .after)
+        by (Writes f) k = let r = sound-writes t os p s d e f k in (r .0, inside t os (d .after) (r .1))
+        by Jump k = let r = sound-jump t os p s d e k in (r .0, inside t os (d .after) (r .1))
+        by Escape k = let r = sound-escape t os p s d e k in (r .0, inside t os (d .after) (r .1))
+        by (Opens b) k = let r = sound-opener t os p s d e b k in (r .written, inside t _ (d .after) (r .on))
+        by Separator k = let r = sound-separator t os p s d e k in (r .written, inside t _ (d .after) (r .on))
+        by (Closes b) k = let r = sound-closer t os p s d e b k in (r .written, inside t _ (d .after) (r .on))
         by Unknown k = absurd (sound-known t os p s d e k)

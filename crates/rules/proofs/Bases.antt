@@ -38,7 +38,7 @@ step-by false x y h k = k
 modifier-right : (d : Directive) (b : ℕ) → EndsRight (modifierStep d b)
 modifier-right d b =
     step-by (both (eqb b 58) (not (d .colon))) _ _ tt
-    (step-by (both (eqb b 64) (not (d .at))) _ _ tt (named-right (lowerCase b)))
+    (step-by (both (eqb b 64) (not (d .atsign))) _ _ tt (named-right (lowerCase b)))
 
 after-right : (r : Reading) (d : Directive) (b : ℕ) → EndsRight (afterStep r d b)
 after-right r d b = step-by (eqb b 44) _ _ tt (modifier-right (having d (closed r (d .parameters))) b)

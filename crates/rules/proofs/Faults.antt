@@ -59,7 +59,7 @@ TextFault t least (Refused code p) = (least ≤ code) × (code ≤ 5) × (p < le
 -- the openers of the open blocks stand in it
 abbrev BlocksIn : List ℕ → List Block → Type 0
 BlocksIn t [] = Unit {0}
-BlocksIn t (o ∷ os) = (o .at < length t) × BlocksIn t os
+BlocksIn t (o ∷ os) = (o .position < length t) × BlocksIn t os
 
 module _ (t : List ℕ) (short : length t ≤ longest) where
   fault-at : (code p : ℕ) → 3 ≤ code → code ≤ 5 → p < length t → TextFault t 3 (Refused code p)
@@ -90,11 +90,11 @@ module _ (t : List ℕ) (short : length t ≤ longest) where
     directive-fault (Closes y) [] b = fault-at 4 p (omega arith) (omega arith) h
     directive-fault (Closes y) (o ∷ os) b =
         unless (isCloserOf y o) 4 p _ (omega arith) (omega arith) h
-        (unless (isWhole y o p) 4 (o .at) _ (omega arith) (omega arith) (b .0) (written os (b .1)))
+        (unless (isWhole y o p) 4 (o .position) _ (omega arith) (omega arith) (b .0) (written os (b .1)))
 
   end-fault : (os : List Block) → BlocksIn t os → TextFault t 3 (atEnd os)
   end-fault [] b = tt
-  end-fault (o ∷ os) b = fault-at 4 (o .at) (omega arith) (omega arith) (b .0)
+  end-fault (o ∷ os) b = fault-at 4 (o .position) (omega arith) (omega arith) (b .0)
 
   abbrev FaultsFrom : ℕ → Type 0
   FaultsFrom q = (os : List Block) → BlocksIn t os → TextFault t 3 (verdictAt t os q)
@@ -110,8 +110,8 @@ module _ (t : List ℕ) (short : length t ≤ longest) where
       by (Written d) e =
           let w = next-inside t p d e in
           rw (verdict-written t os p d e)
-          (directive-fault p (omega (arith, w .above, w .most)) d (λ os₂. verdictAt t os₂ (d .next))
-          (on (d .next) (omega (arith, w .above)) (w .most)) (d .code) os b)
+          (directive-fault p (omega (arith, w .above, w .most)) d (λ os₂. verdictAt t os₂ (d .after))
+          (on (d .after) (omega (arith, w .above)) (w .most)) (d .code) os b)
       by BadNumber e = rw (verdict-bad t os p e) (fault-at 5 p (omega arith) (omega arith) (stands t p BadNumber e))
       by Unfinished e = rw (verdict-unfinished t os p e) (fault-at 3 p (omega arith) (omega arith) (stands t p Unfinished e))
 

@@ -16,18 +16,18 @@ use Rattle.rules.specs.declared.Settings.{Settings}
 -- what takes no argument takes any value, and its text is the same for all
 pub record TakesNone (f : Form) : Type 0 where
   pub takes : (kind : ℕ) → accepts f kind ≡ true
-  pub text : (colon at : Bool) (s : Settings) (v w : Value) → textOf f colon at s v ≡ textOf f colon at s w
+  pub text : (colon atsign : Bool) (s : Settings) (v w : Value) → textOf f colon atsign s v ≡ textOf f colon atsign s w
 
 -- of an argument that is shown again only whether it is the integer 1 counts
 abbrev pub StepsBack : Form → Type 0
 StepsBack f =
-    (colon at : Bool) (s : Settings) (v w : Value) → isOne v ≡ isOne w → textOf f colon at s v ≡ textOf f colon at s w
+    (colon atsign : Bool) (s : Settings) (v w : Value) → isOne v ≡ isOne w → textOf f colon atsign s v ≡ textOf f colon atsign s w
 
 -- a number in place of the argument is the code of a character
 pub record TakesNumber (f : Form) : Type 0 where
   pub place : formPlaces f .first ≡ NumberPlace 0 127
   pub takes : accepts f 2 ≡ true
-  pub text : (colon at : Bool) (s : Settings) (n : ℕ) → textOf f colon at s (character n) ≡ glyphOf colon at n
+  pub text : (colon atsign : Bool) (s : Settings) (n : ℕ) → textOf f colon atsign s (character n) ≡ glyphOf colon atsign n
 
 abbrev OriginSuits : Form → Origin → Type 0
 OriginSuits f Nowhere = TakesNone f
@@ -39,10 +39,10 @@ origin-suits : (f : Form) → OriginSuits f (formRow f .origin)
 unfolding textOf
 origin-suits (Object q) = tt
 origin-suits (Numeral base) = tt
-origin-suits Glyph = record { place = refl; takes = refl; text = λ colon at s n. refl }
-origin-suits Plural = λ colon at s v w e. ap (pluralOf at) e
-origin-suits (Repeat b) = record { takes = λ kind. refl; text = λ colon at s v w. refl }
-origin-suits Fold = record { takes = λ kind. refl; text = λ colon at s v w. refl }
+origin-suits Glyph = record { place = refl; takes = refl; text = λ colon atsign s n. refl }
+origin-suits Plural = λ colon atsign s v w e. ap (pluralOf atsign) e
+origin-suits (Repeat b) = record { takes = λ kind. refl; text = λ colon atsign s v w. refl }
+origin-suits Fold = record { takes = λ kind. refl; text = λ colon atsign s v w. refl }
 
 module _ (f : Form) where
   pub takes-none : formRow f .origin ≡ Nowhere → TakesNone f

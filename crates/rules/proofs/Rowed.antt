@@ -22,7 +22,7 @@ use Rattle.rules.proofs.Tests.{both-true, not-both-ways}
 pub written-suits : (d : Directive) → wellWritten d ≡ true → eachSuits (inRow (placesIn d)) (inOrder (d .parameters)) ≡ true
 unfolding wellWritten
 written-suits d e =
-    let fits = both-true (takes (rowIn d .modifiers) (d .colon) (d .at)) (fitInto (placesIn d) (d .parameters)) e .1 in
+    let fits = both-true (takes (rowIn d .modifiers) (d .colon) (d .atsign)) (fitInto (placesIn d) (d .parameters)) e .1 in
     both-true (leb (d .parameters .count) (placesIn d .count)) (eachSuits (inRow (placesIn d)) (inOrder (d .parameters))) fits .1
 
 -- each of five

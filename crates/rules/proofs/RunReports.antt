@@ -150,7 +150,7 @@ module _ (v : View) (t : List ℕ) where
         → Reports v t (joined value p m a on)
     joined-reports value m (writes text next) on k r = (h, r next)
     joined-reports value m (shows f d s i next) on k r =
-        choose-reports (accepts f (kindOf (value i))) (λ _. put p m (textOf f (d .colon) (d .at) s (value i)) (on next))
+        choose-reports (accepts f (kindOf (value i))) (λ _. put p m (textOf f (d .colon) (d .atsign) s (value i)) (on next))
         (λ _. refused 7 p m) (h, r next) wrong-kind
     joined-reports value m (moves next) on k r = r next
     joined-reports value m (refuses code) on k r = k
@@ -174,7 +174,7 @@ module _ (v : View) (t : List ℕ) where
     jump-refusable : (m count : ℕ) (d : Directive) (s : Settings) (next : ℕ) → Refusable p m (jump count d s next)
     jump-refusable m count d s next =
         let n = orElse (s .first) 1 in
-        either-refusable m (d .at) (jumpTo count (orElse (s .first) 0)) _ (to-refusable m count (orElse (s .first) 0))
+        either-refusable m (d .atsign) (jumpTo count (orElse (s .first) 0)) _ (to-refusable m count (orElse (s .first) 0))
         (either-refusable m (d .colon) (cond (leb n next) (jumpTo count (next - n)) (refuses 6)) (jumpTo count (next + n))
         (either-refusable m (leb n next) (jumpTo count (next - n)) (refuses 6) (to-refusable m count (next - n)) no-argument)
         (to-refusable m count (next + n)))
@@ -269,7 +269,7 @@ module _ (v : View) (t : List ℕ) where
       pick-reports : (d : Directive) (s : Settings) → Reports v t (pick v p m d cs c s next on)
       pick-reports d s =
           choose-reports (d .colon) _ _ two-reports
-          (choose-reports (d .at) _ (λ _. pickNumbered v p m cs c next on (s .first)) one-reports (numbered-reports (s .first)))
+          (choose-reports (d .atsign) _ (λ _. pickNumbered v p m cs c next on (s .first)) one-reports (numbered-reports (s .first)))
 
     list-reports : (on : Context → Flow) → ((c : Context) → Reports v t (on c)) → (x : Value)
         → Reports v t (overList v p m on x)
@@ -285,7 +285,7 @@ module _ (v : View) (t : List ℕ) where
         → Reports v t (enter v p m d body rest c s next on)
     enter-reports d body rest c s next on r =
         let inside : Context → Flow = λ inner. on (iteration p (s .first) body rest (other (goTo c (next + 1)))) inner in
-        choose-reports (d .at) (λ _. on (iteration p (s .first) body rest sameArguments) (goTo c next))
+        choose-reports (d .atsign) (λ _. on (iteration p (s .first) body rest sameArguments) (goTo c next))
         (λ _. withArgument v p m c next (λ x. overList v p m inside x))
         (r (s .first) sameArguments (goTo c next))
         (argument-reports p h m c next (λ x. overList v p m inside x)

@@ -27,9 +27,9 @@ module _ (colon : Bool) (s : Settings) where
   unfolding textOf bareOf
   object-text w e₂ e₃ e₄ = rw (e₂, e₃, e₄, padding-single (orElse (s .first) 0) (length w))
 
-  pub repeat-text : (at : Bool) (b : ℕ) (v : Value) → textOf (Repeat b) colon at s v ≡ replicate (orElse (s .first) 1) b
+  pub repeat-text : (atsign : Bool) (b : ℕ) (v : Value) → textOf (Repeat b) colon atsign s v ≡ replicate (orElse (s .first) 1) b
   unfolding textOf
-  repeat-text at b v = refl
+  repeat-text atsign b v = refl
 
 pub decimal-text : (s : Settings) (z : ℤ)
     → textOf (Numeral 10) false false s (integer z)

@@ -101,43 +101,43 @@ abbrev FormedFrom : List ℕ → ℕ → Type 0
 FormedFrom t q =
     (os : List Block) (k : ℕ) → length os + k ≡ deepest → Sound t os q → WellFormedLevels t k (levelsAt t q)
 
-module _ (t : List ℕ) (p : ℕ) (d : Directive) (e : itemAt t p ≡ Written d) (on : FormedFrom t (d .next))
+module _ (t : List ℕ) (p : ℕ) (d : Directive) (e : itemAt t p ≡ Written d) (on : FormedFrom t (d .after))
     (os : List Block) (s : Sound t os p) where
   within : p < length t
   within = let w = next-inside t p d e in omega arith
 
-  at : wellWritten d ≡ true → WrittenAt t p d
-  at w = record { inside = within; is = e; written = w }
+  atsign : wellWritten d ≡ true → WrittenAt t p d
+  atsign w = record { inside = within; is = e; written = w }
 
   directive-formed : (c : Code) → d .code ≡ c → (k : ℕ) → length os + k ≡ deepest → WellFormedLevels t k (levelsAt t p)
   directive-formed (Writes f) q k h =
       let r = sound-writes t os p s d e f q in
-      rw (levels-writes t p d e f q) (acts-formed t k p (levelsAt t (d .next)) (on os k h (r .1)) (Written d) (at (r .0)))
+      rw (levels-writes t p d e f q) (acts-formed t k p (levelsAt t (d .after)) (on os k h (r .1)) (Written d) (atsign (r .0)))
   directive-formed Jump q k h =
       let r = sound-jump t os p s d e q in
-      rw (levels-jump t p d e q) (acts-formed t k p (levelsAt t (d .next)) (on os k h (r .1)) (Written d) (at (r .0)))
+      rw (levels-jump t p d e q) (acts-formed t k p (levelsAt t (d .after)) (on os k h (r .1)) (Written d) (atsign (r .0)))
   directive-formed Escape q k h =
       let r = sound-escape t os p s d e q in
-      rw (levels-escape t p d e q) (escapes-formed t k p (levelsAt t (d .next)) (on os k h (r .1)) within)
+      rw (levels-escape t p d e q) (escapes-formed t k p (levelsAt t (d .after)) (on os k h (r .1)) within)
   directive-formed (Opens Conditional) q zero h = let r = sound-opener t os p s d e Conditional q in absurd (omega (arith, r .room))
   directive-formed (Opens Conditional) q (suc k) h =
       let r = sound-opener t os p s d e Conditional q in
       rw (levels-conditional t p d e q)
-      (chooses-formed t k p (levelsAt t (d .next)) (on (_ ∷ os) k (omega arith) (r .on)) d (at (r .written)))
+      (chooses-formed t k p (levelsAt t (d .after)) (on (_ ∷ os) k (omega arith) (r .on)) d (atsign (r .written)))
   directive-formed (Opens Iteration) q zero h = let r = sound-opener t os p s d e Iteration q in absurd (omega (arith, r .room))
   directive-formed (Opens Iteration) q (suc k) h =
       let r = sound-opener t os p s d e Iteration q in
       rw (levels-iteration t p d e q)
-      (iterates-formed t k p (levelsAt t (d .next)) (on (_ ∷ os) k (omega arith) (r .on)) d (at (r .written)))
+      (iterates-formed t k p (levelsAt t (d .after)) (on (_ ∷ os) k (omega arith) (r .on)) d (atsign (r .written)))
   directive-formed Separator q k h =
       let r = sound-separator t os p s d e q in
       let n : suc (length (r .others)) + k ≡ deepest = rw (r .is) at h in
-      rw (levels-separator t p d e q) (separator-formed t k p (levelsAt t (d .next)) (on (_ ∷ r .others) k n (r .on)) d)
+      rw (levels-separator t p d e q) (separator-formed t k p (levelsAt t (d .after)) (on (_ ∷ r .others) k n (r .on)) d)
   directive-formed (Closes b) q k h =
       let r = sound-closer t os p s d e b q in
       let n : suc (length (r .others)) + k ≡ deepest = rw (r .is) at h in
       rw (levels-closer t p d e b q)
-      (closer-formed t k (levelsAt t (d .next)) (on (r .others) (suc k) (omega arith) (r .on)))
+      (closer-formed t k (levelsAt t (d .after)) (on (r .others) (suc k) (omega arith) (r .on)))
   directive-formed Unknown q k h = absurd (sound-known t os p s d e q)
 
 item-formed : (t : List ℕ) (p : ℕ) → ((q : ℕ) → p < q → q ≤ length t → FormedFrom t q) → FormedFrom t p
@@ -152,7 +152,7 @@ item-formed t p on os k h s = by (itemAt t p) refl
         rw (levels-literal t p b e) (acts-formed t k p (levelsAt t (p + 1)) more (Literal b) w)
     by (Written d) e =
         let w = next-inside t p d e in
-        directive-formed t p d e (on (d .next) (omega (arith, w .above)) (w .most)) os s (d .code) refl k h
+        directive-formed t p d e (on (d .after) (omega (arith, w .above)) (w .most)) os s (d .code) refl k h
     by BadNumber e = absurd (sound-bad t os p s e)
     by Unfinished e = absurd (sound-unfinished t os p s e)
 

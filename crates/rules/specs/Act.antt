@@ -32,7 +32,7 @@ module _ (count : ℕ) where
   actFrom f d s next own = cond (ltb next count) (shows f d s next (next + 1)) (refuses 6)
   actFrom f d s next back =
       cond (eqb next 0) (refuses 6) (cond (ltb (next - 1) count) (shows f d s (next - 1) next) (refuses 6))
-  actFrom f d s next (given x) = cond (accepts f (kindOf x)) (writes (textOf f (d .colon) (d .at) s x) next) (refuses 7)
+  actFrom f d s next (given x) = cond (accepts f (kindOf x)) (writes (textOf f (d .colon) (d .atsign) s x) next) (refuses 7)
 
   -- "`~*` forward n, `~:*` back, `~@*` to n. From 0 to the count is legal, the count included."
   abbrev pub jumpTo : ℕ → Act
@@ -40,7 +40,7 @@ module _ (count : ℕ) where
 
   abbrev pub jump : Directive → Settings → ℕ → Act
   jump d s next =
-      cond (d .at) (jumpTo (orElse (s .first) 0))
+      cond (d .atsign) (jumpTo (orElse (s .first) 0))
       (cond (d .colon)
       (cond (leb (orElse (s .first) 1) next) (jumpTo (next - orElse (s .first) 1)) (refuses 6))
       (jumpTo (next + orElse (s .first) 1)))

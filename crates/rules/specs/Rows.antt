@@ -96,7 +96,7 @@ rowOf (Closes b) modified = noArgument noPlaces Neither Plain
 rowOf Unknown modified = noArgument noPlaces Any Plain
 
 abbrev pub rowIn : Directive → Row
-rowIn d = rowOf (d .code) (either (d .colon) (d .at))
+rowIn d = rowOf (d .code) (either (d .colon) (d .atsign))
 
 abbrev pub formPlaces : Form → Places
 formPlaces f = formRow f .places
@@ -105,11 +105,11 @@ abbrev pub placesIn : Directive → Places
 placesIn d = rowIn d .places
 
 abbrev pub takes : Modifiers → Bool → Bool → Bool
-takes Neither colon at = not (either colon at)
-takes Colon colon at = not at
-takes At colon at = not colon
-takes Either colon at = not (both colon at)
-takes Any colon at = true
+takes Neither colon atsign = not (either colon atsign)
+takes Colon colon atsign = not atsign
+takes At colon atsign = not colon
+takes Either colon atsign = not (both colon atsign)
+takes Any colon atsign = true
 
 -- "A byte after `'` fits only a character place; a number or `#` only a number place." "A literal zero where 1 is
 -- least, or charnum above 127, is code 5."
@@ -148,7 +148,7 @@ fitInto ys ps = both (leb (ps .count) (ys .count)) (eachSuits (inRow ys) (inOrde
 
 -- "wrong parameter or modifier, seen in the text" is what this is not
 unfoldable pub wellWritten : Directive → Bool
-wellWritten d = both (takes (rowIn d .modifiers) (d .colon) (d .at)) (fitInto (placesIn d) (d .parameters))
+wellWritten d = both (takes (rowIn d .modifiers) (d .colon) (d .atsign)) (fitInto (placesIn d) (d .parameters))
 
 -- the kinds, by their tags
 abbrev pub kindTaken : Kinds → ℕ → Bool

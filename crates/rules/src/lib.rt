@@ -1,4 +1,6 @@
 // The types that document 01 speaks of. What they mean is in specs/.
+pub mod codes;
+pub mod limits;
 pub mod scalars;
 
 // How a check ends: all is well, or the first fault has this code and position.
@@ -156,9 +158,9 @@ pub struct Row {
 pub struct Directive {
     pub code: Code,
     pub colon: bool,
-    pub at: bool,
+    pub atsign: bool,
     pub parameters: Parameters,
-    pub next: usize,
+    pub after: usize,
 }
 
 // What stands at a position of a format text.

@@ -13,11 +13,11 @@ use Rattle.rules.specs.Run.{Flow, refused, begin, choose, Frame, itemActs, nest
 use Rattle.rules.specs.declared.Item.{Item}
 use Rattle.rules.specs.declared.Item.the-variants.{Literal}
 use Rattle.rules.proofs.RunLaws.{begin-yes, begin-no, choose-yes, choose-no, run-acts, run-escapes, nested-yes, nested-no}
-use Rattle.acting.specs.declared.state.Stop.the-variants.{Ended, Left}
-use Rattle.acting.specs.declared.state.Ran.{Ran}
-use Rattle.acting.specs.Ran.{refusedRan, gives, lacks, hand, Acts}
-use Rattle.acting.proofs.Joining.{stays, here, said, from, no-end, no-end-left}
-use Rattle.acting.proofs.Buffer.{put-byte, put-gives, put-lacks}
+use Rattle.actions.specs.declared.state.Stop.the-variants.{Ended, Escaped}
+use Rattle.actions.specs.declared.state.Ran.{Ran}
+use Rattle.actions.specs.Ran.{refusedRan, gives, lacks, hand, Acts}
+use Rattle.actions.proofs.Joining.{stays, here, said, from, no-end, no-end-left}
+use Rattle.actions.proofs.Buffer.{put-byte, put-gives, put-lacks}
 use Rattle.running.specs.Runs.{ActsAt, EscapesAt, restAt, leaving, Runs, Steps, Blocks}
 
 -- a literal byte, and one for which there is no room
@@ -98,7 +98,7 @@ module _ (s : ℕ → List Level) (n : ℕ) (v : View) (first count level p i le
   escape-is {x} {q} a z ks = run-is ks (a .is) ∙ run-escapes v (hand first count i) x (restAt s q) ks left ∙ begin-yes x left _ z
 
   pub steps-escape-left : {x q : ℕ} → EscapesAt s p x q → (left ≡ 0 → ⊥) → count ≤ i → (place : ℕ) → at ≤ length b → i ≤ count
-      → Steps s n v (hand first count) level p i left at b b (record { stop = Left; next = record { 0 = i }; left = left - 1; at = at; place = place })
+      → Steps s n v (hand first count) level p i left at b b (record { stop = Escaped; next = record { 0 = i }; left = left - 1; at = at; place = place })
   steps-escape-left a z y place l k =
       record {
         does = stays _ (λ ks _. here _ refl (escape-is a z ks ∙ choose-yes _ _ (le-leb count i y))) refl (omega arith) l k;

@@ -13,11 +13,11 @@ use Rattle.rules.specs.Run.{Flow, refused, begin, nested, Frame, iteration, con
 use Rattle.rules.specs.declared.Directive.{Directive}
 use Rattle.rules.specs.declared.Setting.{Setting}
 use Rattle.rules.proofs.RunLaws.{begin-yes, begin-no, run-clause-end, run-passes-over, run-pass, run-chooses, run-iterates}
-use Rattle.acting.specs.declared.state.Stop.{Stop}
-use Rattle.acting.specs.declared.state.Stop.the-variants.{Ended, Left, Refused}
-use Rattle.acting.specs.declared.state.Ran.{Ran}
-use Rattle.acting.specs.Ran.{refusedRan, onward, Same, hand}
-use Rattle.acting.proofs.Joining.{stays, here, joined, said, from, then-on, renamed, no-end, no-end-left, no-left, onward-ended, onward-left, onward-refused}
+use Rattle.actions.specs.declared.state.Stop.{Stop}
+use Rattle.actions.specs.declared.state.Stop.the-variants.{Ended, Escaped, Refused}
+use Rattle.actions.specs.declared.state.Ran.{Ran}
+use Rattle.actions.specs.Ran.{refusedRan, onward, Same, hand}
+use Rattle.actions.proofs.Joining.{stays, here, joined, said, from, then-on, renamed, no-end, no-end-left, no-left, onward-ended, onward-left, onward-refused}
 use Rattle.running.specs.Runs.{ChoosesAt, IteratesAt, After, restAt, leaving, Runs, Blocks, Passes, opening}
 
 -- what follows a block, by the place after it
@@ -76,7 +76,7 @@ module _ (s : ℕ → List Level) (n : ℕ) (v : View) (first count level p q i 
             after = k .after;
           }
 
-      pub passes-left : r .stop ≡ Left → (place : ℕ) → After s n q place
+      pub passes-left : r .stop ≡ Escaped → (place : ℕ) → After s n q place
           → Passes s n v (hand first count) level p q i passes left at b e (record { stop = Ended; next = r .next; left = r .left; at = r .at; place = place })
       passes-left y place a =
           record {
@@ -138,7 +138,7 @@ module _ (s : ℕ → List Level) (n : ℕ) (v : View) (first count level q : �
           after = λ _. a;
         }
 
-    pub blocks-clause-left : r .stop ≡ Left → Blocks s n v (hand first count) level q f left at b e r
+    pub blocks-clause-left : r .stop ≡ Escaped → Blocks s n v (hand first count) level q f left at b e r
     blocks-clause-left y =
         record {
           does =
@@ -169,7 +169,7 @@ module _ (s : ℕ → List Level) (n : ℕ) (v : View) (first count level q : �
   -- an iteration over a list: the arguments in hand outside come back after it
   fixed : (on out : ℕ → ℕ → Flow) (j : ℕ) (o : Stop) (l i : ℕ) → onward (λ l _. on l j) (λ l _. out l j) o l i ≡ onward on out o l j
   fixed on out j Ended l i = refl
-  fixed on out j Left l i = refl
+  fixed on out j Escaped l i = refl
   fixed on out j (Refused code x) l i = refl
 
   pub blocks-list : (p j first′ count′ : ℕ) (passes : Setting) {e : List ℕ} {r : Ran}

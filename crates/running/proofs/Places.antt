@@ -29,13 +29,13 @@ module _ (t : List ℕ) (p : ℕ) where
   end-at e = rest-of (levels-end t p e) refl
 
   module _ (d : Directive) (e : itemAt t p ≡ Written d) where
-    pub writes-at : (f : Form) → d .code ≡ Writes f → ActsAt (levelsAt t) p p (Written d) (d .next)
+    pub writes-at : (f : Form) → d .code ≡ Writes f → ActsAt (levelsAt t) p p (Written d) (d .after)
     writes-at f q = record { is = levels-writes t p d e f q }
 
-    pub jump-at : d .code ≡ Jump → ActsAt (levelsAt t) p p (Written d) (d .next)
+    pub jump-at : d .code ≡ Jump → ActsAt (levelsAt t) p p (Written d) (d .after)
     jump-at q = record { is = levels-jump t p d e q }
 
-    pub escape-at : d .code ≡ Escape → EscapesAt (levelsAt t) p p (d .next)
+    pub escape-at : d .code ≡ Escape → EscapesAt (levelsAt t) p p (d .after)
     escape-at q = record { is = levels-escape t p d e q }
 
     pub alone-at : (c : Code) → d .code ≡ c → AloneAt (levelsAt t) p p d c
@@ -47,11 +47,11 @@ module _ (t : List ℕ) (p : ℕ) where
     alone-at (Closes b) q = tt
     alone-at Unknown q = tt
 
-    pub directive-ahead : Ahead (length t) p (d .next)
+    pub directive-ahead : Ahead (length t) p (d .after)
     directive-ahead = let w = next-inside t p d e in record { least = omega (arith, w .above); most = w .most }
 
-    pub iteration-at : d .code ≡ Opens Iteration → IteratesAt (levelsAt t) p p d (d .next)
+    pub iteration-at : d .code ≡ Opens Iteration → IteratesAt (levelsAt t) p p d (d .after)
     iteration-at q = record { is = levels-iteration t p d e q }
 
-    pub conditional-at : d .code ≡ Opens Conditional → ChoosesAt (levelsAt t) p p d (d .next)
+    pub conditional-at : d .code ≡ Opens Conditional → ChoosesAt (levelsAt t) p p d (d .after)
     conditional-at q = record { is = levels-conditional t p d e q }

@@ -6,10 +6,10 @@ use native.Mathlib.Omega.{arith}
 use lib.ListN.{length}
 use Rattle.rules.specs.Table.{View}
 use Rattle.rules.specs.Text.{Level}
-use Rattle.acting.specs.declared.state.Stop.the-variants.{Ended, Left, Refused}
-use Rattle.acting.specs.declared.state.Ran.{Ran}
-use Rattle.acting.specs.Ran.{endedRan, hand}
-use Rattle.acting.proofs.Joining.{stays, here, joined, said, then-on, renamed, no-end, no-end-left, onward-left, onward-refused}
+use Rattle.actions.specs.declared.state.Stop.the-variants.{Ended, Escaped, Refused}
+use Rattle.actions.specs.declared.state.Ran.{Ran}
+use Rattle.actions.specs.Ran.{endedRan, hand}
+use Rattle.actions.proofs.Joining.{stays, here, joined, said, then-on, renamed, no-end, no-end-left, onward-left, onward-refused}
 use Rattle.running.specs.Runs.{Runs, Steps, Strides}
 
 module _ (s : ℕ → List Level) (n : ℕ) (v : View) (first count level p i left at : ℕ) (b : List ℕ) where
@@ -49,7 +49,7 @@ module _ (s : ℕ → List Level) (n : ℕ) (v : View) (first count level p i le
           ends = λ y. let w = k .ends y in record { stop = w .stop; around = w .around ∙ u .around q; least = omega (arith, w .least, u .least q); most = w .most };
         }
 
-    pub strides-runs-left : r .stop ≡ Left → Runs s n v (hand first count) level p i left at b e r
+    pub strides-runs-left : r .stop ≡ Escaped → Runs s n v (hand first count) level p i left at b e r
     strides-runs-left q =
         record {
           does = said r (u .does) refl refl (omega arith) (u .does .inside) (λ ks m. renamed (u .does .same ks m) r refl refl (λ p y. y) (onward-left _ _ (r .left) (r .next .0) q ∙ sym (onward-left _ _ (r .left) (r .next .0) q)));
@@ -69,7 +69,7 @@ module _ (s : ℕ → List Level) (n : ℕ) (v : View) (first count level p i le
         → Runs s n v (hand first count) level p i left at b e′ r′
     runs-on q k = strides-runs-on (strides u) q k
 
-    pub runs-left : r .stop ≡ Left → Runs s n v (hand first count) level p i left at b e r
+    pub runs-left : r .stop ≡ Escaped → Runs s n v (hand first count) level p i left at b e r
     runs-left q = strides-runs-left (strides u) q
 
     pub runs-refused : (code x : ℕ) → r .stop ≡ Refused code x → Runs s n v (hand first count) level p i left at b e r

@@ -15,10 +15,10 @@ use Rattle.rules.specs.declared.Item.{Item}
 use Rattle.rules.specs.declared.Item.the-variants.{Written}
 use Rattle.rules.specs.declared.Setting.{Setting}
 use Rattle.rules.specs.declared.Settings.{Settings}
-use Rattle.acting.specs.declared.state.Stop.the-variants.{Ended}
-use Rattle.acting.specs.declared.state.Ran.{Ran}
-use Rattle.acting.specs.declared.state.Spot.{Spot}
-use Rattle.acting.specs.Ran.{endedRan, Same, Does}
+use Rattle.actions.specs.declared.state.Stop.the-variants.{Ended}
+use Rattle.actions.specs.declared.state.Ran.{Ran}
+use Rattle.actions.specs.declared.state.Spot.{Spot}
+use Rattle.actions.specs.Ran.{endedRan, Same, Does}
 
 -- What stands at a place, where s gives the sequences that are open at each place: those of a text, or of an array that
 -- it was read into. Each has the position x that it reports and the place q of what follows it, or of its inside
@@ -30,9 +30,9 @@ pub record EscapesAt (s : ℕ → List Level) (p x q : ℕ) : Type 0 where
 
 -- a directive d that acts or escapes, by its code; of the other codes nothing is said
 abbrev pub AloneAt : (ℕ → List Level) → ℕ → ℕ → Directive → Code → Type 0
-AloneAt s p x d (Writes f) = ActsAt s p x (Written d) (d .next)
-AloneAt s p x d Jump = ActsAt s p x (Written d) (d .next)
-AloneAt s p x d Escape = EscapesAt s p x (d .next)
+AloneAt s p x d (Writes f) = ActsAt s p x (Written d) (d .after)
+AloneAt s p x d Jump = ActsAt s p x (Written d) (d .after)
+AloneAt s p x d Escape = EscapesAt s p x (d .after)
 AloneAt s p x d (Opens b) = Unit {0}
 AloneAt s p x d Separator = Unit {0}
 AloneAt s p x d (Closes b) = Unit {0}

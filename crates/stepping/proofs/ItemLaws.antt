@@ -22,14 +22,14 @@ use Rattle.rules.specs.Run.{itemActs}
 use Rattle.rules.proofs.Code as code-declared
 use Rattle.rules.proofs.Reading.{item-literal}
 use Rattle.rules.proofs.Tests.{not-both-ways}
-use Rattle.acting.specs.declared.state.Stop.{Stop}
-use Rattle.acting.specs.declared.state.Stop.the-variants.{Ended, Left, Refused}
-use Rattle.acting.specs.declared.state.Ran.{Ran}
-use Rattle.acting.specs.declared.state.Spot.{Spot}
-use Rattle.acting.specs.Acting.{Performed}
-use Rattle.acting.specs.Ran.{refusedRan, endedRan, begun, hand}
+use Rattle.actions.specs.declared.state.Stop.{Stop}
+use Rattle.actions.specs.declared.state.Stop.the-variants.{Ended, Escaped, Refused}
+use Rattle.actions.specs.declared.state.Ran.{Ran}
+use Rattle.actions.specs.declared.state.Spot.{Spot}
+use Rattle.actions.specs.Acting.{Performed}
+use Rattle.actions.specs.Ran.{refusedRan, endedRan, begun, hand}
 use Rattle.running.specs.Runs.{ActsAt, EscapesAt, AloneAt, Ahead, Steps}
-use Rattle.stepping.specs.Stepping.{ActsAlone, PutsLiterals, leftRan, escaped, isEnded}
+use Rattle.stepping.specs.Stepping.{ActsAlone, PutsLiterals, escapedRan, escaped, isEnded}
 use Rattle.running.proofs.Arms.{literal-acts, literal-full, steps-acts-none, steps-acts, steps-escape-none, steps-escape-left, steps-escape-on}
 use Rattle.running.proofs.Strides.{strides, strides-none, strides-on}
 use Rattle.running.proofs.Places.{literal-at, literal-ahead}
@@ -44,13 +44,13 @@ module _ (s : ℕ → List Level) (n : ℕ) (v : View) (first count level here i
   acts-none {p} {q} a r z e l k = subst (StepsHere b) (sym e) (steps-acts-none s n v first count level here i left at b a z q l k)
 
   -- the same of a directive that acts alone, by its code
-  pub alone-none : (p : ℕ) (d : Directive) → ActsAlone (d .code) → AloneAt s here p d (d .code) → (r : Ran) → left ≡ 0 → r ≡ refusedRan 9 p i left at (d .next) → at ≤ length b → i ≤ count → StepsHere b r
+  pub alone-none : (p : ℕ) (d : Directive) → ActsAlone (d .code) → AloneAt s here p d (d .code) → (r : Ran) → left ≡ 0 → r ≡ refusedRan 9 p i left at (d .after) → at ≤ length b → i ≤ count → StepsHere b r
   alone-none p d o a r z e l k = by (d .code) o a
     where
       by : (c : Code) → ActsAlone c → AloneAt s here p d c → StepsHere b r
       by (Writes f) o a = acts-none a r z e l k
       by Jump o a = acts-none a r z e l k
-      by Escape o a = subst (StepsHere b) (sym e) (steps-escape-none s n v first count level here i left at b a z (d .next) l k)
+      by Escape o a = subst (StepsHere b) (sym e) (steps-escape-none s n v first count level here i left at b a z (d .after) l k)
       by (Opens c) o a = absurd o
       by Separator o a = absurd o
       by (Closes c) o a = absurd o
@@ -82,8 +82,8 @@ module _ (s : ℕ → List Level) (n : ℕ) (v : View) (first count level here i
     pub escape-begun : EscapesAt s here p q → {r : Ran} (spot : Spot) → spot ≡ record { position = p; place = q; left = left - 1; at = at } → r ≡ escaped spot count i → at ≤ length b → i ≤ count → StepsHere b r
     escape-begun a {r} spot o e l k = by (decLe count i)
       where
-        told : {y : Bool} → leb count i ≡ y → r ≡ cond y (leftRan i (left - 1) at q) (endedRan i (left - 1) at q)
-        told g = e ∙ ap (λ (y : Spot). escaped y count i) o ∙ ap (λ (y : Bool). cond y (leftRan i (left - 1) at q) (endedRan i (left - 1) at q)) g
+        told : {y : Bool} → leb count i ≡ y → r ≡ cond y (escapedRan i (left - 1) at q) (endedRan i (left - 1) at q)
+        told g = e ∙ ap (λ (y : Spot). escaped y count i) o ∙ ap (λ (y : Bool). cond y (escapedRan i (left - 1) at q) (endedRan i (left - 1) at q)) g
 
         by : Dec (count ≤ i) → StepsHere b r
         by (yes g) = subst (StepsHere b) (sym (told (le-leb count i g))) (steps-escape-left s n v first count level here i left at b a z g q l k)
@@ -143,5 +143,5 @@ only-escape keys Unknown q a o = absurd a
 -- how a run stopped
 pub is-ended : (x : Stop) → isEnded x ≡ true → x ≡ Ended
 is-ended Ended h = refl
-is-ended Left h = absurd (not-both-ways h refl)
+is-ended Escaped h = absurd (not-both-ways h refl)
 is-ended (Refused code p) h = absurd (not-both-ways h refl)

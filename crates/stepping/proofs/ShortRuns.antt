@@ -26,14 +26,14 @@ use Rattle.rules.specs.declared.Settings.{Settings}
 use Rattle.rules.proofs.Tests.{both-true}
 use Rattle.reader.specs.Shorts.{Brief, object, numeral, repeats, formOf, briefOf, settingOf, shortForm, shortParameters, shortDirective, NumberIn, CharacterIn, NoneIn, ShortIn}
 use Rattle.reader.proofs.ShortLaws.{short-well}
-use Rattle.acting.specs.declared.state.Ran.{Ran}
-use Rattle.acting.specs.declared.state.Spot.{Spot}
+use Rattle.actions.specs.declared.state.Ran.{Ran}
+use Rattle.actions.specs.declared.state.Spot.{Spot}
 use Rattle.rules.specs.Directive.{FormRight}
-use Rattle.acting.specs.Acting.{Performed, Untouched}
-use Rattle.acting.specs.Ran.{refusedRan, endedRan, hand}
-use Rattle.acting.proofs.Joining.{same-refusal}
-use Rattle.acting.proofs.ActLaws.{performed-as, acts-writes, settings-well, from-own-none}
-use Rattle.acting.proofs.Sources.{worked-in}
+use Rattle.actions.specs.Acting.{Performed, Untouched}
+use Rattle.actions.specs.Ran.{refusedRan, endedRan, hand}
+use Rattle.actions.proofs.Joining.{same-refusal}
+use Rattle.actions.proofs.ActLaws.{performed-as, acts-writes, settings-well, from-own-none}
+use Rattle.actions.proofs.Sources.{worked-in}
 use Rattle.running.specs.Runs.{ActsAt, Ahead, Steps, Strides}
 use Rattle.running.proofs.Strides.{strides-none}
 use Rattle.stepping.specs.Stepping.{shortSettings, Unbegun, HeldUp}
@@ -70,7 +70,7 @@ settled v c ys (Is n) (Is k) p m on = refl
 pub short-begun : (s : ℕ → List Level) (n : ℕ) (v : View) (first count level here i left at : ℕ) (b : List ℕ) (w : Brief) (x y : Setting) {p place : ℕ} → ShortIn w x y
     → ActsAt s here p (Written (shortDirective (formOf w) x y place)) place → Ahead n here place → (left ≡ 0 → ⊥)
     → {b₂ : List ℕ} {r : Ran} (spot : Spot) → spot ≡ record { position = p; place = place; left = left - 1; at = at }
-    → ((d : Directive) → d .colon ≡ false → d .at ≡ false
+    → ((d : Directive) → d .colon ≡ false → d .atsign ≡ false
     → Performed (λ on. writeFrom v (spot .position) (spot .left) (formOf w) d (hand first count 0) (shortSettings x y) i on (sourceOf (formOf w) false (shortSettings x y))) count spot b b₂ r)
     → Steps s n v (hand first count) level here i left at b b₂ r
 short-begun s n v first count level here i left at b w x y {p} {place} u a h z spot o k =

@@ -12,10 +12,10 @@ use Rattle.rules.specs.Table.{View, viewOf}
 use Rattle.rules.specs.Text.{Level, levelsAt}
 use Rattle.rules.specs.declared.Code.{Code}
 use Rattle.rules.specs.declared.Code.the-variants.{Writes, Jump, Escape, Opens, Separator, Closes, Unknown}
-use Rattle.acting.specs.declared.state.Ran.{Ran}
-use Rattle.acting.specs.declared.state.Spot.{Spot}
-use Rattle.acting.specs.declared.state.Stop.{Stop}
-use Rattle.acting.specs.declared.state.Stop.the-variants.{Ended, Left, Refused}
+use Rattle.actions.specs.declared.state.Ran.{Ran}
+use Rattle.actions.specs.declared.state.Spot.{Spot}
+use Rattle.actions.specs.declared.state.Stop.{Stop}
+use Rattle.actions.specs.declared.state.Stop.the-variants.{Ended, Escaped, Refused}
 use Rattle.rules.specs.Working.{Context, sourceOf}
 use Rattle.rules.specs.declared.Directive.{Directive}
 use Rattle.rules.specs.declared.Setting.{Setting}
@@ -23,10 +23,10 @@ use Rattle.rules.specs.declared.Setting.the-variants.{Absent}
 use Rattle.rules.specs.declared.Settings.{Settings}
 use Rattle.reader.specs.Shorts.{settingOf, shortForm, shortAt}
 use Rattle.reader.specs.declared.short.Short.the-variants.{Other}
-use Rattle.working.specs.Settling.{handAt}
-use Rattle.working.specs.declared.arguments.Hand.{Hand}
-use Rattle.acting.specs.Acting.{Performed}
-use Rattle.acting.specs.Ran.{endedRan, hand}
+use Rattle.parameters.specs.Settling.{handAt}
+use Rattle.parameters.specs.declared.arguments.Hand.{Hand}
+use Rattle.actions.specs.Acting.{Performed}
+use Rattle.actions.specs.Ran.{endedRan, hand}
 use Rattle.running.specs.Runs.{Strides}
 
 -- a directive that neither opens a block nor ends a sequence
@@ -49,16 +49,16 @@ pub record PutsLiterals (t : List ℕ) (p left at : ℕ) (b e : List ℕ) (k : �
       → Strides (levelsAt t) (length t) v (hand first count) level p i left at b e (endedRan i (left - k) (at + k) (p + k))
 
 -- what an escape answers: it leaves its sequence where no argument remains, and else goes on
-abbrev pub leftRan : ℕ → ℕ → ℕ → ℕ → Ran
-leftRan i left at place = record { stop = Left; next = record { 0 = i }; left = left; at = at; place = place }
+abbrev pub escapedRan : ℕ → ℕ → ℕ → ℕ → Ran
+escapedRan i left at place = record { stop = Escaped; next = record { 0 = i }; left = left; at = at; place = place }
 
 abbrev pub escaped : Spot → ℕ → ℕ → Ran
 escaped spot count i =
-    cond (leb count i) (leftRan i (spot .left) (spot .at) (spot .place)) (endedRan i (spot .left) (spot .at) (spot .place))
+    cond (leb count i) (escapedRan i (spot .left) (spot .at) (spot .place)) (endedRan i (spot .left) (spot .at) (spot .place))
 
 abbrev pub isEnded : Stop → Bool
 isEnded Ended = true
-isEnded Left = false
+isEnded Escaped = false
 isEnded (Refused code p) = false
 
 -- a number x and a character y as settings
@@ -68,7 +68,7 @@ shortSettings x y = record { first = x; second = y; third = Absent; fourth = Abs
 -- what a short directive does once it is begun, where i is the next argument
 abbrev pub WritesShort : List ℕ → Hand → ℕ → ℕ → ℕ → ℕ → ℕ → Spot → List ℕ → List ℕ → Ran → Type 0
 WritesShort t hand i kind detail number byte spot b e r =
-    (d : Directive) → d .colon ≡ false → d .at ≡ false
+    (d : Directive) → d .colon ≡ false → d .atsign ≡ false
     → Performed (λ on. writeFrom (viewOf t) (spot .position) (spot .left) (shortForm kind detail) d (handAt hand 0)
     (shortSettings (settingOf 4097 number) (settingOf 256 byte)) i on
     (sourceOf (shortForm kind detail) false (shortSettings (settingOf 4097 number) (settingOf 256 byte)))) (hand .count) spot b e r

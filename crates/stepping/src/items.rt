@@ -1,17 +1,19 @@
 // The parts of a run that open no block: a literal byte, and a directive that acts alone.
-use acting::acting::act_form;
-use acting::acting::act_jump;
-use acting::state::Ran;
-use acting::state::Spot;
-use acting::state::Stand;
-use acting::state::Stop;
-use acting::state::begin;
-use acting::state::go_on;
-use acting::state::refuse;
+use actions::acting::act_form;
+use actions::acting::act_jump;
+use actions::state::Ran;
+use actions::state::Spot;
+use actions::state::Stand;
+use actions::state::Stop;
+use actions::state::begin;
+use actions::state::go_on;
+use actions::state::refuse;
+use parameters::Hand;
 use rules::ArgumentPosition;
 use rules::Code;
 use rules::Directive;
-use working::Hand;
+use rules::codes::NO_ROOM;
+use rules::codes::STEP_LIMIT;
 ghost use mathlib.Core.Path.{_≡_};
 ghost use mathlib.Core.List.{List};
 ghost use Prim.Native.Nat.{ℕ, _+_, _-_, _≤_, _<_};
@@ -20,8 +22,8 @@ ghost use Rattle.rules.specs.Letters.{letter};
 ghost use Rattle.rules.specs.Table.{View, viewOf};
 ghost use Rattle.rules.specs.Text.{Level};
 ghost use Rattle.rules.specs.declared.Item.the-variants.{Literal};
-ghost use Rattle.working.specs.Settling.{handAt};
-ghost use Rattle.acting.specs.Ran.{Stands};
+ghost use Rattle.parameters.specs.Settling.{handAt};
+ghost use Rattle.actions.specs.Ran.{Stands};
 ghost use Rattle.running.specs.Runs.{ActsAt, AloneAt, Ahead, Steps};
 ghost use Rattle.stepping.specs.Stepping.{isEnded, escaped, ActsAlone, PutsLiterals};
 
@@ -42,11 +44,11 @@ pub fn put_literal(p: usize, byte: u8, stand: Stand, out: &mut [u8]) -> Ran
         at,
     };
     if stand.left == 0 {
-        return refuse(met, 9, next);
+        return refuse(met, STEP_LIMIT, next);
     }
     let spot = begin(met);
     if out.len() <= at {
-        return refuse(spot, 10, next);
+        return refuse(spot, NO_ROOM, next);
     }
     out[at] = byte;
     go_on(spot, next, at + 1)
@@ -88,7 +90,7 @@ fn escape(spot: Spot, hand: Hand, next: ArgumentPosition) -> Ran
 {
     if hand.count <= next.0 {
         return Ran {
-            stop: Stop::Left,
+            stop: Stop::Escaped,
             next,
             left: spot.left,
             at: spot.at,
@@ -102,19 +104,19 @@ fn escape(spot: Spot, hand: Hand, next: ArgumentPosition) -> Ran
 pub fn act(p: usize, d: Directive, table: &[u8], stand: Stand, out: &mut [u8]) -> Ran
     requires { ⌜ ActsAlone (d .code) ⌝ }
     requires { ⌜ Stands (now table) stand (now out) ⌝ }
-    ensures { λ r. ⌜ ((s : ℕ → List Level) (n level here : ℕ) → AloneAt s here p d (d .code) → Ahead n here (d .next) → Steps s n (viewOf (now (table .entry))) (handAt (stand .hand)) level here (stand .next .0) (stand .left) (stand .at) (now (out .entry)) (now (out .exit)) r) ⌝ }
+    ensures { λ r. ⌜ ((s : ℕ → List Level) (n level here : ℕ) → AloneAt s here p d (d .code) → Ahead n here (d .after) → Steps s n (viewOf (now (table .entry))) (handAt (stand .hand)) level here (stand .next .0) (stand .left) (stand .at) (now (out .entry)) (now (out .exit)) r) ⌝ }
 {
     let code = d.code;
     let hand = stand.hand;
     let next = stand.next;
     let met = Spot {
         position: p,
-        place: d.next,
+        place: d.after,
         left: stand.left,
         at: stand.at,
     };
     if stand.left == 0 {
-        return refuse(met, 9, next);
+        return refuse(met, STEP_LIMIT, next);
     }
     let spot = begin(met);
     match code {
@@ -130,7 +132,7 @@ pub fn is_ended(stop: Stop) -> bool
 {
     match stop {
         Stop::Ended => true,
-        Stop::Left => false,
+        Stop::Escaped => false,
         Stop::Refused {
             code: _,
             position: _,

@@ -1,16 +1,18 @@
 // Literal bytes and short directives, of which most texts are made, done one after another without an item for each.
 use crate::items::is_ended;
 use crate::items::put_literals;
-use acting::acting::write_form;
-use acting::direct::put_decimal;
-use acting::direct::put_run;
-use acting::direct::put_text;
-use acting::state::Ran;
-use acting::state::Spot;
-use acting::state::Stand;
-use acting::state::Stop;
-use acting::state::begin;
-use acting::state::refuse;
+use actions::acting::write_form;
+use actions::direct::put_decimal;
+use actions::direct::put_run;
+use actions::direct::put_text;
+use actions::state::Ran;
+use actions::state::Spot;
+use actions::state::Stand;
+use actions::state::Stop;
+use actions::state::begin;
+use actions::state::refuse;
+use parameters::Hand;
+use parameters::argument_at;
 use reader::short::NO_BYTE;
 use reader::short::NO_NUMBER;
 use reader::short::NUMERAL;
@@ -22,8 +24,8 @@ use rules::Argument;
 use rules::ArgumentPosition;
 use rules::Setting;
 use rules::Settings;
-use working::Hand;
-use working::argument_at;
+use rules::codes::NO_ARGUMENT;
+use rules::codes::STEP_LIMIT;
 ghost use mathlib.Core.Path.{_≡_};
 ghost use mathlib.Core.List.{List};
 ghost use Prim.Native.Nat.{ℕ, _≤_, _<_};
@@ -36,10 +38,10 @@ ghost use Rattle.rules.specs.Text.{Level, levelsAt};
 ghost use Rattle.rules.specs.declared.Item.the-variants.{Written};
 ghost use Rattle.reader.specs.Shorts.{briefOf, settingOf, shortForm, shortAt, shortDirective, ShortIn};
 ghost use Rattle.reader.specs.declared.short.Short.the-variants.{Other};
-ghost use Rattle.acting.specs.Acting.{Untouched};
-ghost use Rattle.acting.specs.declared.state.Stop.the-variants.{Ended, Left};
-ghost use Rattle.working.specs.Settling.{InHand, handAt};
-ghost use Rattle.acting.specs.Ran.{Stands};
+ghost use Rattle.actions.specs.Acting.{Untouched};
+ghost use Rattle.actions.specs.declared.state.Stop.the-variants.{Ended, Escaped};
+ghost use Rattle.parameters.specs.Settling.{InHand, handAt};
+ghost use Rattle.actions.specs.Ran.{Stands};
 ghost use Rattle.rules.specs.Directive.{FormRight};
 ghost use Rattle.running.specs.Runs.{ActsAt, Ahead, Steps, Strides};
 ghost use Rattle.stepping.specs.Stepping.{WritesShort, NotShort, Unbegun, HeldUp};
@@ -139,7 +141,7 @@ fn write_argument(
 {
     let k = i.0;
     if hand.count <= k {
-        return refuse(spot, 6, i);
+        return refuse(spot, NO_ARGUMENT, i);
     }
     let argument = argument_at(table, hand, i);
     let after = ArgumentPosition(k + 1);
@@ -178,7 +180,7 @@ fn act_short(
     requires { ⌜ Stands (now table) stand (now out) ⌝ }
     ensures steps { λ r. ⌜ ((s : ℕ → List Level) (n level here : ℕ) → ActsAt s here p (Written (shortDirective (shortForm kind detail) (settingOf 4097 number) (settingOf 256 byte) place)) place → Ahead n here place → Steps s n (viewOf (now (table .entry))) (handAt (stand .hand)) level here (stand .next .0) (stand .left) (stand .at) (now (out .entry)) (now (out .exit)) r) ⌝ }
     ensures held { λ r. ⌜ Unbegun p (stand .next .0) (stand .left) (stand .at) (now (out .entry)) (now (out .exit)) r ⌝ }
-    ensures stays { λ r. ⌜ (r .stop ≡ Left → ⊥) ⌝ }
+    ensures stays { λ r. ⌜ (r .stop ≡ Escaped → ⊥) ⌝ }
 {
     let hand = stand.hand;
     let next = stand.next;
@@ -189,7 +191,7 @@ fn act_short(
         at: stand.at,
     };
     if stand.left == 0 {
-        return refuse(met, 9, next);
+        return refuse(met, STEP_LIMIT, next);
     }
     let spot = begin(met);
     if NUMERAL < kind {
@@ -205,7 +207,7 @@ fn run_one(text: &[u8], table: &[u8], p: usize, stand: Stand, out: &mut [u8]) ->
     ensures strides { λ r. ⌜ ((level : ℕ) → Strides (levelsAt (now (text .entry))) (length (now (text .entry))) (viewOf (now (table .entry))) (handAt (stand .hand)) level p (stand .next .0) (stand .left) (stand .at) (now (out .entry)) (now (out .exit)) r) ⌝ }
     ensures other { λ r. ⌜ (r .stop ≡ Ended → r .place ≡ p → (shortAt (now (text .entry)) p ≡ Other) × ((r .left ≡ stand .left) × (r .at ≡ stand .at))) ⌝ }
     ensures held { λ r. ⌜ HeldUp (levelsAt (now (text .entry))) (length (now (text .entry))) (viewOf (now (table .entry))) (handAt (stand .hand)) p (stand .next .0) (stand .left) (stand .at) (now (out .entry)) (now (out .exit)) r ⌝ }
-    ensures stays { λ r. ⌜ (r .stop ≡ Left → ⊥) ⌝ }
+    ensures stays { λ r. ⌜ (r .stop ≡ Escaped → ⊥) ⌝ }
 {
     let next = stand.next;
     let short = read_short(text, p);
@@ -222,7 +224,7 @@ fn run_one(text: &[u8], table: &[u8], p: usize, stand: Stand, out: &mut [u8]) ->
             detail,
             number,
             byte,
-            next: place,
+            after: place,
         } => act_short(p, kind, detail, number, byte, place, table, stand, out),
     }
 }
@@ -234,7 +236,7 @@ pub fn run_short(text: &[u8], table: &[u8], start: usize, first: Stand, out: &mu
     ensures strides { λ r. ⌜ ((level : ℕ) → Strides (levelsAt (now (text .entry))) (length (now (text .entry))) (viewOf (now (table .entry))) (handAt (first .hand)) level start (first .next .0) (first .left) (first .at) (now (out .entry)) (now (out .exit)) r) ⌝ }
     ensures all { λ r. ⌜ (r .stop ≡ Ended → 0 < r .left → r .place < length (now (text .entry)) → r .at < length (now (out .entry)) → NotShort (now (text .entry)) (r .place)) ⌝ }
     ensures held { λ r. ⌜ HeldUp (levelsAt (now (text .entry))) (length (now (text .entry))) (viewOf (now (table .entry))) (handAt (first .hand)) start (first .next .0) (first .left) (first .at) (now (out .entry)) (now (out .exit)) r ⌝ }
-    ensures stays { λ r. ⌜ (r .stop ≡ Left → ⊥) ⌝ }
+    ensures stays { λ r. ⌜ (r .stop ≡ Escaped → ⊥) ⌝ }
 {
     let mut p = start;
     let hand = first.hand;

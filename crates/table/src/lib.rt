@@ -3,6 +3,9 @@ use rules::Argument;
 use rules::ArgumentPosition;
 use rules::EntryIndex;
 use rules::Verdict;
+use rules::codes::BAD_TABLE;
+use rules::limits::MOST_ENTRIES;
+use rules::limits::MOST_POOL;
 use rules::scalars::wide;
 ghost use mathlib.Core.Path.{_≡_};
 ghost use Prim.Native.Nat.{_+_, _-_, _*_, _≤_, _<_};
@@ -15,10 +18,6 @@ const HEADER: usize = 8;
 
 // How many bytes an entry takes.
 const ENTRY: usize = 12;
-
-const MOST_ENTRIES: usize = 1024;
-
-const MOST_POOL: usize = 65536;
 
 fn be16(t: &[u8], at: usize) -> usize
     requires { ⌜ at + 2 ≤ length (now t) ⌝ }
@@ -108,7 +107,10 @@ fn entry_right(table: &[u8], n: usize, pool: usize, i: usize) -> bool
 fn refused(position: usize) -> Verdict
     ensures { λ r. ⌜ r ≡ Verdict.Refused 1 position ⌝ }
 {
-    Verdict::Refused { code: 1, position }
+    Verdict::Refused {
+        code: BAD_TABLE,
+        position,
+    }
 }
 
 // The first bad entry, in one pass.

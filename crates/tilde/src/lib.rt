@@ -1,8 +1,8 @@
 // Format and vet for callers in C. Neither asks anything of its caller: every byte and every number is answered.
 use engine::formatting::format_text;
-use vetting::vet_format;
+use vet::vet_format;
 ghost use Rattle.rules.specs.Answer.{Answers};
-ghost use Rattle.vet.specs.Demand.{Promised};
+ghost use Rattle.vet_rules.specs.Demand.{Promised};
 ghost use Rattle.tilde.specs.Exported.{vetted};
 
 // Writes the text of a format over its table at the start of the buffer. Answers 01's code, and with it the position,

@@ -184,7 +184,7 @@ blocks depth = record {
 
 -- what is left from the quote in `quote` on, once its backslash is written, up to a place of the table; and two dots
 abbrev quoteOn : ℕ → QuoteRest
-quoteOn end = record { stage = 3; left = 0; start = 21; end = end; right = 2; pad = 46 }
+quoteOn end = record { stage = 3; before = 0; start = 21; end = end; behind = 2; pad = 46 }
 
 -- a format, a table, a state, the size of a window, and what a call shows
 record Sight : Type 0 where

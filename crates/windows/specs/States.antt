@@ -25,7 +25,7 @@ hereOf s = hereAt (s .place) (s .left) (record { first = record { 0 = s .first }
 -- the part of a string that is left lies in the table, and its padding is none that would never end
 abbrev pub restLies : List ℕ → QuoteRest → Bool
 restLies table q =
-    both (leb (q .start) (q .end)) (both (leb (q .end) (length table)) (both (leb (q .left) 65536) (leb (q .right) 65536)))
+    both (leb (q .start) (q .end)) (both (leb (q .end) (length table)) (both (leb (q .before) 65536) (leb (q .behind) 65536)))
 
 -- all numbers are in range: the levels, the steps, the places of the text, the lists, and what is left of a string
 abbrev pub isSound : List ℕ → List ℕ → State → Bool

@@ -1,6 +1,5 @@
 // A call: the table is checked, and with it a text that is begun or the numbers of a state; then the run goes on until
 // it is over or the next byte has no room.
-use crate::state::MOST_STEPS;
 use crate::state::Resumed;
 use crate::state::State;
 use crate::state::here_of;
@@ -8,20 +7,21 @@ use crate::state::is_sound;
 use blocks::landmarks::CELLS;
 use blocks::landmarks::EMPTY;
 use blocks::landmarks::is_worth_landmarks;
-use checking::text::check_text;
 use filling::giving::Reach;
 use filling::steps::Step;
 use filling::steps::fill_window;
 use nesting::moves::Here;
 use nesting::nests::Nest;
+use parameters::Hand;
 use pieces::resuming::QuoteRest;
 use pieces::resuming::write_rest;
 use rules::ArgumentPosition;
 use rules::EntryIndex;
 use rules::Verdict;
+use rules::limits::MOST_STEPS;
+use syntax::text::check_text;
 use table::argument_count;
 use table::check_table;
-use working::Hand;
 ghost use mathlib.Core.Path.{_≡_};
 ghost use mathlib.Core.Bool.{true};
 ghost use Prim.Native.Nat.{_≤_};
@@ -99,10 +99,10 @@ fn ended(code: u32, position: usize, steps: usize, written: usize) -> Resumed
             nest: no_blocks(),
             rest: QuoteRest {
                 stage: 0,
-                left: 0,
+                before: 0,
                 start: 0,
                 end: 0,
-                right: 0,
+                behind: 0,
                 pad: 0,
             },
         },

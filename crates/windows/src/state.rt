@@ -3,28 +3,23 @@ use nesting::moves::Here;
 use nesting::nests::Block;
 use nesting::nests::Nest;
 use nesting::nests::block_at;
+use parameters::Hand;
 use pieces::resuming::QuoteRest;
 use rules::ArgumentPosition;
 use rules::EntryIndex;
+use rules::limits::DEEPEST;
+use rules::limits::LONGEST_FORMAT;
+use rules::limits::MOST_STEPS;
 use table::entry_count;
-use working::Hand;
 ghost use mathlib.Core.Path.{_≡_};
 ghost use Prim.Native.Nat.{_≤_};
 ghost use lib.ListN.{length};
 ghost use Rattle.nesting.specs.Nest.{handLies, blockLies, allLie};
 ghost use Rattle.windows.specs.States.{hereOf, restLies, isSound};
 
-// How long a text is at most.
-const LONGEST: usize = 4096;
-
-// How deep blocks nest at most.
-const DEEPEST: usize = 8;
-
 // How many steps the calls of a line do at most, all together.
 // No piece has more padding on one side.
 const MOST_PADDING: usize = 65536;
-
-pub const MOST_STEPS: usize = 65536;
 
 // All numbers 0 is a fresh state. What the numbers of any state mean is `remains` in specs/States.
 #[repr(C)]
@@ -131,10 +126,10 @@ fn rest_lies(table: &[u8], rest: QuoteRest) -> bool
     if table.len() < rest.end {
         return false;
     }
-    if MOST_PADDING < rest.left {
+    if MOST_PADDING < rest.before {
         return false;
     }
-    rest.right <= MOST_PADDING
+    rest.behind <= MOST_PADDING
 }
 
 // Whether all numbers of a state that is begun are in range.
@@ -147,7 +142,7 @@ pub fn is_sound(format: &[u8], table: &[u8], s: State) -> bool
     let next = here.next;
     let nest = s.nest;
     let rest = s.rest;
-    if LONGEST < format.len() {
+    if LONGEST_FORMAT < format.len() {
         return false;
     }
     if DEEPEST < nest.depth {

@@ -3,7 +3,7 @@
 use borrow.Author.Needs.{needs}
 use Rattle.blocks.proofs.ClauseLaws.{clausesIn, seek-less, seek-here, seek-last, seek-on}
 use Rattle.blocks.specs.Clauses.{Seeking}
-use Rattle.checking.specs.Ends.{EndsClause}
+use Rattle.syntax.specs.Ends.{EndsClause}
 use Rattle.rules.specs.Text.{Sequence, innermost, levelsAt}
 use Prim.Native.Nat.{ℕ, _≤_}
 use lib.ListN.{length}

@@ -1,7 +1,7 @@
 -- `mark_block` meets its contract, clause by clause. The measure is what is left of the text. Assumes nothing.
 use borrow.Author.Needs.{needs}
 use Rattle.blocks.proofs.LandmarkLaws.{Marking, marking-first, another-fits, another-small, marking-next, last-small, marking-last}
-use Rattle.checking.specs.Ends.{EndsClause}
+use Rattle.syntax.specs.Ends.{EndsClause}
 use Prim.Native.Nat.{_-_}
 use lib.ListN.{length}
 use mathlib.Core.Path.{subst, ap, _∙_}

@@ -5,7 +5,7 @@ use native.Mathlib.Omega.{arith}
 use Prim.Native.Nat.{_-_, _≤_}
 use lib.ListN.{length}
 use Rattle.blocks.specs.Landmarks.{Marks}
-use Rattle.checking.proofs.EndLaws.{shaped}
+use Rattle.syntax.proofs.EndLaws.{shaped}
 use Rattle.blocks.proofs.landmarks.mark_text.Statement.{statement}
 use Rattle.blocks.proofs.landmarks.mark_text.Tie as tie
 

@@ -1,7 +1,7 @@
 -- `want_numbered` meets its contract: by the number that is given, or by the argument. Assumes nothing.
 use Rattle.rules.specs.Table.{viewOf}
 use mathlib.Core.Path.{ap}
-use Rattle.working.specs.Settling.{handAt}
+use Rattle.parameters.specs.Settling.{handAt}
 use Rattle.rules.specs.declared.Setting.{Setting}
 use borrow.Author.Needs.{needs}
 use mathlib.Core.Bool.{true}

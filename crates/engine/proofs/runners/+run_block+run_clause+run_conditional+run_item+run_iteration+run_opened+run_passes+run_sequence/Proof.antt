@@ -10,17 +10,17 @@ use lib.ListN.{length}
 use Rattle.rules.specs.Table.{viewOf}
 use Rattle.rules.specs.Text.{end, innermost, outer, levelsAt}
 use Rattle.rules.specs.Run.{run, conditional}
-use Rattle.working.specs.Settling.{handAt}
-use Rattle.working.proofs.WorkLaws.{hand-small}
-use Rattle.working.proofs.SettleLaws.{all-supplied}
-use Rattle.working.proofs.Answers.{next-reaches, run-settled, run-refused}
+use Rattle.parameters.specs.Settling.{handAt}
+use Rattle.parameters.proofs.WorkLaws.{hand-small}
+use Rattle.parameters.proofs.SettleLaws.{all-supplied}
+use Rattle.parameters.proofs.Answers.{next-reaches, run-settled, run-refused}
 use Rattle.blocks.specs.Clauses.{onChosen, ChosenIn, InsideAt}
 use Rattle.blocks.specs.declared.clauses.Chosen.{Chosen}
 use Rattle.blocks.specs.Parts.{endsAt, iterates, onOver, outsideOf, OverIn}
 use Rattle.blocks.specs.declared.passes.Over.{Over}
-use Rattle.acting.specs.Ran.{begun}
+use Rattle.actions.specs.Ran.{begun}
 use Rattle.running.specs.Runs.{Runs, Blocks, Passes, restAt, picking, entering, inside, opening}
-use Rattle.acting.proofs.ActLaws.{settings-ill}
+use Rattle.actions.proofs.ActLaws.{settings-ill}
 use Rattle.stepping.proofs.ItemLaws.{is-ended}
 use Rattle.running.proofs.Places.{literal-at, literal-ahead, alone-at, directive-ahead}
 use Rattle.running.proofs.Strides.{Onto, strides-runs-on, runs-on}
@@ -58,8 +58,8 @@ use Rattle.engine.proofs.runners.+run_block+run_clause+run_conditional+
 use Rattle.engine.proofs.runners.run_sequence.Reads as run-sequence
 use Rattle.engine.proofs.runners.run_sequence.Kinds as run-sequence-kinds
 use Rattle.engine.proofs.runners.+run_block+run_clause+run_conditional+run_item+run_iteration+run_opened+run_passes+run_sequence.Lts-run_sequence as run-sequence-lts
-use Rattle.acting.proofs.state.begin.Reads as begin-reads
-use Rattle.acting.proofs.state.refuse.Reads as refuse-reads
+use Rattle.actions.proofs.state.begin.Reads as begin-reads
+use Rattle.actions.proofs.state.refuse.Reads as refuse-reads
 use Rattle.blocks.proofs.clauses.block_end.Reads as block-end-reads
 use Rattle.blocks.proofs.clauses.choose_clause.Reads as choose-clause-reads
 use Rattle.blocks.proofs.ends.ends_here.Reads as ends-here-reads
@@ -74,11 +74,11 @@ use Rattle.engine.proofs.runners.has_ended.Reads as has-ended-reads
 use Rattle.engine.proofs.runners.item_after.Reads as item-after-reads
 use Rattle.engine.proofs.runners.leave_passes.Reads as leave-passes-reads
 use Rattle.engine.proofs.runners.spot_at.Reads as spot-at-reads
-use Rattle.fitting.proofs.places.is_well_written.Reads as is-well-written-reads
+use Rattle.directives.proofs.places.is_well_written.Reads as is-well-written-reads
 use Rattle.stepping.proofs.items.act.Reads as act-reads
 use Rattle.stepping.proofs.items.put_literal.Reads as put-literal-reads
 use Rattle.stepping.proofs.short.run_short.Reads as run-short-reads
-use Rattle.working.proofs.settling.settle_directive.Reads as settle-directive-reads
+use Rattle.parameters.proofs.settling.settle_directive.Reads as settle-directive-reads
 use Rattle.engine.proofs.runners.+run_block+run_clause+run_conditional+run_item+run_iteration+run_opened+run_passes+run_sequence.{
   statement,
 }
@@ -262,13 +262,13 @@ run-conditional-choose-clause-requires t c κs = ((c .before .before .before .be
 run-conditional-run-clause-requires : (t : ℕ) → run-conditional-lts.Need-run-clause-requires (run-conditional-claims t) (run-conditional-at t) run-conditional.Post
 run-conditional-run-clause-requires t c κs =
     let a = c .before .before .before .before .before .before .before .before .before .args in
-    let w = subst (ChosenIn (a .text .now) (a .d .next) (a .hand .count)) (c .before .before .chosen .given .1) (c .before .before .before .before .choose-clause .ensures .inside) in
+    let w = subst (ChosenIn (a .text .now) (a .d .after) (a .hand .count)) (c .before .before .chosen .given .1) (c .before .before .before .before .choose-clause .ensures .inside) in
     (omega (arith, c .before .before .before .before .before .before .before .before .before .pre .0), (c .before .before .before .before .before .before .before .before .before .pre .1 .0, (record { held = c .before .before .before .before .before .before .before .before .before .pre .1 .1 .0; reaches = w .1; written = c .before .before .before .before .before .before .before .before .before .pre .1 .1 .1 .1 .1 }, w .0)))
 
 run-conditional-end-block-requires : (t : ℕ) → run-conditional-lts.Need-end-block-requires (run-conditional-claims t) (run-conditional-at t) run-conditional.Post
 run-conditional-end-block-requires t c κs =
     let a = c .before .before .before .before .before .before .before .before .args in
-    let w = subst (ChosenIn (a .text .now) (a .d .next) (a .hand .count)) (c .before .chosen2 .given .1) (c .before .before .before .choose-clause .ensures .inside) in
+    let w = subst (ChosenIn (a .text .now) (a .d .after) (a .hand .count)) (c .before .chosen2 .given .1) (c .before .before .before .choose-clause .ensures .inside) in
     (c .before .before .before .before .before .before .before .before .pre .1 .0, w .0)
 
 run-conditional-same-length : (t : ℕ) → run-conditional-lts.Need-same-length (run-conditional-claims t) (run-conditional-at t) run-conditional.Post
@@ -278,25 +278,25 @@ run-conditional-same-length t c =
 run-conditional-returns : (t : ℕ) → run-conditional-lts.Need-returns (run-conditional-claims t) (run-conditional-at t) run-conditional.Post
 run-conditional-returns t c =
     let a = c .before .before .before .before .before .before .before .before .before .before .before .before .args in
-    let w = subst (ChosenIn (a .text .now) (a .d .next) (a .hand .count)) (c .before .before .before .before .before .chosen .given .1) (c .before .before .before .before .before .before .before .choose-clause .ensures .inside) in
-    λ j. (c .before .before .run-clause .ensures .is) (picking (levelsAt (a .text .now)) (viewOf (a .table .now)) (handAt (a .hand)) (a .spot .position) (a .d) (a .d .next) j (a .spot .left) (a .settings) (a .i .0))
-    (λ ks. (c .before .before .before .before .before .before .before .choose-clause .ensures .is) (a .spot .position) (a .spot .left) j _ ∙ ap (λ (x : Chosen). onChosen (levelsAt (a .text .now)) (a .spot .position) (a .spot .left) x (λ y after. run (viewOf (a .table .now)) (a .spot .left) y (conditional (innermost (outer (levelsAt (a .text .now) (a .d .next))) .rest) ∷ ks) (handAt (a .hand) after))) (c .before .before .before .before .before .chosen .given .1))
+    let w = subst (ChosenIn (a .text .now) (a .d .after) (a .hand .count)) (c .before .before .before .before .before .chosen .given .1) (c .before .before .before .before .before .before .before .choose-clause .ensures .inside) in
+    λ j. (c .before .before .run-clause .ensures .is) (picking (levelsAt (a .text .now)) (viewOf (a .table .now)) (handAt (a .hand)) (a .spot .position) (a .d) (a .d .after) j (a .spot .left) (a .settings) (a .i .0))
+    (λ ks. (c .before .before .before .before .before .before .before .choose-clause .ensures .is) (a .spot .position) (a .spot .left) j _ ∙ ap (λ (x : Chosen). onChosen (levelsAt (a .text .now)) (a .spot .position) (a .spot .left) x (λ y after. run (viewOf (a .table .now)) (a .spot .left) y (conditional (innermost (outer (levelsAt (a .text .now) (a .d .after))) .rest) ∷ ks) (handAt (a .hand) after))) (c .before .before .before .before .before .chosen .given .1))
 
 run-conditional-returns-2 : (t : ℕ) → run-conditional-lts.Need-returns-2 (run-conditional-claims t) (run-conditional-at t) run-conditional.Post
 run-conditional-returns-2 t c =
     let a = c .before .before .before .before .before .before .before .before .before .args in
-    let w = subst (ChosenIn (a .text .now) (a .d .next) (a .hand .count)) (c .before .before .chosen2 .given .1) (c .before .before .before .before .choose-clause .ensures .inside) in
+    let w = subst (ChosenIn (a .text .now) (a .d .after) (a .hand .count)) (c .before .before .chosen2 .given .1) (c .before .before .before .before .choose-clause .ensures .inside) in
     let u = c .end-block .ensures in
-    λ j. subst (Blocks (levelsAt (a .text .now)) (length (a .text .now)) (viewOf (a .table .now)) (handAt (a .hand)) (a .level) (a .d .next) (picking (levelsAt (a .text .now)) (viewOf (a .table .now)) (handAt (a .hand)) (a .spot .position) (a .d) (a .d .next) j (a .spot .left) (a .settings) (a .i .0)) (a .spot .left) (a .spot .at) (a .out .now) (a .out .now)) (sym (u .is))
-    (blocks-nothing (levelsAt (a .text .now)) (length (a .text .now)) (viewOf (a .table .now)) (a .hand .first .0) (a .hand .count) (a .level) (a .d .next) (picking (levelsAt (a .text .now)) (viewOf (a .table .now)) (handAt (a .hand)) (a .spot .position) (a .d) (a .d .next) j (a .spot .left) (a .settings) (a .i .0)) (a .spot .left) (a .spot .at) (a .out .now) _ _
-    (λ ks. (c .before .before .before .before .choose-clause .ensures .is) (a .spot .position) (a .spot .left) j _ ∙ ap (λ (x : Chosen). onChosen (levelsAt (a .text .now)) (a .spot .position) (a .spot .left) x (λ y after. run (viewOf (a .table .now)) (a .spot .left) y (conditional (innermost (outer (levelsAt (a .text .now) (a .d .next))) .rest) ∷ ks) (handAt (a .hand) after))) (c .before .before .chosen2 .given .1))
+    λ j. subst (Blocks (levelsAt (a .text .now)) (length (a .text .now)) (viewOf (a .table .now)) (handAt (a .hand)) (a .level) (a .d .after) (picking (levelsAt (a .text .now)) (viewOf (a .table .now)) (handAt (a .hand)) (a .spot .position) (a .d) (a .d .after) j (a .spot .left) (a .settings) (a .i .0)) (a .spot .left) (a .spot .at) (a .out .now) (a .out .now)) (sym (u .is))
+    (blocks-nothing (levelsAt (a .text .now)) (length (a .text .now)) (viewOf (a .table .now)) (a .hand .first .0) (a .hand .count) (a .level) (a .d .after) (picking (levelsAt (a .text .now)) (viewOf (a .table .now)) (handAt (a .hand)) (a .spot .position) (a .d) (a .d .after) j (a .spot .left) (a .settings) (a .i .0)) (a .spot .left) (a .spot .at) (a .out .now) _ _
+    (λ ks. (c .before .before .before .before .choose-clause .ensures .is) (a .spot .position) (a .spot .left) j _ ∙ ap (λ (x : Chosen). onChosen (levelsAt (a .text .now)) (a .spot .position) (a .spot .left) x (λ y after. run (viewOf (a .table .now)) (a .spot .left) y (conditional (innermost (outer (levelsAt (a .text .now) (a .d .after))) .rest) ∷ ks) (handAt (a .hand) after))) (c .before .before .chosen2 .given .1))
     (u .after) (c .before .before .before .before .before .before .before .before .before .pre .1 .1 .1 .1 .1) (w .1))
 
 run-conditional-returns-3 : (t : ℕ) → run-conditional-lts.Need-returns-3 (run-conditional-claims t) (run-conditional-at t) run-conditional.Post
 run-conditional-returns-3 t c =
     let a = c .before .before .before .before .before .before .before .before .before .args in
-    λ j. blocks-told (levelsAt (a .text .now)) (length (a .text .now)) (viewOf (a .table .now)) (a .hand .first .0) (a .hand .count) (a .level) (a .d .next) (picking (levelsAt (a .text .now)) (viewOf (a .table .now)) (handAt (a .hand)) (a .spot .position) (a .d) (a .d .next) j (a .spot .left) (a .settings) (a .i .0)) (a .spot .left) (a .spot .at) (a .out .now) _ _ (a .spot .position) (a .i .0) _ (c .refuse .ensures)
-    (λ ks. (c .before .before .before .before .choose-clause .ensures .is) (a .spot .position) (a .spot .left) j _ ∙ ap (λ (x : Chosen). onChosen (levelsAt (a .text .now)) (a .spot .position) (a .spot .left) x (λ y after. run (viewOf (a .table .now)) (a .spot .left) y (conditional (innermost (outer (levelsAt (a .text .now) (a .d .next))) .rest) ∷ ks) (handAt (a .hand) after))) (c .before .before .chosen3 .given .1)) (c .before .before .before .before .before .before .before .before .before .pre .1 .1 .1 .1 .1) (c .before .before .before .before .before .before .before .before .before .pre .1 .1 .1 .0)
+    λ j. blocks-told (levelsAt (a .text .now)) (length (a .text .now)) (viewOf (a .table .now)) (a .hand .first .0) (a .hand .count) (a .level) (a .d .after) (picking (levelsAt (a .text .now)) (viewOf (a .table .now)) (handAt (a .hand)) (a .spot .position) (a .d) (a .d .after) j (a .spot .left) (a .settings) (a .i .0)) (a .spot .left) (a .spot .at) (a .out .now) _ _ (a .spot .position) (a .i .0) _ (c .refuse .ensures)
+    (λ ks. (c .before .before .before .before .choose-clause .ensures .is) (a .spot .position) (a .spot .left) j _ ∙ ap (λ (x : Chosen). onChosen (levelsAt (a .text .now)) (a .spot .position) (a .spot .left) x (λ y after. run (viewOf (a .table .now)) (a .spot .left) y (conditional (innermost (outer (levelsAt (a .text .now) (a .d .after))) .rest) ∷ ks) (handAt (a .hand) after))) (c .before .before .chosen3 .given .1)) (c .before .before .before .before .before .before .before .before .before .pre .1 .1 .1 .1 .1) (c .before .before .before .before .before .before .before .before .before .pre .1 .1 .1 .0)
 
 -- what the callees of run_item ask and ensure, below the measure t
 abbrev run-item-claims : ℕ → run-item-lts.Claims
@@ -358,8 +358,8 @@ run-iteration-claims t = (go-over-reads.Asked, go-over-reads.Learnt, refuse-read
 run-iteration-run-passes-requires : (t : ℕ) → run-iteration-lts.Need-run-passes-requires (run-iteration-claims t) (run-iteration-at t) run-iteration.Post
 run-iteration-run-passes-requires t c κs =
     let a = c .before .before .before .before .before .before .before .before .before .args in
-    let w = subst (OverIn (a .table .now) (a .hand) (a .d .at) (a .i .0)) (c .before .before .over2 .given .1) (c .before .before .before .before .go-over .ensures .inside) in
-    let o = over-hand (a .table .now) (a .hand) _ (a .d .at) (a .i .0) _ w (c .before .before .before .before .before .before .before .before .before .pre .1 .1 .0) (c .before .before .before .before .before .before .before .before .before .pre .1 .1 .1 .0) in
+    let w = subst (OverIn (a .table .now) (a .hand) (a .d .atsign) (a .i .0)) (c .before .before .over2 .given .1) (c .before .before .before .before .go-over .ensures .inside) in
+    let o = over-hand (a .table .now) (a .hand) _ (a .d .atsign) (a .i .0) _ w (c .before .before .before .before .before .before .before .before .before .pre .1 .1 .0) (c .before .before .before .before .before .before .before .before .before .pre .1 .1 .1 .0) in
     (omega (arith, c .before .before .before .before .before .before .before .before .before .pre .0), (c .before .before .before .before .before .before .before .before .before .pre .1 .0, (record { held = o .0; reaches = o .1; written = c .before .before .before .before .before .before .before .before .before .pre .1 .1 .1 .1 .1 }, c .before .before .before .before .before .before .before .before .before .pre .1 .1 .1 .1 .0)))
 
 run-iteration-next-after-requires : (t : ℕ) → run-iteration-lts.Need-next-after-requires (run-iteration-claims t) (run-iteration-at t) run-iteration.Post
@@ -368,8 +368,8 @@ run-iteration-next-after-requires t c κs = omega (arith, c .before .before .bef
 run-iteration-returns : (t : ℕ) → run-iteration-lts.Need-returns (run-iteration-claims t) (run-iteration-at t) run-iteration.Post
 run-iteration-returns t c =
     let a = c .before .before .before .before .before .before .before .before .before .args in
-    λ j. blocks-told (levelsAt (a .text .now)) (length (a .text .now)) (viewOf (a .table .now)) (a .hand .first .0) (a .hand .count) (a .level) (a .d .next) (entering (levelsAt (a .text .now)) (viewOf (a .table .now)) (handAt (a .hand)) (a .spot .position) (a .d) (a .d .next) j (a .spot .left) (a .settings) (a .i .0)) (a .spot .left) (a .spot .at) (a .out .now) _ _ (a .spot .position) (a .i .0) _ (c .refuse .ensures)
-    (λ ks. (c .before .before .before .before .go-over .ensures .is) (a .spot .position) (a .spot .left) j (a .d) refl (a .settings) _ _ _ ∙ ap (λ (x : Over). onOver (a .spot .position) (a .spot .left) (a .settings .first) (restAt (levelsAt (a .text .now)) (a .d .next)) (innermost (outer (levelsAt (a .text .now) (a .d .next))) .rest) (outsideOf (a .d .at) (a .hand) (a .i .0)) x (λ k c₂. run (viewOf (a .table .now)) (a .spot .left) end (k ∷ ks) c₂)) (c .before .before .over .given .1)) (c .before .before .before .before .before .before .before .before .before .pre .1 .1 .1 .1 .1) (c .before .before .before .before .before .before .before .before .before .pre .1 .1 .1 .0)
+    λ j. blocks-told (levelsAt (a .text .now)) (length (a .text .now)) (viewOf (a .table .now)) (a .hand .first .0) (a .hand .count) (a .level) (a .d .after) (entering (levelsAt (a .text .now)) (viewOf (a .table .now)) (handAt (a .hand)) (a .spot .position) (a .d) (a .d .after) j (a .spot .left) (a .settings) (a .i .0)) (a .spot .left) (a .spot .at) (a .out .now) _ _ (a .spot .position) (a .i .0) _ (c .refuse .ensures)
+    (λ ks. (c .before .before .before .before .go-over .ensures .is) (a .spot .position) (a .spot .left) j (a .d) refl (a .settings) _ _ _ ∙ ap (λ (x : Over). onOver (a .spot .position) (a .spot .left) (a .settings .first) (restAt (levelsAt (a .text .now)) (a .d .after)) (innermost (outer (levelsAt (a .text .now) (a .d .after))) .rest) (outsideOf (a .d .atsign) (a .hand) (a .i .0)) x (λ k c₂. run (viewOf (a .table .now)) (a .spot .left) end (k ∷ ks) c₂)) (c .before .before .over .given .1)) (c .before .before .before .before .before .before .before .before .before .pre .1 .1 .1 .1 .1) (c .before .before .before .before .before .before .before .before .before .pre .1 .1 .1 .0)
 
 run-iteration-same-length : (t : ℕ) → run-iteration-lts.Need-same-length (run-iteration-claims t) (run-iteration-at t) run-iteration.Post
 run-iteration-same-length t c = c .before .before .before .before .run-passes .ensures .does .size
@@ -377,9 +377,9 @@ run-iteration-same-length t c = c .before .before .before .before .run-passes .e
 run-iteration-returns-2 : (t : ℕ) → run-iteration-lts.Need-returns-2 (run-iteration-claims t) (run-iteration-at t) run-iteration.Post
 run-iteration-returns-2 t c =
     let a = c .before .before .before .before .before .before .before .before .before .before .before .before .before .before .args in
-    let w = subst (OverIn (a .table .now) (a .hand) (a .d .at) (a .i .0)) (c .before .before .before .before .before .before .before .over2 .given .1) (c .before .before .before .before .before .before .before .before .before .go-over .ensures .inside) in
-    λ j. over-blocks (levelsAt (a .text .now)) (length (a .text .now)) (viewOf (a .table .now)) (a .table .now) (a .level) (a .spot .position) (a .d .next) (entering (levelsAt (a .text .now)) (viewOf (a .table .now)) (handAt (a .hand)) (a .spot .position) (a .d) (a .d .next) j (a .spot .left) (a .settings) (a .i .0)) (a .spot .left) (a .spot .at) (a .out .now) (a .hand) _ (a .d .at) (a .i .0) _ (a .settings .first) (c .next-after .result) w (c .next-after .ensures)
-    (λ ks. (c .before .before .before .before .before .before .before .before .before .go-over .ensures .is) (a .spot .position) (a .spot .left) j (a .d) refl (a .settings) _ _ _ ∙ ap (λ (x : Over). onOver (a .spot .position) (a .spot .left) (a .settings .first) (restAt (levelsAt (a .text .now)) (a .d .next)) (innermost (outer (levelsAt (a .text .now) (a .d .next))) .rest) (outsideOf (a .d .at) (a .hand) (a .i .0)) x (λ k c₂. run (viewOf (a .table .now)) (a .spot .left) end (k ∷ ks) c₂)) (c .before .before .before .before .before .before .before .over2 .given .1)) (c .before .before .before .before .run-passes .ensures)
+    let w = subst (OverIn (a .table .now) (a .hand) (a .d .atsign) (a .i .0)) (c .before .before .before .before .before .before .before .over2 .given .1) (c .before .before .before .before .before .before .before .before .before .go-over .ensures .inside) in
+    λ j. over-blocks (levelsAt (a .text .now)) (length (a .text .now)) (viewOf (a .table .now)) (a .table .now) (a .level) (a .spot .position) (a .d .after) (entering (levelsAt (a .text .now)) (viewOf (a .table .now)) (handAt (a .hand)) (a .spot .position) (a .d) (a .d .after) j (a .spot .left) (a .settings) (a .i .0)) (a .spot .left) (a .spot .at) (a .out .now) (a .hand) _ (a .d .atsign) (a .i .0) _ (a .settings .first) (c .next-after .result) w (c .next-after .ensures)
+    (λ ks. (c .before .before .before .before .before .before .before .before .before .go-over .ensures .is) (a .spot .position) (a .spot .left) j (a .d) refl (a .settings) _ _ _ ∙ ap (λ (x : Over). onOver (a .spot .position) (a .spot .left) (a .settings .first) (restAt (levelsAt (a .text .now)) (a .d .after)) (innermost (outer (levelsAt (a .text .now) (a .d .after))) .rest) (outsideOf (a .d .atsign) (a .hand) (a .i .0)) x (λ k c₂. run (viewOf (a .table .now)) (a .spot .left) end (k ∷ ks) c₂)) (c .before .before .before .before .before .before .before .over2 .given .1)) (c .before .before .before .before .run-passes .ensures)
 
 -- what the callees of run_opened ask and ensure, below the measure t
 abbrev run-opened-claims : ℕ → run-opened-lts.Claims
@@ -388,7 +388,7 @@ run-opened-claims t = (is-well-written-reads.Asked, is-well-written-reads.Learnt
 run-opened-returns : (t : ℕ) → run-opened-lts.Need-returns (run-opened-claims t) (run-opened-at t) run-opened.Post
 run-opened-returns t c =
     let a = c .before .before .before .before .before .before .before .args in
-    blocks-told (levelsAt (a .text .now)) (length (a .text .now)) (viewOf (a .table .now)) (a .hand .first .0) (a .hand .count) (a .level) (a .d .next) (opening (iterates (a .d .code)) (levelsAt (a .text .now)) (viewOf (a .table .now)) (handAt (a .hand)) (a .spot .position) (a .d) (a .d .next) (a .next .0) (a .spot .left)) (a .spot .left) (a .spot .at) (a .out .now) _ 5 (a .spot .position) (a .next .0) _ (c .refuse .ensures) (λ ks. settings-ill (viewOf (a .table .now)) (a .spot .position) (a .spot .left) (a .d) (handAt (a .hand) (a .next .0)) _ (sym (c .before .before .is-well-written .ensures) ∙ not-true _ (c .before .if1 .taken))) (c .before .before .before .before .before .before .before .pre .1 .1 .1 .1 .1) (c .before .before .before .before .before .before .before .pre .1 .1 .1 .0)
+    blocks-told (levelsAt (a .text .now)) (length (a .text .now)) (viewOf (a .table .now)) (a .hand .first .0) (a .hand .count) (a .level) (a .d .after) (opening (iterates (a .d .code)) (levelsAt (a .text .now)) (viewOf (a .table .now)) (handAt (a .hand)) (a .spot .position) (a .d) (a .d .after) (a .next .0) (a .spot .left)) (a .spot .left) (a .spot .at) (a .out .now) _ 5 (a .spot .position) (a .next .0) _ (c .refuse .ensures) (λ ks. settings-ill (viewOf (a .table .now)) (a .spot .position) (a .spot .left) (a .d) (handAt (a .hand) (a .next .0)) _ (sym (c .before .before .is-well-written .ensures) ∙ not-true _ (c .before .if1 .taken))) (c .before .before .before .before .before .before .before .pre .1 .1 .1 .1 .1) (c .before .before .before .before .before .before .before .pre .1 .1 .1 .0)
 
 run-opened-settle-directive-requires : (t : ℕ) → run-opened-lts.Need-settle-directive-requires (run-opened-claims t) (run-opened-at t) run-opened.Post
 run-opened-settle-directive-requires t c κs =
@@ -404,7 +404,7 @@ run-opened-same-length t c = ((c .before .before .run-iteration .ensures) 0) .do
 run-opened-returns-2 : (t : ℕ) → run-opened-lts.Need-returns-2 (run-opened-claims t) (run-opened-at t) run-opened.Post
 run-opened-returns-2 t c =
     let a = c .before .before .before .before .before .before .before .before .before .before .before .before .before .before .before .before .args in
-    blocks-as (opening (iterates (a .d .code)) (levelsAt (a .text .now)) (viewOf (a .table .now)) (handAt (a .hand)) (a .spot .position) (a .d) (a .d .next) (a .next .0) (a .spot .left)) _ (λ ks. run-settled (c .before .before .before .before .before .before .before .before .before .settle-directive .ensures) (sym (c .before .before .before .before .before .before .before .before .before .before .before .is-well-written .ensures) ∙ not-false _ (c .before .before .before .before .before .before .before .before .before .before .if1 .left)) (a .spot .position) (a .spot .left) _ (c .before .before .before .before .before .before .before .settled2 .given .1) ∙ ap (λ (y : Bool). inside y (levelsAt (a .text .now)) (viewOf (a .table .now)) (handAt (a .hand)) (a .spot .position) (a .d) (a .d .next) (a .next .0) (a .spot .left) (c .before .before .before .before .before .before .before .settled2 .given .0 .0) (c .before .before .before .before .before .before .before .settled2 .given .0 .1 .0 .0) ks) (sym (c .before .before .before .before .before .is-iteration .ensures) ∙ c .before .before .before .before .if2 .taken)) ((c .before .before .run-iteration .ensures) (a .next .0))
+    blocks-as (opening (iterates (a .d .code)) (levelsAt (a .text .now)) (viewOf (a .table .now)) (handAt (a .hand)) (a .spot .position) (a .d) (a .d .after) (a .next .0) (a .spot .left)) _ (λ ks. run-settled (c .before .before .before .before .before .before .before .before .before .settle-directive .ensures) (sym (c .before .before .before .before .before .before .before .before .before .before .before .is-well-written .ensures) ∙ not-false _ (c .before .before .before .before .before .before .before .before .before .before .if1 .left)) (a .spot .position) (a .spot .left) _ (c .before .before .before .before .before .before .before .settled2 .given .1) ∙ ap (λ (y : Bool). inside y (levelsAt (a .text .now)) (viewOf (a .table .now)) (handAt (a .hand)) (a .spot .position) (a .d) (a .d .after) (a .next .0) (a .spot .left) (c .before .before .before .before .before .before .before .settled2 .given .0 .0) (c .before .before .before .before .before .before .before .settled2 .given .0 .1 .0 .0) ks) (sym (c .before .before .before .before .before .is-iteration .ensures) ∙ c .before .before .before .before .if2 .taken)) ((c .before .before .run-iteration .ensures) (a .next .0))
 
 run-opened-run-conditional-requires : (t : ℕ) → run-opened-lts.Need-run-conditional-requires (run-opened-claims t) (run-opened-at t) run-opened.Post
 run-opened-run-conditional-requires t c κs = (omega (arith, c .before .before .before .before .before .before .before .before .before .before .before .before .before .pre .0), (c .before .before .before .before .before .before .before .before .before .before .before .before .before .pre .1 .0, (c .before .before .before .before .before .before .before .before .before .before .before .before .before .pre .1 .1 .0, (next-reaches (c .before .before .before .before .before .before .settle-directive .ensures) (c .before .before .before .before .settled2 .given .1), (c .before .before .before .before .before .before .before .before .before .before .before .before .before .pre .1 .1 .1 .1 .0, c .before .before .before .before .before .before .before .before .before .before .before .before .before .pre .1 .1 .1 .1 .1)))))
@@ -412,7 +412,7 @@ run-opened-run-conditional-requires t c κs = (omega (arith, c .before .before .
 run-opened-returns-3 : (t : ℕ) → run-opened-lts.Need-returns-3 (run-opened-claims t) (run-opened-at t) run-opened.Post
 run-opened-returns-3 t c =
     let a = c .before .before .before .before .before .before .before .before .before .before .before .args in
-    blocks-told (levelsAt (a .text .now)) (length (a .text .now)) (viewOf (a .table .now)) (a .hand .first .0) (a .hand .count) (a .level) (a .d .next) (opening (iterates (a .d .code)) (levelsAt (a .text .now)) (viewOf (a .table .now)) (handAt (a .hand)) (a .spot .position) (a .d) (a .d .next) (a .next .0) (a .spot .left)) (a .spot .left) (a .spot .at) (a .out .now) _ _ (a .spot .position) (a .next .0) _ (c .refuse2 .ensures) (λ ks. run-refused (c .before .before .before .before .settle-directive .ensures) (sym (c .before .before .before .before .before .before .is-well-written .ensures) ∙ not-false _ (c .before .before .before .before .before .if1 .left)) (a .spot .position) (a .spot .left) _ (c .before .before .settled .given .1)) (c .before .before .before .before .before .before .before .before .before .before .before .pre .1 .1 .1 .1 .1) (c .before .before .before .before .before .before .before .before .before .before .before .pre .1 .1 .1 .0)
+    blocks-told (levelsAt (a .text .now)) (length (a .text .now)) (viewOf (a .table .now)) (a .hand .first .0) (a .hand .count) (a .level) (a .d .after) (opening (iterates (a .d .code)) (levelsAt (a .text .now)) (viewOf (a .table .now)) (handAt (a .hand)) (a .spot .position) (a .d) (a .d .after) (a .next .0) (a .spot .left)) (a .spot .left) (a .spot .at) (a .out .now) _ _ (a .spot .position) (a .next .0) _ (c .refuse2 .ensures) (λ ks. run-refused (c .before .before .before .before .settle-directive .ensures) (sym (c .before .before .before .before .before .before .is-well-written .ensures) ∙ not-false _ (c .before .before .before .before .before .if1 .left)) (a .spot .position) (a .spot .left) _ (c .before .before .settled .given .1)) (c .before .before .before .before .before .before .before .before .before .before .before .pre .1 .1 .1 .1 .1) (c .before .before .before .before .before .before .before .before .before .before .before .pre .1 .1 .1 .0)
 
 run-opened-same-length-2 : (t : ℕ) → run-opened-lts.Need-same-length-2 (run-opened-claims t) (run-opened-at t) run-opened.Post
 run-opened-same-length-2 t c = ((c .before .before .run-conditional .ensures) 0) .does .size
@@ -420,7 +420,7 @@ run-opened-same-length-2 t c = ((c .before .before .run-conditional .ensures) 0)
 run-opened-returns-4 : (t : ℕ) → run-opened-lts.Need-returns-4 (run-opened-claims t) (run-opened-at t) run-opened.Post
 run-opened-returns-4 t c =
     let a = c .before .before .before .before .before .before .before .before .before .before .before .before .before .before .before .before .args in
-    blocks-as (opening (iterates (a .d .code)) (levelsAt (a .text .now)) (viewOf (a .table .now)) (handAt (a .hand)) (a .spot .position) (a .d) (a .d .next) (a .next .0) (a .spot .left)) _ (λ ks. run-settled (c .before .before .before .before .before .before .before .before .before .settle-directive .ensures) (sym (c .before .before .before .before .before .before .before .before .before .before .before .is-well-written .ensures) ∙ not-false _ (c .before .before .before .before .before .before .before .before .before .before .if1 .left)) (a .spot .position) (a .spot .left) _ (c .before .before .before .before .before .before .before .settled2 .given .1) ∙ ap (λ (y : Bool). inside y (levelsAt (a .text .now)) (viewOf (a .table .now)) (handAt (a .hand)) (a .spot .position) (a .d) (a .d .next) (a .next .0) (a .spot .left) (c .before .before .before .before .before .before .before .settled2 .given .0 .0) (c .before .before .before .before .before .before .before .settled2 .given .0 .1 .0 .0) ks) (sym (c .before .before .before .before .before .is-iteration .ensures) ∙ c .before .before .before .before .if2 .left)) ((c .before .before .run-conditional .ensures) (a .next .0))
+    blocks-as (opening (iterates (a .d .code)) (levelsAt (a .text .now)) (viewOf (a .table .now)) (handAt (a .hand)) (a .spot .position) (a .d) (a .d .after) (a .next .0) (a .spot .left)) _ (λ ks. run-settled (c .before .before .before .before .before .before .before .before .before .settle-directive .ensures) (sym (c .before .before .before .before .before .before .before .before .before .before .before .is-well-written .ensures) ∙ not-false _ (c .before .before .before .before .before .before .before .before .before .before .if1 .left)) (a .spot .position) (a .spot .left) _ (c .before .before .before .before .before .before .before .settled2 .given .1) ∙ ap (λ (y : Bool). inside y (levelsAt (a .text .now)) (viewOf (a .table .now)) (handAt (a .hand)) (a .spot .position) (a .d) (a .d .after) (a .next .0) (a .spot .left) (c .before .before .before .before .before .before .before .settled2 .given .0 .0) (c .before .before .before .before .before .before .before .settled2 .given .0 .1 .0 .0) ks) (sym (c .before .before .before .before .before .is-iteration .ensures) ∙ c .before .before .before .before .if2 .left)) ((c .before .before .run-conditional .ensures) (a .next .0))
 
 abbrev run-passes-Inv-loop : run-passes-lts.InvT-loop
 run-passes-Inv-loop text marks table level p q out₀ hand passes₀ next₀ on₀ out passes next on =

@@ -3,7 +3,7 @@ use mathlib.Core.Path.{refl, subst}
 use borrow.Author.Needs.{needs}
 use lib.ListN.{length}
 use Rattle.rules.specs.Text.{levelsAt}
-use Rattle.acting.specs.declared.state.Spot.{Spot}
+use Rattle.actions.specs.declared.state.Spot.{Spot}
 use Rattle.running.specs.Runs.{EndsBlock}
 use Rattle.engine.proofs.RunnerLaws.{left-not-refused, not-left}
 use Rattle.engine.proofs.runners.leave_passes.Statement.{statement}

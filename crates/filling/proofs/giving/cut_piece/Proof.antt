@@ -7,7 +7,7 @@ use Rattle.filling.proofs.giving.cut_piece.Tie as tie
 cut-quote-requires : tie.Need-cut-quote-requires
 cut-quote-requires c κs =
     let start = c .before .before .before .before .before .before .before .before in
-    (start .pre .0, (c .before .before .before .source .given .1, (start .pre .1 .0, omega (arith, c .before .if1 .taken, start .pre .1 .1))))
+    (start .pre .0, (c .before .before .before .content .given .1, (start .pre .1 .0, omega (arith, c .before .if1 .taken, start .pre .1 .1))))
 
 returns : tie.Need-returns
 returns c = rw (c .before .before .before .before .if1 .taken) (c .before .before .cut-quote .ensures (c .before .before .before .before .before .before .before .before .before .before .before .args .here))

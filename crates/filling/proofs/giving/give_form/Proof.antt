@@ -2,7 +2,7 @@
 use mathlib.Core.Path.{subst}
 use native.Mathlib.Omega.{arith}
 use Rattle.rules.specs.declared.Item.the-variants.{Written}
-use Rattle.acting.specs.Planning.{Plans}
+use Rattle.actions.specs.Planning.{Plans}
 use Rattle.filling.proofs.StepLaws.{puts-none}
 use Rattle.filling.proofs.PutLaws.{form-refused, form-shows}
 use borrow.Author.Needs.{needs}
@@ -10,7 +10,7 @@ use Rattle.filling.proofs.giving.give_form.Statement.{statement}
 use Rattle.filling.proofs.giving.give_form.Tie as tie
 use Rattle.filling.proofs.giving.give_form.Reads as reads
 use Rattle.filling.proofs.giving.give_form.Lts as lts
-use Rattle.acting.proofs.planning.plan_form.Reads as plan-form-reads
+use Rattle.actions.proofs.planning.plan_form.Reads as plan-form-reads
 use Rattle.filling.proofs.giving.give_piece.Reads as give-piece-reads
 use Rattle.filling.proofs.giving.over.Reads as over-reads
 use Rattle.filling.proofs.giving.stepped.Reads as stepped-reads
@@ -19,7 +19,7 @@ use Rattle.making.proofs.making.make_piece.Reads as make-piece-reads
 returns : tie.Need-returns
 returns c =
     let a = c .before .before .before .before .before .args in
-    λ t. puts-none t (a .table .now) (Written (a .d)) (a .d .next) (a .here) (a .given) (a .at) (a .window .now) (c .before .if1 .taken) (c .over .ensures) (c .before .before .before .before .before .pre .1 .1 .1 .1)
+    λ t. puts-none t (a .table .now) (Written (a .d)) (a .d .after) (a .here) (a .given) (a .at) (a .window .now) (c .before .if1 .taken) (c .over .ensures) (c .before .before .before .before .before .pre .1 .1 .1 .1)
 
 plan-form-requires : tie.Need-plan-form-requires
 plan-form-requires c κs =

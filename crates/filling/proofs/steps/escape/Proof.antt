@@ -14,7 +14,7 @@ use Rattle.nesting.proofs.moves.leave.Reads as leave-reads
 returns : tie.Need-returns
 returns c =
     let a = c .before .before .before .before .before .args in
-    escape-none (a .text .now) (a .table .now) (a .here) (a .nest) (a .d .next) (escape-at (a .text .now) (a .here .place) (a .d) (c .before .before .before .before .before .pre .1 .1 .1 .0) (c .before .before .before .before .before .pre .1 .1 .1 .1)) (c .if1 .taken) refl
+    escape-none (a .text .now) (a .table .now) (a .here) (a .nest) (a .d .after) (escape-at (a .text .now) (a .here .place) (a .d) (c .before .before .before .before .before .pre .1 .1 .1 .0) (c .before .before .before .before .before .pre .1 .1 .1 .1)) (c .if1 .taken) refl
 
 stepped-requires : tie.Need-stepped-requires
 stepped-requires c κs =
@@ -23,17 +23,17 @@ stepped-requires c κs =
 leave-requires : tie.Need-leave-requires
 leave-requires c κs =
     let a = c .before .before .before .before .before .before .before .before .before .before .before .args in
-    (c .before .before .before .before .before .before .before .before .before .before .before .pre .0, (c .before .before .before .before .before .before .before .before .before .before .before .pre .1 .0, escape-sound (a .text .now) (a .table .now) (a .here) (a .nest) (a .d .next) (escape-at (a .text .now) (a .here .place) (a .d) (c .before .before .before .before .before .before .before .before .before .before .before .pre .1 .1 .1 .0) (c .before .before .before .before .before .before .before .before .before .before .before .pre .1 .1 .1 .1)) (c .before .before .before .before .before .before .if1 .left) (c .before .before .before .stepped .ensures) (c .before .before .before .before .before .before .before .before .before .before .before .pre .1 .1 .0) (next-inside (a .text .now) (a .here .place) (a .d) (c .before .before .before .before .before .before .before .before .before .before .before .pre .1 .1 .1 .0) .most)))
+    (c .before .before .before .before .before .before .before .before .before .before .before .pre .0, (c .before .before .before .before .before .before .before .before .before .before .before .pre .1 .0, escape-sound (a .text .now) (a .table .now) (a .here) (a .nest) (a .d .after) (escape-at (a .text .now) (a .here .place) (a .d) (c .before .before .before .before .before .before .before .before .before .before .before .pre .1 .1 .1 .0) (c .before .before .before .before .before .before .before .before .before .before .before .pre .1 .1 .1 .1)) (c .before .before .before .before .before .before .if1 .left) (c .before .before .before .stepped .ensures) (c .before .before .before .before .before .before .before .before .before .before .before .pre .1 .1 .0) (next-inside (a .text .now) (a .here .place) (a .d) (c .before .before .before .before .before .before .before .before .before .before .before .pre .1 .1 .1 .0) .most)))
 
 returns-2 : tie.Need-returns-2
 returns-2 c =
     let a = c .before .before .before .before .before .before .before .before .before .before .before .before .args in
-    escape-leaves (a .text .now) (a .table .now) (a .here) (a .nest) (a .d .next) (escape-at (a .text .now) (a .here .place) (a .d) (c .before .before .before .before .before .before .before .before .before .before .before .before .pre .1 .1 .1 .0) (c .before .before .before .before .before .before .before .before .before .before .before .before .pre .1 .1 .1 .1)) (c .before .before .before .before .before .before .before .if1 .left) (c .before .before .before .before .stepped .ensures) (c .before .if2 .taken) (c .leave .ensures)
+    escape-leaves (a .text .now) (a .table .now) (a .here) (a .nest) (a .d .after) (escape-at (a .text .now) (a .here .place) (a .d) (c .before .before .before .before .before .before .before .before .before .before .before .before .pre .1 .1 .1 .0) (c .before .before .before .before .before .before .before .before .before .before .before .before .pre .1 .1 .1 .1)) (c .before .before .before .before .before .before .before .if1 .left) (c .before .before .before .before .stepped .ensures) (c .before .if2 .taken) (c .leave .ensures)
 
 returns-3 : tie.Need-returns-3
 returns-3 c =
     let a = c .before .before .before .before .before .before .before .before .before .before .before .args in
-    escape-stays (a .text .now) (a .table .now) (a .here) (a .nest) (a .d .next) (escape-at (a .text .now) (a .here .place) (a .d) (c .before .before .before .before .before .before .before .before .before .before .before .pre .1 .1 .1 .0) (c .before .before .before .before .before .before .before .before .before .before .before .pre .1 .1 .1 .1)) (c .before .before .before .before .before .before .if1 .left) (c .before .before .before .stepped .ensures) (omega (arith, c .if2 .left)) (c .before .before .before .before .before .before .before .before .before .before .before .pre .1 .1 .0) (next-inside (a .text .now) (a .here .place) (a .d) (c .before .before .before .before .before .before .before .before .before .before .before .pre .1 .1 .1 .0) .most) refl
+    escape-stays (a .text .now) (a .table .now) (a .here) (a .nest) (a .d .after) (escape-at (a .text .now) (a .here .place) (a .d) (c .before .before .before .before .before .before .before .before .before .before .before .pre .1 .1 .1 .0) (c .before .before .before .before .before .before .before .before .before .before .before .pre .1 .1 .1 .1)) (c .before .before .before .before .before .before .if1 .left) (c .before .before .before .stepped .ensures) (omega (arith, c .if2 .left)) (c .before .before .before .before .before .before .before .before .before .before .before .pre .1 .1 .0) (next-inside (a .text .now) (a .here .place) (a .d) (c .before .before .before .before .before .before .before .before .before .before .before .pre .1 .1 .1 .0) .most) refl
 
 pub escape-spec : {M : Type 1} → statement M
 escape-spec = tie.close (tie.spec returns stepped-requires leave-requires returns-2 returns-3)

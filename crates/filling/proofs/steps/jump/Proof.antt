@@ -10,14 +10,14 @@ use Rattle.filling.proofs.steps.jump.Statement.{statement}
 use Rattle.filling.proofs.steps.jump.Tie as tie
 use Rattle.filling.proofs.steps.jump.Reads as reads
 use Rattle.filling.proofs.steps.jump.Lts as lts
-use Rattle.acting.proofs.acting.act_jump.Reads as act-jump-reads
+use Rattle.actions.proofs.acting.act_jump.Reads as act-jump-reads
 use Rattle.filling.proofs.giving.on.Reads as on-reads
 use Rattle.filling.proofs.giving.over.Reads as over-reads
 
 returns : tie.Need-returns
 returns c =
     let a = c .before .before .before .before .args in
-    λ t b l. puts-none t (a .table .now) (Written (a .d)) (a .d .next) (a .here) (a .given) (a .at) b (c .before .if1 .taken) (c .over .ensures) l
+    λ t b l. puts-none t (a .table .now) (Written (a .d)) (a .d .after) (a .here) (a .given) (a .at) b (c .before .if1 .taken) (c .over .ensures) l
 
 sub-t16 : tie.Need-sub-t16
 sub-t16 c =

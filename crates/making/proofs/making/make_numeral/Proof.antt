@@ -25,7 +25,7 @@ returns : tie.Need-returns
 returns c =
     let start = c .before .before .before .before .before in
     λ t.
-    let m = makes-same (ap (unpadded (start .args .base) (start .args .colon) (start .args .at) (start .args .settings))
+    let m = makes-same (ap (unpadded (start .args .base) (start .args .colon) (start .args .atsign) (start .args .settings))
     (toZ-ofZ w64 (start .args .x) (start .fits .x))) ((c .before .before .before .before .numeral-body .ensures) t) in
     gives-same (left-is _ (c .before .less .ensures) (c .before .before .before .number-or .ensures)
     (c .before .before .byte-or .ensures) (makes-size m)) ((c .padded-piece .ensures) t _ m)

@@ -33,7 +33,7 @@ returns : tie.Need-returns
 unfolding textOf
 returns c =
     let start = c .before .before .before .before .before in
-    gives-same (text-at (c .before .before .form .given .1) (start .args .colon) (start .args .at)
+    gives-same (text-at (c .before .before .form .given .1) (start .args .colon) (start .args .atsign)
     (start .args .settings) (meant (start .args .table .now) (start .args .argument))) (c .make-object .ensures)
 
 returns-2 : tie.Need-returns-2
@@ -41,9 +41,9 @@ unfolding textOf
 returns-2 c =
     let start = c .before .before .before .before .before .before in
     let back = toZ-ofZ w64 (c .before .integer-of .result) (record { sfits = (c .before .integer-of .ok) }) in
-    gives-same (ap (numeralOf _ (start .args .colon) (start .args .at) (start .args .settings))
+    gives-same (ap (numeralOf _ (start .args .colon) (start .args .atsign) (start .args .settings))
     (back ∙ (c .before .integer-of .ensures) (start .args .table .now))
-    ∙ text-at (c .before .before .before .form2 .given .1) (start .args .colon) (start .args .at)
+    ∙ text-at (c .before .before .before .form2 .given .1) (start .args .colon) (start .args .atsign)
     (start .args .settings) (meant (start .args .table .now) (start .args .argument)))
     ((c .make-numeral .ensures) (start .args .table .now))
 
@@ -51,9 +51,9 @@ returns-3 : tie.Need-returns-3
 unfolding textOf
 returns-3 c =
     let start = c .before .before .before .before .before .before in
-    gives-same (append-nil _ ∙ ap (glyphOf (start .args .colon) (start .args .at))
+    gives-same (append-nil _ ∙ ap (glyphOf (start .args .colon) (start .args .atsign))
     ((c .before .before .code-of .ensures) (start .args .table .now))
-    ∙ text-at (c .before .before .before .enum-told .given .1) (start .args .colon) (start .args .at)
+    ∙ text-at (c .before .before .before .enum-told .given .1) (start .args .colon) (start .args .atsign)
     (start .args .settings) (meant (start .args .table .now) (start .args .argument)))
     ((c .padded-piece .ensures) (start .args .table .now) _
     ((c .before .glyph-body .ensures) (start .args .table .now)))
@@ -62,9 +62,9 @@ returns-4 : tie.Need-returns-4
 unfolding textOf
 returns-4 c =
     let start = c .before .before .before .before .before .before in
-    gives-same (append-nil _ ∙ ap (pluralOf (start .args .at))
+    gives-same (append-nil _ ∙ ap (pluralOf (start .args .atsign))
     ((c .before .before .is-one .ensures) (start .args .table .now))
-    ∙ text-at (c .before .before .before .enum-told2 .given .1) (start .args .colon) (start .args .at)
+    ∙ text-at (c .before .before .before .enum-told2 .given .1) (start .args .colon) (start .args .atsign)
     (start .args .settings) (meant (start .args .table .now) (start .args .argument)))
     ((c .padded-piece2 .ensures) (start .args .table .now) _
     ((c .before .plural-body .ensures) (start .args .table .now)))
@@ -74,7 +74,7 @@ unfolding textOf
 returns-5 c =
     let start = c .before .before .before .before .before .before .before in
     gives-same (append-nil _ ∙ fill-same _ _ _ (c .before .before .number-or .ensures)
-    ∙ text-at (c .before .before .before .before .form3 .given .1) (start .args .colon) (start .args .at)
+    ∙ text-at (c .before .before .before .before .form3 .given .1) (start .args .colon) (start .args .atsign)
     (start .args .settings) (meant (start .args .table .now) (start .args .argument)))
     ((c .padded-piece3 .ensures) (start .args .table .now) _ ((c .before .run-body .ensures) (start .args .table .now)))
 
@@ -82,7 +82,7 @@ returns-6 : tie.Need-returns-6
 unfolding textOf
 returns-6 c =
     let start = c .before .before .before .before .before in
-    gives-same (append-nil _ ∙ text-at (c .before .before .enum-told3 .given .1) (start .args .colon) (start .args .at)
+    gives-same (append-nil _ ∙ text-at (c .before .before .enum-told3 .given .1) (start .args .colon) (start .args .atsign)
     (start .args .settings) (meant (start .args .table .now) (start .args .argument)))
     ((c .padded-piece4 .ensures) (start .args .table .now) _
     ((c .before .fold-body .ensures) (start .args .table .now)))

@@ -29,9 +29,9 @@ returns c =
     let x = (start .args .x) in
     let fourth = in-range (s .fourth) 3 (start .pre .places .fourth) (omega arith) (omega arith) in
     λ t. makes-same
-    (ap (numberOf base (start .args .at) (c .before .number-or .result) (c .before .before .byte-or .result))
+    (ap (numberOf base (start .args .atsign) (c .before .number-or .result) (c .before .before .byte-or .result))
     (toZ-ofZ w64 x (start .fits .x))
-    ∙ in-groups base (start .args .colon) (start .args .at) s x _ _ (c .before .before .before .if1 .taken)
+    ∙ in-groups base (start .args .colon) (start .args .atsign) s x _ _ (c .before .before .before .if1 .taken)
     (c .before .number-or .ensures) (c .before .before .byte-or .ensures)
     (omega (arith, (c .before .number-or .ensures), fourth)))
     ((c .figure-body .ensures) t)
@@ -40,8 +40,8 @@ returns-2 : tie.Need-returns-2
 returns-2 c =
     let start = c .before .before in
     λ t. makes-same
-    (ap (numberOf (start .args .base) (start .args .at) 0 44) (toZ-ofZ w64 (start .args .x) (start .fits .x))
-    ∙ in-one (start .args .base) (start .args .colon) (start .args .at) (start .args .settings) (start .args .x) 0 44
+    (ap (numberOf (start .args .base) (start .args .atsign) 0 44) (toZ-ofZ w64 (start .args .x) (start .fits .x))
+    ∙ in-one (start .args .base) (start .args .colon) (start .args .atsign) (start .args .settings) (start .args .x) 0 44
     (c .before .if1 .left))
     ((c .figure-body2 .ensures) t)
 

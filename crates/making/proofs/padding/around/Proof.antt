@@ -22,7 +22,7 @@ returns : tie.Need-returns
 returns c =
     let start = c .before .before .before .before .before .before .before in
     λ t text makes.
-    gives-same (around-left (start .args .at) (start .args .settings) text
+    gives-same (around-left (start .args .atsign) (start .args .settings) text
     (c .before .before .before .before .before .before .number-or .ensures)
     (c .before .before .before .before .before .number-or2 .ensures)
     (c .before .before .before .before .number-or3 .ensures) (c .before .before .before .byte-or .ensures)
@@ -32,7 +32,7 @@ returns-2 : tie.Need-returns-2
 returns-2 c =
     let start = c .before .before .before .before .before .before .before in
     λ t text makes.
-    gives-same (around-right (start .args .at) (start .args .settings) text
+    gives-same (around-right (start .args .atsign) (start .args .settings) text
     (c .before .before .before .before .before .before .number-or .ensures)
     (c .before .before .before .before .before .number-or2 .ensures)
     (c .before .before .before .before .number-or3 .ensures) (c .before .before .before .byte-or .ensures)

@@ -3,8 +3,8 @@ use mathlib.Core.Path.{sym, subst, _∙_}
 use mathlib.Core.Bool.{true, false}
 use borrow.Author.Tests.{not-true, not-false}
 use Rattle.rules.proofs.Rowed.{written-suits}
-use Rattle.working.specs.Settling.{SettlesDirective}
-use Rattle.working.proofs.SettleLaws.{all-supplied}
+use Rattle.parameters.specs.Settling.{SettlesDirective}
+use Rattle.parameters.proofs.SettleLaws.{all-supplied}
 use Rattle.nesting.proofs.OpenLaws.{ready-hand, ready-next, passes-fit, open-ill, open-unsettled, open-settled}
 use borrow.Author.Needs.{needs}
 use Rattle.nesting.proofs.moves.open_begun.Statement.{statement}
@@ -12,11 +12,11 @@ use Rattle.nesting.proofs.moves.open_begun.Tie as tie
 use Rattle.nesting.proofs.moves.open_begun.Reads as reads
 use Rattle.nesting.proofs.moves.open_begun.Lts as lts
 use Rattle.blocks.proofs.ends.is_iteration.Reads as is-iteration-reads
-use Rattle.fitting.proofs.places.is_well_written.Reads as is-well-written-reads
+use Rattle.directives.proofs.places.is_well_written.Reads as is-well-written-reads
 use Rattle.nesting.proofs.moves.open_conditional.Reads as open-conditional-reads
 use Rattle.nesting.proofs.moves.open_iteration.Reads as open-iteration-reads
 use Rattle.nesting.proofs.moves.over.Reads as over-reads
-use Rattle.working.proofs.settle_directive.Reads as settle-directive-reads
+use Rattle.parameters.proofs.settle_directive.Reads as settle-directive-reads
 
 returns : tie.Need-returns
 returns c = let a = c .before .before .before .before .before .before .before .before .args in open-ill (a .text .now) (a .table .now) (a .here) (a .nest) (a .d) (c .before .before .before .before .before .before .before .before .pre .1) (sym (c .before .before .is-well-written .ensures) ∙ not-true _ (c .before .if1 .taken)) (c .over .ensures)

@@ -1,7 +1,7 @@
 -- An iteration is opened over its entries, or refused. Assumes nothing.
 use mathlib.Core.Path.{refl, subst}
 use native.Mathlib.Omega.{arith}
-use Rattle.working.proofs.WorkLaws.{hand-small}
+use Rattle.parameters.proofs.WorkLaws.{hand-small}
 use Rattle.blocks.specs.Parts.{GoesOver}
 use Rattle.nesting.proofs.OpenLaws.{ready-hand, loop-fits, iteration-wrong, iteration-on}
 use borrow.Author.Needs.{needs}
@@ -23,13 +23,13 @@ next-after-requires : tie.Need-next-after-requires
 next-after-requires c κs = let a = c .before .before .before .before .before .before .before .before .args in omega (arith, c .before .before .before .before .before .before .before .before .pre .1 .0, hand-small (ready-hand (a .text .now) (a .table .now) (a .here) (a .nest) (a .d) (c .before .before .before .before .before .before .before .before .pre .0)))
 
 pushed-requires : tie.Need-pushed-requires
-pushed-requires c κs = let a = c .before .before .before .before .before .before .before .before .before .before .args in (c .before .before .before .before .before .before .before .before .before .before .pre .0 .level, loop-fits (a .text .now) (a .table .now) (a .here) (a .nest) (a .d) (c .before .before .before .before .before .before .before .before .before .before .pre .0) (a .settings) (a .i) (c .before .before .before .before .before .before .before .before .before .before .pre .1 .0) (subst (GoesOver (a .table .now) (a .here .hand) (a .d .at) (a .i .0)) (c .before .before .before .before .entries2 .given .1) (c .before .before .before .before .before .before .go-over .ensures)) (c .before .before .iteration-kind .ensures) (c .before .next-after .ensures) (c .before .before .before .before .before .before .before .before .before .before .pre .1 .1))
+pushed-requires c κs = let a = c .before .before .before .before .before .before .before .before .before .before .args in (c .before .before .before .before .before .before .before .before .before .before .pre .0 .level, loop-fits (a .text .now) (a .table .now) (a .here) (a .nest) (a .d) (c .before .before .before .before .before .before .before .before .before .before .pre .0) (a .settings) (a .i) (c .before .before .before .before .before .before .before .before .before .before .pre .1 .0) (subst (GoesOver (a .table .now) (a .here .hand) (a .d .atsign) (a .i .0)) (c .before .before .before .before .entries2 .given .1) (c .before .before .before .before .before .before .go-over .ensures)) (c .before .before .iteration-kind .ensures) (c .before .next-after .ensures) (c .before .before .before .before .before .before .before .before .before .before .pre .1 .1))
 
 returns : tie.Need-returns
-returns c = let a = c .before .before .before .before .before .before .before .before .args in λ j. iteration-wrong (a .text .now) (a .table .now) (a .here) (a .nest) (a .d) (c .before .before .before .before .before .before .before .before .pre .0) (a .settings) (a .i) (c .before .before .before .before .before .before .before .before .pre .1 .0) j (subst (GoesOver (a .table .now) (a .here .hand) (a .d .at) (a .i .0)) (c .before .before .entries .given .1) (c .before .before .before .before .go-over .ensures)) (c .over .ensures)
+returns c = let a = c .before .before .before .before .before .before .before .before .args in λ j. iteration-wrong (a .text .now) (a .table .now) (a .here) (a .nest) (a .d) (c .before .before .before .before .before .before .before .before .pre .0) (a .settings) (a .i) (c .before .before .before .before .before .before .before .before .pre .1 .0) j (subst (GoesOver (a .table .now) (a .here .hand) (a .d .atsign) (a .i .0)) (c .before .before .entries .given .1) (c .before .before .before .before .go-over .ensures)) (c .over .ensures)
 
 returns-2 : tie.Need-returns-2
-returns-2 c = let a = c .before .before .before .before .before .before .before .before .before .before .before .args in λ j. iteration-on (a .text .now) (a .table .now) (a .here) (a .nest) (a .d) (c .before .before .before .before .before .before .before .before .before .before .before .pre .0) (a .settings) (a .i) (c .before .before .before .before .before .before .before .before .before .before .before .pre .1 .0) (subst (GoesOver (a .table .now) (a .here .hand) (a .d .at) (a .i .0)) (c .before .before .before .before .before .entries2 .given .1) (c .before .before .before .before .before .before .before .go-over .ensures)) (c .before .before .before .iteration-kind .ensures) (c .before .before .next-after .ensures) j (c .before .stand .ensures) (c .pushed .ensures) refl
+returns-2 c = let a = c .before .before .before .before .before .before .before .before .before .before .before .args in λ j. iteration-on (a .text .now) (a .table .now) (a .here) (a .nest) (a .d) (c .before .before .before .before .before .before .before .before .before .before .before .pre .0) (a .settings) (a .i) (c .before .before .before .before .before .before .before .before .before .before .before .pre .1 .0) (subst (GoesOver (a .table .now) (a .here .hand) (a .d .atsign) (a .i .0)) (c .before .before .before .before .before .entries2 .given .1) (c .before .before .before .before .before .before .before .go-over .ensures)) (c .before .before .before .iteration-kind .ensures) (c .before .before .next-after .ensures) j (c .before .stand .ensures) (c .pushed .ensures) refl
 
 pub open-iteration-spec : {M : Type 1} → statement M
 open-iteration-spec =

@@ -11,7 +11,7 @@ unfolding owed
 returns c =
     let start = c .before .before .before .before .before .before .before .before in
     escapes-part (start .args .src .now) (start .args .from) _
-    (c .before .before .before .before .before .find-spot .ensures .0) (start .pre)
+    (c .before .before .before .before .before .find-landing .ensures .0) (start .pre)
     (c .before .before .escape-some .ensures)
 
 pub escape-part-spec : {M : Type 1} → statement M

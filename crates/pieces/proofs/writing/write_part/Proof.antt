@@ -16,10 +16,10 @@ returns c =
     let start = c .before .before .before .before .before .before .before .before .before .before .before .before .before .before .before .before in
     let a = (start .args) in
     let body = bodyOf (a .table .now) (a .piece .body) in
-    let room : length (a .out .now) ≤ a .piece .left +
-    (length (bodyOf (a .table .now) (a .piece .body)) + a .piece .right) - a .from =
+    let room : length (a .out .now) ≤ a .piece .before +
+    (length (bodyOf (a .table .now) (a .piece .body)) + a .piece .behind) - a .from =
     omega (arith, (start .pre .1), length-bytes (a .table .now) (a .piece)) in
-    padded-part (a .out .now) (a .piece .left) (a .piece .right) (a .piece .pad) body (a .from)
+    padded-part (a .out .now) (a .piece .before) (a .piece .behind) (a .piece .pad) body (a .from)
     (rw (start .pre .0 .body .size)
     at (c .before .before .before .before .before .before .before .before .before .before .before .before .cut .ensures)) room _ _ _ (c .before .before .before .before .before .before .before .before .before .before .fill .ensures) (c .before .before .before .before .before .before .body-part .ensures) (c .before .before .fill2 .ensures)
 

@@ -55,7 +55,7 @@ returns c =
     let start = c .before .before .before .before .before .before .before .before .before .before .before .before .before .before .before .before in
     let a = (start .args) in
     let size : a .piece .body .size ≡ length (bodyOf (a .table .now) (a .piece .body)) = (start .pre .0 .body .size) in
-    padded-whole (a .out .now) (a .piece .left) (a .piece .right) (a .piece .pad)
+    padded-whole (a .out .now) (a .piece .before) (a .piece .behind) (a .piece .pad)
     (bodyOf (a .table .now) (a .piece .body)) _
     (omega (arith, size)) ((start .pre .1) ∙ length-bytes (a .table .now) (a .piece)) _ _ _
     (c .before .before .before .before .before .before .before .before .before .before .fill .ensures)

@@ -12,12 +12,12 @@ use Rattle.reader.proofs.directive.read_code.Statement.{statement}
 use Rattle.reader.proofs.directive.read_code.Tie as tie
 
 abbrev Inv-loop : tie.InvT-loop
-Inv-loop text start ps colon₀ at₀ i₀ colon at i =
-    (scan modifiers (having blank ps) (drop start text) start ≡ scan modifiers (marked colon at ps) (drop i text) i)
+Inv-loop text start ps colon₀ at₀ i₀ colon atsign i =
+    (scan modifiers (having blank ps) (drop start text) start ≡ scan modifiers (marked colon atsign ps) (drop i text) i)
     × (i ≤ length text)
 
 abbrev μ-loop : tie.MeasureT-loop
-μ-loop text start ps colon₀ at₀ i₀ colon at i =
+μ-loop text start ps colon₀ at₀ i₀ colon atsign i =
     length text - i
 
 loop-holds : tie.Need-loop-holds Inv-loop μ-loop
@@ -28,7 +28,7 @@ loop-again c =
     let entry = c .before .before .before .before .before .before in
     let head = c .before .before .before .before in
     let by-loop-test = c .before .before .before in (
-      head .loop .inv .0 ∙ colon-on (entry .args .text .now) (head .loop .i) (head .loop .colon) (head .loop .at)
+      head .loop .inv .0 ∙ colon-on (entry .args .text .now) (head .loop .i) (head .loop .colon) (head .loop .atsign)
           (entry .args .ps) (by-loop-test .loop-test .taken)
           (sym (c .before .is-new .ensures) ∙ c .if1 .taken),
       omega arith,
@@ -41,7 +41,7 @@ loop-again-2 c =
     let by-loop-test = c .before .before .before .before .before in
     let by-is-new = c .before .before .before in
     let by-if1 = c .before .before in (
-      head .loop .inv .0 ∙ at-on (entry .args .text .now) (head .loop .i) (head .loop .colon) (head .loop .at)
+      head .loop .inv .0 ∙ at-on (entry .args .text .now) (head .loop .i) (head .loop .colon) (head .loop .atsign)
           (entry .args .ps) (by-loop-test .loop-test .taken)
           (sym (by-is-new .is-new .ensures) ∙ by-if1 .if1 .left) (sym (c .before .is-new2 .ensures) ∙ c .if2 .taken),
       omega arith,
@@ -56,7 +56,7 @@ returns c =
     let by-if1 = c .before .before .before .before in
     let by-is-new2 = c .before .before .before in
     let by-if2 = c .before .before in
-    sym (head .loop .inv .0 ∙ code-ends (entry .args .text .now) (head .loop .i) (head .loop .colon) (head .loop .at)
+    sym (head .loop .inv .0 ∙ code-ends (entry .args .text .now) (head .loop .i) (head .loop .colon) (head .loop .atsign)
     (entry .args .ps) (by-loop-test .loop-test .taken)
     (sym (by-is-new .is-new .ensures) ∙ by-if1 .if1 .left) (sym (by-is-new2 .is-new2 .ensures) ∙ by-if2 .if2 .left)
     (c .before .code-of .result) (c .before .code-of .ensures) (c .after-code .result) (c .after-code .ensures .0))

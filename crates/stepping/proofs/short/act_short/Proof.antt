@@ -2,11 +2,11 @@
 use Rattle.reader.specs.Shorts.{briefOf, settingOf, shortForm, shortDirective}
 use borrow.Author.Needs.{needs}
 use mathlib.Core.Path.{refl, sym}
-use Rattle.working.specs.Settling.{handAt}
+use Rattle.parameters.specs.Settling.{handAt}
 use Rattle.stepping.specs.Stepping.{shortSettings}
 use Rattle.rules.specs.Table.{viewOf}
-use Rattle.acting.proofs.ActLaws.{refused-stays, performed-stays}
-use Rattle.acting.proofs.DirectLaws.{run-written}
+use Rattle.actions.proofs.ActLaws.{refused-stays, performed-stays}
+use Rattle.actions.proofs.DirectLaws.{run-written}
 use Rattle.stepping.proofs.ItemLaws.{acts-none, begun-inside}
 use Rattle.stepping.proofs.ShortRuns.{writes-as, short-begun, repeat-form, unbegun, unbegun-none}
 use native.Mathlib.Omega.{arith}

@@ -8,7 +8,7 @@ use Rattle.rules.specs.Text.{levelsAt}
 use Rattle.reader.specs.Shorts.{ShortAt}
 use Rattle.rules.proofs.Bases.{code-right}
 use Rattle.running.proofs.Places.{writes-at, directive-ahead}
-use Rattle.acting.proofs.Joining.{no-end, no-end-left}
+use Rattle.actions.proofs.Joining.{no-end, no-end-left}
 use Rattle.running.proofs.Strides.{strides, strides-none}
 use Rattle.stepping.proofs.ShortRuns.{held-up}
 use Rattle.stepping.proofs.short.run_one.Statement.{statement}

@@ -6,7 +6,7 @@ use borrow.Author.Tests.{not-true, not-false}
 use lib.ListN.{length, getD}
 use Rattle.rules.specs.Table.{viewOf}
 use Rattle.rules.specs.Text.{levelsAt}
-use Rattle.working.specs.Settling.{handAt}
+use Rattle.parameters.specs.Settling.{handAt}
 use Rattle.reader.specs.Shorts.{shortAt}
 use Rattle.reader.specs.declared.short.Short.the-variants.{Other}
 use Rattle.running.specs.Runs.{Strides}

@@ -3,12 +3,12 @@ use mir.ValLaws.{toZ-ofZ}
 use mir.Syntax.{w64}
 use borrow.Author.Needs.{needs}
 use Rattle.reader.specs.Shorts.{settingOf}
-use Rattle.working.specs.Settling.{handAt}
-use Rattle.acting.proofs.ActLaws.{performed-refused, untouched-refused}
+use Rattle.parameters.specs.Settling.{handAt}
+use Rattle.actions.proofs.ActLaws.{performed-refused, untouched-refused}
 use Rattle.rules.specs.Table.{viewOf}
 use Rattle.stepping.specs.Stepping.{shortSettings}
 use native.Mathlib.Omega.{arith}
-use Rattle.acting.proofs.DirectLaws.{text-written, decimal-written, string-held}
+use Rattle.actions.proofs.DirectLaws.{text-written, decimal-written, string-held}
 use Rattle.stepping.proofs.ShortRuns.{writes-as, own-none, object-form, decimal-form, object-alone, pad-few}
 use mathlib.Core.Path.{refl, sym, _∙_}
 use Rattle.stepping.proofs.short.write_argument.Statement.{statement}

@@ -1,7 +1,7 @@
 -- `write_piece` meets its contract: the settings and the form are those that were read. Assumes nothing.
 use Rattle.reader.specs.Shorts.{briefOf, settingOf}
 use borrow.Author.Needs.{needs}
-use Rattle.working.specs.Settling.{handAt}
+use Rattle.parameters.specs.Settling.{handAt}
 use Rattle.rules.specs.Table.{viewOf}
 use Rattle.stepping.proofs.ShortRuns.{short-worked, writes-as}
 use Rattle.stepping.proofs.short.write_piece.Statement.{statement}

@@ -24,13 +24,13 @@ returns-3 : tie.Need-returns-3
 returns-3 c =
     let r = c .before .before .before .before .before .before .args .rest in
     let n = length (c .before .before .before .before .before .before .args .table .now) in
-    rw (le-leb (r .start) (r .end) (omega (arith, c .before .before .before .before .if1 .left)), le-leb (r .end) n (omega (arith, c .before .before .if2 .left)), lt-leb (r .left) 65536 (c .if3 .taken)) refl
+    rw (le-leb (r .start) (r .end) (omega (arith, c .before .before .before .before .if1 .left)), le-leb (r .end) n (omega (arith, c .before .before .if2 .left)), lt-leb (r .before) 65536 (c .if3 .taken)) refl
 
 returns-4 : tie.Need-returns-4
 returns-4 c =
     let r = c .before .before .before .before .before .before .before .args .rest in
     let n = length (c .before .before .before .before .before .before .before .args .table .now) in
-    rw (le-leb (r .start) (r .end) (omega (arith, c .before .before .before .before .before .if1 .left)), le-leb (r .end) n (omega (arith, c .before .before .before .if2 .left)), le-leb (r .left) 65536 (omega (arith, c .before .if3 .left))) refl
+    rw (le-leb (r .start) (r .end) (omega (arith, c .before .before .before .before .before .if1 .left)), le-leb (r .end) n (omega (arith, c .before .before .before .if2 .left)), le-leb (r .before) 65536 (omega (arith, c .before .if3 .left))) refl
 
 pub rest-lies-spec : {M : Type 1} → statement M
 rest-lies-spec = tie.close (tie.spec returns returns-2 returns-3 returns-4)
