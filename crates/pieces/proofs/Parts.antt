@@ -39,6 +39,12 @@ fill-same n m b e = ap (λ (k : ℕ). replicate k b) e
 pub part-all : (n : ℕ) (xs : List ℕ) → n ≡ length xs → part 0 n xs ≡ xs
 part-all n xs e = take-all n xs (omega arith)
 
+-- a part as long as the text is all of it
+pub part-whole : (f n : ℕ) (xs : List ℕ) → n ≡ length xs → n ≤ length xs - f → xs ≡ part f n xs
+part-whole zero n xs e h = sym (part-all n xs e)
+part-whole (suc f) n [] e h = rw e
+part-whole (suc f) n (x ∷ xs) e h = absurd (omega arith)
+
 -- The loop that fills a slice of a size with the text v from its front, i bytes of it so far
 pub record Copying (v : List ℕ) (size : ℕ) (out : List ℕ) (i : ℕ) : Type 0 where
   pub ahead : Writing v out i (drop i v)

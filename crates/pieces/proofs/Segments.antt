@@ -9,7 +9,7 @@ use borrow.Rule.Slice.PartMut.{putMid}
 use lib.ListN.{length, take, drop, replicate, length-append, length-replicate, length-take, drop-of-length-le}
 use lib.Seq.{drop-drop, take-at, drop-at}
 use Rattle.pieces.specs.Bytes.{part, Window}
-use Rattle.pieces.proofs.Parts.{part-two, part-fill, length-part}
+use Rattle.pieces.proofs.Parts.{part-two, part-fill, part-all, length-part}
 
 -- a buffer whose first k bytes are w, and whose others are as they came
 pub record Begun (d w out : List ℕ) (k : ℕ) : Type 0 where
@@ -129,7 +129,8 @@ padded-part d l r p ys from {a} {b} {start} w h x y z ex ey ez =
 
 -- the whole of such a text
 pub padded-whole : (d : List ℕ) (l r p : ℕ) (ys : List ℕ) (b : ℕ) → b ≡ l + length ys
-    → length d ≡ l + (length ys + r) → (x y z : List ℕ) → x ≡ replicate (length (take (l - 0) (drop 0 d))) p → y ≡ ys
+    → length d ≡ l + (length ys + r) → (x y z : List ℕ) → x ≡ replicate (length (take (l - 0) (drop 0 d))) p
+    → y ≡ part 0 (length (take (b - l) (drop l (putMid 0 (l - 0) d x)))) ys
     → z ≡ replicate (length (take (length d - b) (drop b (putMid l (b - l) (putMid 0 (l - 0) d x) y)))) p
     → putMid b (length d - b) (putMid l (b - l) (putMid 0 (l - 0) d x) y) z
     ≡ replicate l p ++ (ys ++ replicate r p)
@@ -138,12 +139,13 @@ padded-whole d l r p ys b e h x y z ex ey ez =
     let s₀ = begun-none d in
     let ex₁ : x ≡ replicate (l - 0) p = ex ∙ ap (λ (k : ℕ). replicate k p) (lent l s₀ (omega arith) (omega arith)) in
     let s₁ = begun-more l x s₀ (omega arith) (ap length ex₁ ∙ length-replicate (l - 0) p) in
-    let s₂ = begun-more b y s₁ (omega arith) (ap length ey ∙ omega arith) in
+    let ey₁ : y ≡ ys = ey ∙ part-all _ ys (lent b s₁ (omega arith) (omega arith) ∙ omega arith) in
+    let s₂ = begun-more b y s₁ (omega arith) (ap length ey₁ ∙ omega arith) in
     let ez₁ : z ≡ replicate (n - b) p =
     ez ∙ ap (λ (k : ℕ). replicate k p) (lent n s₂ (omega arith) (le-refl n)) in
     let s₃ = begun-more n z s₂ (omega arith) (ap length ez₁ ∙ length-replicate (n - b) p) in
     let q : n - b ≡ r = omega arith in
-    begun-all s₃ (le-refl n) ∙ append-assoc x y z ∙ rw (ex₁, ey, ez₁, sub-zero, q)
+    begun-all s₃ (le-refl n) ∙ append-assoc x y z ∙ rw (ex₁, ey₁, ez₁, sub-zero, q)
 
 -- a part that is lent has no more bytes than it says
 pub lent-fits : (k m : ℕ) (l : List ℕ) → k ≤ m → length (take k l) ≤ m

@@ -36,7 +36,7 @@ pub fn quoted_size(src: &[u8]) -> usize
 }
 
 // The whole string in quotes.
-pub fn quote_whole(src: &[u8], out: &mut [u8])
+fn quote_whole(src: &[u8], out: &mut [u8])
     requires { ⌜ length (now out) ≡ length (quotedOf (now src)) ⌝ }
     ensures { λ _. ⌜ now (out .exit) ≡ quotedOf (now (src .entry)) ⌝ }
 {
@@ -149,13 +149,17 @@ fn escape_part(src: &[u8], from: usize, out: &mut [u8])
     escape_some(&src[start..end], spot.gone, out, 0);
 }
 
-// A part of the string in quotes, whose length is size.
+// A part of the string in quotes, whose length is size, or all of it.
 pub fn quote_part(src: &[u8], size: usize, from: usize, out: &mut [u8])
     requires { ⌜ size ≡ length (quotedOf (now src)) ⌝ }
     requires { ⌜ size ≤ 131074 ⌝ }
     requires { ⌜ length (now out) ≤ size - from ⌝ }
     ensures { λ _. ⌜ now (out .exit) ≡ part from (length (now (out .entry))) (quotedOf (now (src .entry))) ⌝ }
 {
+    if out.len() == size {
+        quote_whole(src, out);
+        return;
+    }
     let n = out.len();
     let cuts = cut(1, size - 2, from, n);
     let a = cuts.a;

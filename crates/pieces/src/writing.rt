@@ -5,9 +5,7 @@ use super::Piece;
 use super::copying::copy_part;
 use super::copying::fill;
 use super::figuring::figure_part;
-use super::figuring::figure_whole;
 use super::quoting::quote_part;
-use super::quoting::quote_whole;
 use super::window::cut;
 use table::string_part;
 ghost use mathlib.Core.List.{List};
@@ -25,7 +23,7 @@ pub fn piece_length(piece: Piece) -> usize
     piece.before + (piece.body.size + piece.behind)
 }
 
-// A part of the text before padding.
+// A part of the text before padding, or all of it.
 fn body_part(body: Body, table: &[u8], from: usize, out: &mut [u8])
     requires { ⌜ GoodBody (now table) body ⌝ }
     requires { ⌜ length (now out) ≤ body .size - from ⌝ }
@@ -68,23 +66,6 @@ pub fn write_part(piece: Piece, table: &[u8], from: usize, out: &mut [u8])
     fill(pad, &mut out[b..n]);
 }
 
-// The whole text before padding.
-fn body_whole(body: Body, table: &[u8], out: &mut [u8])
-    requires { ⌜ GoodBody (now table) body ⌝ }
-    requires { ⌜ length (now out) ≡ body .size ⌝ }
-    ensures { λ _. ⌜ now (out .exit) ≡ bodyOf (now (table .entry)) body ⌝ }
-{
-    let word = body.word;
-    let content = body.content;
-    match content {
-        Content::Run { byte, count: _ } => fill(byte, out),
-        Content::Copied { start, end } => copy_part(string_part(table, start, end), 0, out),
-        Content::Quoted { start, end } => quote_whole(string_part(table, start, end), out),
-        Content::Figures(x) => figure_whole(x, out),
-        Content::Word(n) => copy_part(&word[0..n], 0, out),
-    }
-}
-
 // Fills out, which is as long as the piece, with all of it.
 pub fn write_whole(piece: Piece, table: &[u8], out: &mut [u8])
     requires { ⌜ Good (now table) piece ⌝ }
@@ -97,6 +78,6 @@ pub fn write_whole(piece: Piece, table: &[u8], out: &mut [u8])
     let body = piece.body;
     let end = before + body.size;
     fill(pad, &mut out[0..before]);
-    body_whole(body, table, &mut out[before..end]);
+    body_part(body, table, 0, &mut out[before..end]);
     fill(pad, &mut out[end..n]);
 }

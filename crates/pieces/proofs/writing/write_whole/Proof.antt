@@ -19,8 +19,8 @@ part-fill-end c =
       (start .pre .0 .body .size),
     )
 
-part-body-whole-end : tie.Need-part-body-whole-end
-part-body-whole-end c =
+part-body-part-end : tie.Need-part-body-part-end
+part-body-part-end c =
     let start = c .before .before .before .before .before .before .before .before in
     omega (
       arith,
@@ -59,7 +59,7 @@ returns c =
     (bodyOf (a .table .now) (a .piece .body)) _
     (omega (arith, size)) ((start .pre .1) ∙ length-bytes (a .table .now) (a .piece)) _ _ _
     (c .before .before .before .before .before .before .before .before .before .before .fill .ensures)
-    (c .before .before .before .before .before .before .body-whole .ensures) (c .before .before .fill2 .ensures)
+    (c .before .before .before .before .before .before .body-part .ensures) (c .before .before .fill2 .ensures)
 
 pub write-whole-spec : {M : Type 1} → statement M
 write-whole-spec =
@@ -72,7 +72,7 @@ write-whole-spec =
     (λ c κs. search needs)
     (λ c. search needs)
     (λ c. search needs)
-    part-body-whole-end
+    part-body-part-end
     (λ c κs. search needs)
     sub-fill-2
     part-fill-start-2
