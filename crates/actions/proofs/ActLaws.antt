@@ -6,13 +6,14 @@ use mathlib.Core.List.{List}
 use native.Mathlib.Omega.{arith}
 use borrow.Author.Tests.{lt-ltb, le-ltb, le-leb, lt-leb, eq-eqb, ne-eqb}
 use lib.ListN.{length}
+use Rattle.rules.specs.Choice.{choose}
 use Rattle.rules.specs.Act.{writes, refuses, jumpTo, jump, actBy, actAfter, actOf}
 use Rattle.rules.specs.Rows.{placesIn, wellWritten, accepts}
 use Rattle.rules.specs.Table.{View, Value}
 use Rattle.rules.specs.Piece.{orElse, textOf, kindOf}
 use Rattle.rules.specs.Working.{Context, argumentIn, Settled, settled, unsettled, settleAll, settleDirective, own, back, given, sourceOf}
 use Rattle.rules.specs.Flow.{done, Finish, finishOf}
-use Rattle.rules.specs.Run.{Flow, refused, put, choose, onSettled, write, joined, itemActs, writeFrom, withSettings}
+use Rattle.rules.specs.Run.{Flow, refused, put, onSettled, write, joined, itemActs, writeFrom, withSettings}
 use Rattle.rules.specs.declared.Code.{Code}
 use Rattle.rules.specs.declared.Code.the-variants.{Writes, Jump}
 use Rattle.rules.specs.declared.Directive.{Directive}

@@ -9,11 +9,12 @@ use native.Mathlib.Decide.{ℕ-discrete as decEq}
 use native.Mathlib.Omega.{arith}
 use lib.ListN.{length, take}
 use borrow.Author.Tests.{eq-eqb, ne-eqb, le-leb, lt-leb}
+use Rattle.rules.specs.Choice.{choose}
 use Rattle.rules.specs.Flow.{Flow, givenText, Gives}
 use Rattle.rules.specs.Table.{viewOf}
 use Rattle.rules.specs.Text.{Level, innermost, levelsAt, deepest}
 use Rattle.rules.specs.Working.{noneRemain}
-use Rattle.rules.specs.Run.{Frame, begin, choose, run}
+use Rattle.rules.specs.Run.{Frame, begin, run}
 use Rattle.rules.proofs.FlowLaws.{gives-text, gives-finish}
 use Rattle.rules.proofs.RunLaws.{begin-yes, begin-no, choose-yes, choose-no, run-escapes}
 use Rattle.pieces.specs.Rest.{Appends}

@@ -6,7 +6,7 @@ use mathlib.Core.Bool.{Bool, true, false, cond}
 use mathlib.Core.List.{List, [], _∷_}
 use lib.Dec.{ltb, leb, eqb}
 use lib.ListN.{length, getD, drop}
-use Rattle.rules.specs.Choice.{both}
+use Rattle.rules.specs.Choice.{both, choose}
 use Rattle.rules.specs.Letters.{letter}
 use Rattle.rules.specs.Directive.{Reading, start, signed, whole, isDigit, scan, afterStep, onStep}
 use Rattle.rules.specs.Directive.{going, skipped, pending, oneMore}
@@ -35,8 +35,7 @@ greatestOf minus = cond minus 0 4096
 
 -- what follows a parameter that reading stands at the end of, from i on
 abbrev pub inside : Bool → (Bool → Item) → Item
-inside true on = on true
-inside false on = Unfinished
+inside holds on = choose holds on (λ _. Unfinished)
 
 abbrev pub afterAt : List ℕ → Reading → Directive → ℕ → Item
 afterAt t r d i =

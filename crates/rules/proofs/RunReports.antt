@@ -10,12 +10,12 @@ use lib.IntN.{ℤ, pos, negsuc}
 use lib.ListN.{length}
 use borrow.Author.Tests.{lt-ltb}
 use Rattle.rules.specs.Act.{Act, writes, shows, moves, refuses, actFrom, jumpTo, jump, actBy, actAfter, actOf}
-use Rattle.rules.specs.Choice.{either}
+use Rattle.rules.specs.Choice.{either, choose}
 use Rattle.rules.specs.Directive.{itemAt}
 use Rattle.rules.specs.Rows.{placesIn, inRow, inOrder, accepts}
 use Rattle.rules.specs.Flow.{Flow, done, refused, put}
 use Rattle.rules.specs.Piece.{orElse, textOf, kindOf}
-use Rattle.rules.specs.Run.{choose, begin, Outside, sameArguments, other, Frame, iteration, conditional, afterwards, usedUp, oneLess, fallbackOf, clauseAt, pickNumber, pickInteger, isFalse, onSettled, doneWith, joined, withSettings, withArgument, itemActs, Onward, pickBy, pickNumbered, pick, overList, enter, leave, nested, turn, walk, run}
+use Rattle.rules.specs.Run.{begin, Outside, sameArguments, other, Frame, iteration, conditional, afterwards, usedUp, oneLess, fallbackOf, clauseAt, pickNumber, pickInteger, isFalse, onSettled, doneWith, joined, withSettings, withArgument, itemActs, Onward, pickBy, pickNumbered, pick, overList, enter, leave, nested, turn, walk, run}
 use Rattle.rules.specs.Table.{Value, boolean, integer, character, string, list, View}
 use Rattle.rules.specs.Text.{Sequence, end, acts, escapes, iterates, chooses, Clauses, none, clause, deepest, textVerdict, sequenceOf}
 use Rattle.rules.specs.Working.{Context, goTo, noneRemain, argumentIn, Settled, settled, unsettled, settingsOf, settleDirective, Source, own, back, given, sourceOf}

@@ -5,11 +5,12 @@ use mathlib.Core.List.{List, [], _∷_}
 use native.Mathlib.Omega.{arith}
 use borrow.Author.Tests.{le-leb, lt-leb}
 use lib.ListN.{length, set}
+use Rattle.rules.specs.Choice.{choose}
 use Rattle.rules.specs.Act.{actOf}
 use Rattle.rules.specs.Table.{View}
 use Rattle.rules.specs.Text.{Sequence, end, Level, innermost, outer, deepest}
 use Rattle.rules.specs.Working.{noneRemain}
-use Rattle.rules.specs.Run.{Flow, refused, begin, choose, Frame, itemActs, nested, run}
+use Rattle.rules.specs.Run.{Flow, refused, begin, Frame, itemActs, nested, run}
 use Rattle.rules.specs.declared.Item.{Item}
 use Rattle.rules.specs.declared.Item.the-variants.{Literal}
 use Rattle.rules.proofs.RunLaws.{begin-yes, begin-no, choose-yes, choose-no, run-acts, run-escapes, nested-yes, nested-no}

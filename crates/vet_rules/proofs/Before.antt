@@ -6,13 +6,14 @@ use mathlib.Core.List.{List, [], _∷_}
 use native.Mathlib.Omega.{arith}
 use lib.ListN.{length, length-append}
 use borrow.Author.Tests.{lt-ltb}
+use Rattle.rules.specs.Choice.{choose}
 use Rattle.rules.specs.Act.{Act, writes, shows, moves, refuses}
 use Rattle.rules.specs.Table.{View}
 use Rattle.rules.specs.Text.{Token}
 use Rattle.rules.specs.Piece.{textOf, kindOf}
 use Rattle.rules.specs.Rows.{accepts}
 use Rattle.rules.specs.Flow.{Flow, refused, put, givenText, finishOf}
-use Rattle.rules.specs.Run.{choose, joined}
+use Rattle.rules.specs.Run.{joined}
 use Rattle.vet_rules.specs.Use.{useOf}
 use Rattle.vet_rules.specs.Demand.{bytesBefore}
 use Rattle.vet_rules.proofs.Items.{Read}

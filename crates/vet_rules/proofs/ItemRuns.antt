@@ -5,11 +5,12 @@ use mathlib.Core.Bool.{Bool, true, false, cond}
 use mathlib.Core.List.{List}
 use native.Mathlib.Omega.{arith}
 use lib.ListN.{length}
+use Rattle.rules.specs.Choice.{choose}
 use Rattle.rules.specs.Act.{Act, writes, shows, moves, refuses}
 use Rattle.rules.specs.Flow.{Flow, refused, put}
 use Rattle.rules.specs.Piece.{textOf, kindOf}
 use Rattle.rules.specs.Rows.{accepts}
-use Rattle.rules.specs.Run.{choose, joined, Frame, run}
+use Rattle.rules.specs.Run.{joined, Frame, run}
 use Rattle.rules.specs.Table.{Value, View}
 use Rattle.rules.specs.Text.{Sequence, acts}
 use Rattle.rules.specs.declared.Item.{Item}

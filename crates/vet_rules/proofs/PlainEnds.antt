@@ -4,13 +4,14 @@ use mathlib.Core.Path.{_≡_, refl, sym}
 use mathlib.Core.Bool.{Bool, true, false, cond}
 use mathlib.Core.List.{List, [], _∷_}
 use lib.ListN.{length}
+use Rattle.rules.specs.Choice.{choose}
 use Rattle.rules.specs.Act.{Act, writes, shows, moves, refuses}
 use Rattle.rules.specs.Table.{View}
 use Rattle.rules.specs.Text.{Token}
 use Rattle.rules.specs.Piece.{textOf, kindOf}
 use Rattle.rules.specs.Rows.{accepts}
 use Rattle.rules.specs.Flow.{Flow, refused, put, finishOf}
-use Rattle.rules.specs.Run.{choose, joined}
+use Rattle.rules.specs.Run.{joined}
 use Rattle.vet_rules.specs.declared.Turn.the-variants.{Goes, Stops}
 use Rattle.vet_rules.specs.declared.Vetted.{Vetted}
 use Rattle.vet_rules.specs.Use.{useOf}

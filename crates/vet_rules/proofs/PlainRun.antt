@@ -6,6 +6,7 @@ use mathlib.Core.Bool.{Bool, true, false, cond}
 use mathlib.Core.List.{List, [], _∷_}
 use native.Mathlib.Omega.{arith}
 use lib.ListN.{length}
+use Rattle.rules.specs.Choice.{choose}
 use Rattle.rules.specs.Act.{Act, writes, shows, moves, refuses, actAfter, actOf}
 use Rattle.rules.specs.Table.{Value, View, entryIn}
 use Rattle.rules.specs.Rows.{placesIn, inRow, inOrder, wellWritten, accepts}
@@ -13,7 +14,7 @@ use Rattle.rules.specs.Text.{Token, acts, Level, innermost, itemBefore, levelsO
 use Rattle.rules.specs.Piece.{textOf, kindOf}
 use Rattle.rules.specs.Working.{Settled, unsettled}
 use Rattle.rules.specs.Flow.{Flow, done, refused, put}
-use Rattle.rules.specs.Run.{choose, joined, itemActs, turn, walk, run}
+use Rattle.rules.specs.Run.{joined, itemActs, turn, walk, run}
 use Rattle.rules.specs.declared.Item.{Item}
 use Rattle.rules.specs.declared.Item.the-variants.{End, Literal, Written, BadNumber, Unfinished}
 use Rattle.vet_rules.specs.Use.{inHand, useOf}

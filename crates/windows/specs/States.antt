@@ -4,7 +4,7 @@ use mathlib.Core.Bool.{Bool, true, false}
 use mathlib.Core.List.{List, [], _++_}
 use lib.Dec.{leb, ltb}
 use lib.ListN.{length, drop}
-use Rattle.rules.specs.Choice.{both}
+use Rattle.rules.specs.Choice.{both, choose}
 use Rattle.rules.specs.Flow.{Flow, limit, givenText, finishOf}
 use Rattle.rules.specs.Table.{viewOf, tableVerdict}
 use Rattle.rules.specs.Text.{deepest, longest, textVerdict}
@@ -42,8 +42,7 @@ abbrev pub toCome : List ℕ → QuoteRest → ℕ → Flow → Told
 toCome table q given f = record { bytes = restOf table q ++ drop given (givenText f); finish = finishOf f }
 
 abbrev pub ifSound : Bool → (Bool → Told) → Told
-ifSound true on = on true
-ifSound false on = toldOver 4 0 limit
+ifSound sound on = choose sound on (λ _. toldOver 4 0 limit)
 
 abbrev pub unlessWrong : Verdict → (Bool → Told) → Told
 unlessWrong Accepted on = on true
