@@ -3,6 +3,7 @@
 // and where long blocks end, is written down once. Landmarks are sound and no more: what has none is looked for in the
 // text, so they cost or save time and decide nothing.
 use reader::short::skip_short;
+use rules::limits::LONGEST_FORMAT;
 use rules::scalars::widened;
 use syntax::ends::ClauseEnd;
 use syntax::ends::Shape;
@@ -242,7 +243,7 @@ pub fn mark_text(text: &[u8], marks: &mut [u16])
     requires { ⌜ Landmarks (now text) (now marks) ⌝ }
     ensures { λ r. ⌜ Marks (now (text .entry)) (now (marks .entry)) (now (marks .exit)) ⌝ }
 {
-    if 4096 < text.len() {
+    if LONGEST_FORMAT < text.len() {
         return;
     }
     let mut p: usize = 0;

@@ -6,6 +6,8 @@ use crate::meeting::meet;
 use reader::short::skip_short;
 use rules::Verdict;
 use rules::codes::LONG_FORMAT;
+use rules::limits::DEEPEST;
+use rules::limits::LONGEST_FORMAT;
 ghost use mathlib.Core.Path.{_≡_};
 ghost use Rattle.rules.specs.Text.{textVerdict};
 ghost use Rattle.syntax.specs.Checks.{Checks};
@@ -62,13 +64,13 @@ fn check_from(text: &[u8], start: usize, room: usize, around: Around, opened: us
 pub fn check_text(text: &[u8]) -> Verdict
     ensures { λ r. ⌜ r ≡ textVerdict (now (text .entry)) ⌝ }
 {
-    if 4096 < text.len() {
+    if LONGEST_FORMAT < text.len() {
         return Verdict::Refused {
             code: LONG_FORMAT,
-            position: 4096,
+            position: LONGEST_FORMAT,
         };
     }
-    match check_from(text, 0, 8, Around::Top, 0) {
+    match check_from(text, 0, DEEPEST, Around::Top, 0) {
         Checked::Ended(v) => v,
         Checked::Closed(_) => Verdict::Accepted,
     }

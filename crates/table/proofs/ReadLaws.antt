@@ -20,7 +20,8 @@ other-kinds pool zero high low a b c d = absurd (a refl)
 other-kinds pool (suc zero) high low a b c d = absurd (b refl)
 other-kinds pool (suc (suc zero)) high low a b c d = absurd (c refl)
 other-kinds pool (suc (suc (suc zero))) high low a b c d = absurd (d refl)
-other-kinds pool (suc (suc (suc (suc k)))) high low a b c d = refl
+other-kinds pool (suc (suc (suc (suc zero)))) high low a b c d = refl
+other-kinds pool (suc (suc (suc (suc (suc k))))) high low a b c d = refl
 
 -- a string's bytes lie in the table from start on, where the pool begins
 same-part : (t : List ℕ) (place high low : ℕ) → take ((place + high + low) - (place + high)) (drop (place + high) t) ≡ take low (drop high (drop place t))

@@ -1,4 +1,7 @@
 // What may be asked of a vet.
+use rules::limits::LAST_KIND;
+use rules::limits::LONGEST_STRING;
+use rules::limits::MOST_ENTRIES;
 ghost use mathlib.Core.Path.{_≡_};
 ghost use Rattle.vet_rules.specs.Vet.{knownTags, mayAsk};
 
@@ -8,7 +11,7 @@ fn are_known(kinds: &[u8]) -> bool
 {
     let mut i = 0;
     while i < kinds.len() {
-        if 4 < kinds[i] {
+        if LAST_KIND < kinds[i] {
             return false;
         }
         i += 1;
@@ -20,11 +23,11 @@ fn are_known(kinds: &[u8]) -> bool
 pub fn may_ask(kinds: &[u8], longest: usize) -> bool
     ensures { λ r. ⌜ r ≡ mayAsk (now (kinds .entry)) longest ⌝ }
 {
-    if 1024 < kinds.len() {
+    if MOST_ENTRIES < kinds.len() {
         return false;
     }
     if are_known(kinds) {
-        return longest <= 4096;
+        return longest <= LONGEST_STRING;
     }
     false
 }

@@ -116,7 +116,8 @@ spans longest false (suc (suc zero)) a = (omega arith, tt)
 spans longest true (suc (suc zero)) a = (omega arith, (omega arith, tt))
 spans longest false (suc (suc (suc zero))) a = (omega arith, tt)
 spans longest true (suc (suc (suc zero))) a = (omega arith, tt)
-spans longest q (suc (suc (suc (suc k)))) a = absurd (omega arith)
+spans longest q (suc (suc (suc (suc zero)))) a = absurd (omega arith)
+spans longest q (suc (suc (suc (suc (suc k))))) a = absurd (omega arith)
 
 -- an entry whose piece has the greatest length
 abbrev pub Filling : ℕ → ℕ → Form → Bool → Bool → Settings → ℕ → Type 0
@@ -267,7 +268,8 @@ module _ (n longest : ℕ) (hn : n ≤ 1024) (hl : longest ≤ 4096) where
   reached true (suc (suc (suc zero))) size (inl i) =
       sized true 3 (suc (suc (size - 2))) size (omega arith) (a-quoted (size - 2) (omega arith))
   reached true (suc (suc (suc zero))) size (inr i) = absurd i
-  reached q (suc (suc (suc (suc k)))) size i = absurd i
+  reached q (suc (suc (suc (suc zero)))) size i = absurd i
+  reached q (suc (suc (suc (suc (suc k))))) size i = absurd i
 
   -- any entry of a kind
   pub any : (k : ℕ) → k ≤ 4 → Chosen n longest k (anEntry n k)

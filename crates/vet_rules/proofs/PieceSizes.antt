@@ -48,7 +48,8 @@ module _ (w p m : ℕ) (hw : w ≤ 4096) (hp : 1 ≤ p) (kp : p ≤ 4096) (hm : 
       larger-most _ 0 mostPiece (greatest-most _ _ (omega arith)) (omega arith)
   over-most longest true (suc (suc (suc zero))) h =
       larger-most _ 0 mostPiece (greatest-most _ _ (omega arith)) (omega arith)
-  over-most longest q (suc (suc (suc (suc k)))) h = omega arith
+  over-most longest q (suc (suc (suc (suc zero)))) h = omega arith
+  over-most longest q (suc (suc (suc (suc (suc k))))) h = omega arith
 
 -- numerals: 64 digits, 63 separators and a sign
 module _ (base : ℕ) (s : Settings) (hb : 2 ≤ base) (hw : 1 ≤ orElse (s .fourth) 3) where

@@ -43,7 +43,8 @@ value-allowed longest pool zero high low c hh hl s = tt
 value-allowed longest pool (suc zero) high low c hh hl s = signed-range (high * 4294967296 + low) (omega arith)
 value-allowed longest pool (suc (suc zero)) high low c hh hl s = omega (arith, c refl .1)
 value-allowed longest pool (suc (suc (suc zero))) high low c hh hl s = s
-value-allowed longest pool (suc (suc (suc (suc k)))) high low c hh hl s = tt
+value-allowed longest pool (suc (suc (suc (suc zero)))) high low c hh hl s = tt
+value-allowed longest pool (suc (suc (suc (suc (suc k))))) high low c hh hl s = tt
 
 -- the kind of a value is the tag of its entry
 pub value-kind : (pool : List ℕ) (tag high low : ℕ) → tag ≤ 4 → kindOf (valueBy pool tag high low) ≡ tag
@@ -52,7 +53,8 @@ value-kind pool zero high low h = refl
 value-kind pool (suc zero) high low h = refl
 value-kind pool (suc (suc zero)) high low h = refl
 value-kind pool (suc (suc (suc zero))) high low h = refl
-value-kind pool (suc (suc (suc (suc k)))) high low h = omega arith
+value-kind pool (suc (suc (suc (suc zero)))) high low h = omega arith
+value-kind pool (suc (suc (suc (suc (suc k))))) high low h = omega arith
 
 module _ {kinds : List ℕ} {longest : ℕ} {table : List ℕ} (s : Suits kinds longest table) where
   an-entry : (i : ℕ) → i < length kinds → i < entryCount table

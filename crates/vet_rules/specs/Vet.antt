@@ -4,6 +4,7 @@ use mathlib.Core.Bool.{Bool, true}
 use mathlib.Core.List.{List, [], _∷_}
 use lib.Dec.{leb}
 use lib.ListN.{length}
+use Rattle.rules.specs.Table.{lastKind}
 use Rattle.rules.specs.Choice.{both}
 use Rattle.rules.specs.Text.{sequenceOf, textVerdict, provided}
 use Rattle.rules.specs.declared.Verdict.{Verdict}
@@ -16,7 +17,7 @@ use Rattle.vet_rules.specs.declared.Vetted.{Vetted}
 -- "vet: more than 1,024 kinds, unknown tag, L above 4,096", at 0
 abbrev pub knownTags : List ℕ → Bool
 knownTags [] = true
-knownTags (k ∷ ks) = both (leb k 4) (knownTags ks)
+knownTags (k ∷ ks) = both (leb k lastKind) (knownTags ks)
 
 abbrev pub mayAsk : List ℕ → ℕ → Bool
 mayAsk kinds longest = both (leb (length kinds) 1024) (both (knownTags kinds) (leb longest 4096))
@@ -24,7 +25,7 @@ mayAsk kinds longest = both (leb (length kinds) 1024) (both (knownTags kinds) (l
 -- what that comes to: at most 1,024 kinds, all known, and a length of at most 4,096
 pub record Asked (kinds : List ℕ) (longest : ℕ) : Type 0 where
   pub many : length kinds ≤ 1024
-  pub tags : (i : ℕ) → i < length kinds → kindIn kinds i ≤ 4
+  pub tags : (i : ℕ) → i < length kinds → kindIn kinds i ≤ lastKind
   pub long : longest ≤ 4096
 
 unfoldable pub askedVerdict : List ℕ → ℕ → Verdict

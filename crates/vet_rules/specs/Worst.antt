@@ -6,6 +6,7 @@ use lib.Dec.{ltb, leb}
 use lib.IntN.{ℤ, negsuc}
 use lib.ListN.{length}
 use Rattle.rules.specs.Number.{digitsOf}
+use Rattle.rules.specs.Table.{Kind, aBoolean, anInteger, aCharacter, aString, aList, noKind, kindTagged}
 use Rattle.rules.specs.Piece.{orElse, timesPadded, paddingOf, numeralOf}
 use Rattle.rules.specs.declared.Form.{Form}
 use Rattle.rules.specs.declared.Form.the-variants.{Object, Numeral, Glyph, Plural, Repeat, Fold}
@@ -42,17 +43,21 @@ pub record Span : Type 0 where
 abbrev pub span : ℕ → ℕ → Span
 span a b = record { least = a; most = b }
 
--- the lengths that the texts of a kind have before padding, by the kind's tag, and with true for `~s`: `#t` and `#f`;
--- 0 to the least integer; a character's byte, or `#\` and a name of 1 to 7 or 9 bytes; a string of at most `longest`
--- bytes, or the same in quotes, where each byte may have a backslash. A list has none
+-- the lengths that the texts of a kind have before padding, and with true for `~s`: `#t` and `#f`; 0 to the least integer;
+-- a character's byte, or `#\` and a name of 1 to 7 or 9 bytes; a string of at most `longest` bytes, or the same in quotes,
+-- where each byte may have a backslash. A list has none
+abbrev pub spansBy : ℕ → Bool → Kind → List Span
+spansBy longest quoted aBoolean = span 2 2 ∷ []
+spansBy longest quoted anInteger = span 1 20 ∷ []
+spansBy longest false aCharacter = span 1 1 ∷ []
+spansBy longest true aCharacter = span 3 9 ∷ span 11 11 ∷ []
+spansBy longest false aString = span 0 longest ∷ []
+spansBy longest true aString = span 2 (2 * longest + 2) ∷ []
+spansBy longest quoted aList = []
+spansBy longest quoted noKind = []
+
 unfoldable pub spansOf : ℕ → Bool → ℕ → List Span
-spansOf longest quoted zero = span 2 2 ∷ []
-spansOf longest quoted (suc zero) = span 1 20 ∷ []
-spansOf longest false (suc (suc zero)) = span 1 1 ∷ []
-spansOf longest true (suc (suc zero)) = span 3 9 ∷ span 11 11 ∷ []
-spansOf longest false (suc (suc (suc zero))) = span 0 longest ∷ []
-spansOf longest true (suc (suc (suc zero))) = span 2 (2 * longest + 2) ∷ []
-spansOf longest quoted (suc (suc (suc (suc k)))) = []
+spansOf longest quoted kind = spansBy longest quoted (kindTagged kind)
 
 abbrev pub greatestOver : ℕ → ℕ → ℕ → List Span → ℕ
 greatestOver minwidth padinc minpad [] = 0

@@ -17,7 +17,6 @@ ghost use lib.ListN.{length};
 ghost use Rattle.nesting.specs.Nest.{handLies, blockLies, allLie};
 ghost use Rattle.windows.specs.States.{hereOf, restLies, isSound};
 
-// How many steps the calls of a line do at most, all together.
 // No piece has more padding on one side.
 const MOST_PADDING: usize = 65536;
 
