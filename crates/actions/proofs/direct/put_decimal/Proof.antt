@@ -1,4 +1,4 @@
--- `acting::direct::put_decimal` meets its contract: padding, the sign and the digits, or a refusal for want of room.
+-- `actions::direct::put_decimal` meets its contract: padding, the sign and the digits, or a refusal for want of room.
 -- Assumes nothing.
 use Prim.Native.Nat.{ℕ, _+_, _-_}
 use mathlib.Core.Path.{_≡_, ap, _∙_}

@@ -1,4 +1,4 @@
--- `acting::direct::put_run` meets its contract: the byte is repeated, or a refusal for want of room. Assumes nothing.
+-- `actions::direct::put_run` meets its contract: the byte is repeated, or a refusal for want of room. Assumes nothing.
 use mathlib.Core.Path.{sym}
 use borrow.Author.Needs.{needs}
 use lib.ListN.{replicate, length-replicate}

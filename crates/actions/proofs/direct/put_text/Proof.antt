@@ -1,4 +1,4 @@
--- `acting::direct::put_text` meets its contract: the string and then spaces, or a refusal for want of room.
+-- `actions::direct::put_text` meets its contract: the string and then spaces, or a refusal for want of room.
 -- Assumes nothing.
 use borrow.Author.Needs.{needs}
 use Rattle.actions.proofs.DirectLaws.{direct-put, direct-full, text-length, text-put}

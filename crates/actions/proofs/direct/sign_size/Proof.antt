@@ -1,4 +1,4 @@
--- `acting::direct::sign_size` meets its contract: only a negative number has a sign. Assumes nothing.
+-- `actions::direct::sign_size` meets its contract: only a negative number has a sign. Assumes nothing.
 use mathlib.Core.Path.{sym, _∙_}
 use native.Mathlib.Omega.{arith}
 use mir.Syntax.{w64}

@@ -1,4 +1,4 @@
--- `working::argument_at` meets its contract: the argument's entry lies in the table, and the view has its value there.
+-- `parameters::argument_at` meets its contract: the argument's entry lies in the table, and the view has its value there.
 -- Assumes nothing.
 use Prim.Native.Nat.{_+_}
 use native.Mathlib.Omega.{arith}

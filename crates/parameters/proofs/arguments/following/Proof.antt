@@ -1,4 +1,4 @@
--- `working::following` meets its contract. Assumes nothing.
+-- `parameters::following` meets its contract. Assumes nothing.
 use native.Mathlib.Omega.{arith}
 use Rattle.parameters.proofs.arguments.following.Statement.{statement}
 use Rattle.parameters.proofs.arguments.following.Tie as tie

@@ -1,4 +1,4 @@
--- `working::remaining` meets its contract. Assumes nothing.
+-- `parameters::remaining` meets its contract. Assumes nothing.
 use native.Mathlib.Omega.{arith}
 use Rattle.parameters.proofs.arguments.remaining.Statement.{statement}
 use Rattle.parameters.proofs.arguments.remaining.Tie as tie

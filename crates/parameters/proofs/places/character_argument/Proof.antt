@@ -1,4 +1,4 @@
--- `working::character_argument` meets its contract: each way out is a law of `v` in a character place (WorkLaws).
+-- `parameters::character_argument` meets its contract: each way out is a law of `v` in a character place (WorkLaws).
 -- Assumes nothing.
 use native.Mathlib.Omega.{arith}
 use borrow.Author.Needs.{needs}

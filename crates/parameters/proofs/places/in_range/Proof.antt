@@ -1,4 +1,4 @@
--- `working::in_range` meets its contract: the two tests are the definition's. Assumes nothing.
+-- `parameters::in_range` meets its contract: the two tests are the definition's. Assumes nothing.
 use borrow.Author.Tests.{le-leb, lt-leb}
 use Rattle.parameters.proofs.places.in_range.Statement.{statement}
 use Rattle.parameters.proofs.places.in_range.Tie as tie

@@ -1,4 +1,4 @@
--- `working::number_argument` meets its contract: each way out is a law of `v` in a number place (WorkLaws).
+-- `parameters::number_argument` meets its contract: each way out is a law of `v` in a number place (WorkLaws).
 -- Assumes nothing.
 use mathlib.Core.Path.{sym, _∙_}
 use native.Mathlib.Omega.{arith}

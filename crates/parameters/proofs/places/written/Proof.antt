@@ -1,4 +1,4 @@
--- `working::written` meets its contract: each arm is a law of how the parameter is written (WorkLaws). Assumes nothing.
+-- `parameters::written` meets its contract: each arm is a law of how the parameter is written (WorkLaws). Assumes nothing.
 use borrow.Author.Needs.{needs}
 use Rattle.parameters.proofs.WorkLaws.{default-written, number-written, byte-written, next-not-written, remaining-not-written}
 use Rattle.parameters.proofs.places.written.Statement.{statement}
