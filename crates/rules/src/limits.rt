@@ -1,4 +1,5 @@
 // What 01 sets as greatest.
+
 // The bytes of a format.
 pub const LONGEST_FORMAT: usize = 4096;
 
