@@ -14,9 +14,10 @@ import sys
 TOKEN = re.compile(r"[^\s(){}\[\]⟨⟩,;.:\"`|@]+")
 DECLARED = re.compile(
     r"\s*(?:(?:pub|abbrev|unfoldable)\s+)*(?:(data|record)\s+)?([^\s(){}:]+)\s*(?:\([^)]*\)\s*|\{[^}]*\}\s*)*:(?!:)")
-# a type in lower case, a value in upper case, and a field named as a definition that its record cites
-BY_HAND = {"performs": "Performed", "AsEnded": "as_ended", "kind-of": "kind_agrees",
-    "string-of": "its_string"}
+# a type in lower case, a value in upper case, a field named as a definition that its record cites, and variables
+BY_HAND = {"performs": "PerformedHere", "AsEnded": "as_ended", "kind-of": "kind_agrees", "string-of": "its_string"}
+# a variable that port.py left with the name that a definition gets
+IN_FILE = {"crates/table/proofs/CheckLaws.antt": {"is_right": "test_is"}}
 
 
 def files(top, ends):
@@ -76,7 +77,7 @@ def names(top):
                     if kind == "code":
                         words.update(TOKEN.findall(text))
                         for word in TOKEN.findall(text):
-                            if path.endswith(".antt") and (is_camel(word) or "-" in word and not whole and word[0].islower()):
+                            if is_camel(word) and "b'" not in word or "-" in word and path.endswith(".antt") and not whole and word[0].islower():
                                 used.setdefault(word, path)
                 if whole or path.endswith(".rt") or line.lstrip().startswith(("--", "use ", "pub use ", "let ")):
                     continue
@@ -117,9 +118,11 @@ def mapping(top):
     return new, fields, declared
 
 
-def respell(text, kind, new, fields, local, in_source, proof):
+def respell(text, kind, new, fields, local, own, in_source, proof):
     def put(m):
         word = m.group(0)
+        if word in own and text[m.start() - 1:m.start()] != ".":
+            return own[word]
         if word in local or word not in new or (in_source and not (is_camel(word) or "-" in word)):
             return word
         if kind == "comment":
@@ -147,8 +150,9 @@ def main(argv):
         local = set()
         if path.endswith("Proof.antt"):
             local = {m.group(2) for m in map(DECLARED.match, lines) if m and "-" in m.group(2)}
+        own = IN_FILE.get(path, {})
         comment = "//" if path.endswith(".rt") else "--"
-        out = ["".join(t if k == "string" else respell(t, k, new, fields, local, comment == "//", path.endswith("Proof.antt")) for k, t in pieces(line, comment))
+        out = ["".join(t if k == "string" else respell(t, k, new, fields, local, own, comment == "//", path.endswith("Proof.antt")) for k, t in pieces(line, comment))
                for line in lines]
         if out != lines:
             with open(path, "w", encoding="utf-8") as f:

@@ -2,7 +2,7 @@
 ghost use Rattle.std.specs.Prelude.{◌≡◌, List, ℕ, ◌≤◌, ◌<◌, length};
 ghost use Rattle.rules.specs.Directive.{FormRight};
 ghost use Rattle.rules.specs.Table.{Value, view_of};
-ghost use Rattle.rules.specs.Working.{WellSet, source_of as sourceIn};
+ghost use Rattle.rules.specs.Working.{WellSet, source_of as source_in};
 ghost use Rattle.rules.specs.Act.{jump_to, jump as jumping};
 ghost use Rattle.rules.specs.Run.{put, joined, write_from, item_acts};
 ghost use Rattle.rules.specs.declared.Item.TheVariants.{Written};
@@ -63,7 +63,7 @@ pub fn write_form(
     requires in_hand { InHand table.now hand }
     requires at_in_bounds { spot.at ≤ length out.old }
     requires i_le_count { i.0 ≤ hand.count }
-    ensures writes { (d : Directive) → d.colon ≡ colon → d.atsign ≡ atsign → Performed (λ on. write_from (view_of table.now) spot.position spot.left form d (hand_at hand 0) settings i.0 on (sourceIn form colon settings)) hand.count spot out.old out.new result }
+    ensures writes { (d : Directive) → d.colon ≡ colon → d.atsign ≡ atsign → Performed (λ on. write_from (view_of table.now) spot.position spot.left form d (hand_at hand 0) settings i.0 on (source_in form colon settings)) hand.count spot out.old out.new result }
     ensures untouched { Untouched spot i.0 out.old out.new result }
 {
     let planned = plan_settled(form, colon, settings, table, hand, i);

@@ -4,7 +4,7 @@ ghost use Rattle.std.specs.Prelude.{◌≡◌, List, ℕ, ◌≤◌};
 ghost use Rattle.rules.specs.Directive.{FormRight};
 ghost use Rattle.rules.specs.Table.{meant};
 ghost use Rattle.rules.specs.Piece.{kind_of};
-ghost use Rattle.rules.specs.Working.{WellSet, glyph_source, source_by, source_of as sourceIn};
+ghost use Rattle.rules.specs.Working.{WellSet, glyph_source, source_by, source_of as source_in};
 ghost use Rattle.parameters.specs.Settling.{InHand};
 ghost use Rattle.actions.specs.Planning.{source_as, SourceReachable, Takes, Coded, OriginRight, PlansSettled, Plans};
 
@@ -15,7 +15,7 @@ use rules::codes::{BAD_PARAMETER, NO_ARGUMENT, WRONG_KIND};
 use rules::{Argument, ArgumentPosition, Code, Directive, Form, Origin, Setting, Settings};
 
 // Where the argument of a directive comes from: the next one, the one before it, or none is taken and this stands in.
-#[derive(Drop)]
+#[derive(Clone, Copy)]
 enum Source {
     Own,
     Back,
@@ -56,7 +56,7 @@ fn source_by(origin: Origin, colon: bool, settings: Settings) -> Source
 
 fn source_of(form: Form, colon: bool, settings: Settings) -> Source
     requires { WellSet form settings }
-    ensures by_index { (t : List ℕ) → source_as t result ≡ sourceIn form colon settings }
+    ensures by_index { (t : List ℕ) → source_as t result ≡ source_in form colon settings }
     ensures by_index_2 { (t : List ℕ) → SourceReachable t result }
 {
     let row = form_row(form);
@@ -65,7 +65,7 @@ fn source_of(form: Form, colon: bool, settings: Settings) -> Source
 }
 
 // The argument that a directive takes, with the next one after it; none where 01 gives code 6.
-#[derive(Drop)]
+#[derive(Clone, Copy)]
 pub enum Taken {
     None,
     Is {
@@ -117,7 +117,7 @@ fn kind_of(argument: Argument) -> usize
 }
 
 // What a directive shows: its settings, its argument and the next one after it; or the code that refuses it.
-#[derive(Drop)]
+#[derive(Clone, Copy)]
 pub enum Planned {
     Shows {
         settings: Settings,

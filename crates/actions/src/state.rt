@@ -6,7 +6,7 @@ use parameters::Hand;
 use rules::ArgumentPosition;
 
 // How the run of a sequence stops: at its end, at an escape that leaves it, or refused.
-#[derive(Drop)]
+#[derive(Clone, Copy)]
 pub enum Stop {
     Ended,
     Escaped,
@@ -15,7 +15,7 @@ pub enum Stop {
 
 // A run that stopped: the next argument, the steps that are left and the end of what is written, and the place of the
 // text where it goes on or ended.
-#[derive(Drop)]
+#[derive(Clone, Copy)]
 pub struct Ran {
     pub stop: Stop,
     pub next: ArgumentPosition,
@@ -26,7 +26,7 @@ pub struct Ran {
 
 // A directive that is met or begun: its position, the place after it, the steps that are left and the end of what is
 // written.
-#[derive(Drop)]
+#[derive(Clone, Copy)]
 pub struct Spot {
     pub position: usize,
     pub place: usize,
@@ -36,7 +36,7 @@ pub struct Spot {
 
 // What a run goes on with: the arguments in hand with the next of them, the steps that are left and the end of what is
 // written.
-#[derive(Drop)]
+#[derive(Clone, Copy)]
 pub struct Stand {
     pub hand: Hand,
     pub next: ArgumentPosition,

@@ -1,6 +1,6 @@
 // Where the clause stands that a conditional runs.
 ghost use Rattle.std.specs.Prelude.{◌≡◌, false, cond, ℕ, ◌-◌, ◌≤◌, leb, length};
-ghost use Rattle.rules.specs.Choice.{both as bothOf};
+ghost use Rattle.rules.specs.Choice.{both as both_of};
 ghost use Rattle.rules.specs.Text.{Sequence, as_clauses, levels_at};
 ghost use Rattle.syntax.specs.Ends.{AfterBlock};
 ghost use Rattle.parameters.specs.Settling.{InHand};
@@ -16,7 +16,7 @@ use rules::{ArgumentPosition, Directive, Settings};
 use syntax::ends::{ClauseEnd, after_block, next_clause};
 
 // A clause that is looked for: the place of its first byte, or that of the last clause where there is none such.
-#[derive(Drop)]
+#[derive(Clone, Copy)]
 enum Found {
     At(usize),
     Nothing(usize),
@@ -24,7 +24,7 @@ enum Found {
 
 // The clause that a conditional runs; or none, and a place in the block from which its end is looked for; each with the
 // next argument then; or the code that refuses it.
-#[derive(Drop)]
+#[derive(Clone, Copy)]
 pub enum Chosen {
     At {
         place: usize,
@@ -53,7 +53,7 @@ fn number_or_last(n: usize, counted: bool) -> usize {
 
 // The clause at z, the last of its block: it runs as the fallback, or no clause does.
 fn fall_back(z: usize, fallback: bool, colon: bool) -> Found
-    ensures { result ≡ cond (bothOf fallback colon) (found_at z) (found_nothing z) }
+    ensures { result ≡ cond (both_of fallback colon) (found_at z) (found_nothing z) }
 {
     if both(fallback, colon) {
         return Found::At(z);

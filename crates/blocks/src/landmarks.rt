@@ -33,7 +33,7 @@ const LONG: usize = 208;
 
 // A clause, by the place of its block's inside, its number and its own place, whether a ~:; stands before it, and, if it
 // is the last, the place after its block; else 0.
-#[derive(Drop)]
+#[derive(Clone, Copy)]
 pub struct Landmark {
     pub inside: usize,
     pub number: usize,

@@ -44,7 +44,7 @@ pub fn is_over(passes: Setting, next: ArgumentPosition, hand: Hand) -> bool
 }
 
 // The entries of a list as the arguments in hand.
-#[derive(Drop)]
+#[derive(Clone, Copy)]
 enum Listed {
     Is(Hand),
     Not,
@@ -63,7 +63,7 @@ fn list_of(argument: Argument) -> Listed
 }
 
 // What an iteration goes over: entries in hand, from the first of these on; or the code that refuses it.
-#[derive(Drop)]
+#[derive(Clone, Copy)]
 pub enum Over {
     Is { hand: Hand, first: ArgumentPosition },
     Wrong(u32),

@@ -13,7 +13,7 @@ use rules::{Argument, ArgumentPosition, Directive, Setting, Settings};
 
 // A clause by its number, if it is counted, and else, with a fallback, the one after a last ~:;; no clause; each with
 // the next argument then; or the code that refuses the conditional.
-#[derive(Drop)]
+#[derive(Clone, Copy)]
 pub enum Wanted {
     Clause {
         number: usize,

@@ -1,4 +1,5 @@
 // An input that comes in chunks: its lines, and their answers.
+#![tactic(auto)]
 ghost use Rattle.std.specs.Prelude.{◌≡◌, [], ◌∷◌, ◌++◌, ◌+◌, ◌≤◌, ◌<◌, min, length, take, drop};
 ghost use Rattle.lines.specs.Front.{AtFront};
 ghost use Rattle.chunks.specs.Cutting.{line_in, last_line};
@@ -7,7 +8,7 @@ ghost use Rattle.chunks.specs.Feeding.{Answered, Taken, FarEnough};
 use lines::answer_with;
 
 // How much of a chunk is taken, how much is held of the line that it ends in, and where the answers end.
-#[derive(Drop)]
+#[derive(Clone, Copy)]
 pub struct Fed {
     pub taken: usize,
     pub held: usize,

@@ -2,7 +2,7 @@
 ghost use Rattle.std.specs.Prelude.{◌≡◌, true, leb};
 ghost use Rattle.rules.specs.Choice.{both};
 ghost use Rattle.rules.specs.Directive.{no_parameters};
-ghost use Rattle.rules.specs.Rows.{takes as takesOf, suits as suitsIn, fit_into, row_in, places_in, well_written};
+ghost use Rattle.rules.specs.Rows.{takes as takes_of, suits as suits_in, fit_into, row_in, places_in, well_written};
 ghost use Rattle.rules.specs.declared.Parameter.TheVariants.{Default};
 ghost use Rattle.rules.specs.declared.Place.TheVariants.{Empty, Number as NumberPlace, Character as CharacterPlace};
 
@@ -11,7 +11,7 @@ use rules::scalars::{both, either, not};
 use rules::{Directive, Modifiers, Parameter, Parameters, Place, Places};
 
 fn suits_empty(x: Parameter) -> bool
-    ensures { result ≡ suitsIn Empty x }
+    ensures { result ≡ suits_in Empty x }
 {
     match x {
         Parameter::Default => true,
@@ -23,7 +23,7 @@ fn suits_empty(x: Parameter) -> bool
 }
 
 fn suits_number(x: Parameter, least: u16, most: u16) -> bool
-    ensures { result ≡ suitsIn (NumberPlace least most) x }
+    ensures { result ≡ suits_in (NumberPlace least most) x }
 {
     match x {
         Parameter::Default => true,
@@ -35,7 +35,7 @@ fn suits_number(x: Parameter, least: u16, most: u16) -> bool
 }
 
 fn suits_character(x: Parameter) -> bool
-    ensures { result ≡ suitsIn CharacterPlace x }
+    ensures { result ≡ suits_in CharacterPlace x }
 {
     match x {
         Parameter::Default => true,
@@ -47,7 +47,7 @@ fn suits_character(x: Parameter) -> bool
 }
 
 fn suits(place: Place, x: Parameter) -> bool
-    ensures { result ≡ suitsIn place x }
+    ensures { result ≡ suits_in place x }
 {
     match place {
         Place::Empty => suits_empty(x),
@@ -77,7 +77,7 @@ fn fits_into(places: Places, ps: Parameters) -> bool
 }
 
 fn takes(modifiers: Modifiers, colon: bool, atsign: bool) -> bool
-    ensures { result ≡ takesOf modifiers colon atsign }
+    ensures { result ≡ takes_of modifiers colon atsign }
 {
     match modifiers {
         Modifiers::Neither => not(either(colon, atsign)),
@@ -116,7 +116,7 @@ pub fn is_bare(ps: Parameters) -> bool
 
 // No modifier is wrong.
 fn takes_modifiers(d: Directive) -> bool
-    ensures { result ≡ takesOf (row_in d).modifiers d.colon d.atsign }
+    ensures { result ≡ takes_of (row_in d).modifiers d.colon d.atsign }
 {
     let row = row_in(d);
     let modifiers = row.modifiers;

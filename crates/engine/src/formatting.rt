@@ -16,7 +16,7 @@ use syntax::text::check_text;
 use table::{argument_count, check_table};
 
 // The answer of a call beside the text: 01's code, the position, the steps done and the bytes written.
-#[derive(Drop)]
+#[derive(Clone, Copy)]
 pub struct Outcome {
     pub code: u32,
     pub position: usize,

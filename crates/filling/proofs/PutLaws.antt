@@ -137,10 +137,10 @@ module _ (t table : List ℕ) (d : Directive) (h : Here) (given at : ℕ) (z : h
   abbrev spot : Spot
   spot = record { position = h.place; place = d.after; left = h.left - 1; at = 0 }
 
-  abbrev Performed : Ran → Type 0
-  Performed r = Performed (λ on. item_acts (view_of table) h.place (h.left - 1) (Written d) (hand_at h.hand h.next.0) on) h.hand.count spot [] [] r
+  abbrev PerformedHere : Ran → Type 0
+  PerformedHere r = Performed (λ on. item_acts (view_of table) h.place (h.left - 1) (Written d) (hand_at h.hand h.next.0) on) h.hand.count spot [] [] r
 
-  module _ {r : Ran} (u : Performed r) where
+  module _ {r : Ran} (u : PerformedHere r) where
     comes_to : (o : Nest) → ActsAt (levels_at t) h.place h.place (Written d) d.after
         → comes t table h o ≡ onward (λ l j. run (view_of table) l (rest_at (levels_at t) d.after) (frames_of (levels_at t) o o.depth) (hand_at h.hand j)) (λ l j. refused 0 0 0) r.stop r.left r.next.0
     comes_to o a =

@@ -18,7 +18,7 @@ use pieces::{Content, Piece};
 use rules::{ArgumentPosition, Code, Directive, Form};
 
 // How far a step came: the run goes on, it is over with this code and position, or the next byte has no room.
-#[derive(Drop)]
+#[derive(Clone, Copy)]
 pub enum Reach {
     On,
     Over { code: u32, position: usize },
@@ -27,7 +27,7 @@ pub enum Reach {
 
 // Where the run stands after a step: the bytes of what comes from there that are given already, what is left of a
 // string in quotes that comes before it, and the end of what is written.
-#[derive(Drop)]
+#[derive(Clone, Copy)]
 pub struct Put {
     pub reach: Reach,
     pub here: Here,

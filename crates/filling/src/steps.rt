@@ -24,7 +24,7 @@ use rules::{Code, Directive, Item};
 use stepping::short::run_short;
 
 // Where a step left the run and its open blocks.
-#[derive(Drop)]
+#[derive(Clone, Copy)]
 pub struct Step {
     pub reach: Reach,
     pub here: Here,

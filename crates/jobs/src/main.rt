@@ -1,4 +1,5 @@
 // Runs jobs: answers each line of standard input on standard output, in order, until the input ends.
+#![tactic(auto)]
 ghost use Rattle.std.specs.Prelude.{◌≡◌, false, ◌≤◌, length, take};
 ghost use Rattle.chunks.specs.Cutting.{begun_line};
 ghost use Rattle.chunks.specs.Feeding.{Holds};

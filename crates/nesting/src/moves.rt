@@ -24,7 +24,7 @@ use rules::{ArgumentPosition, Directive, Setting, Settings};
 
 // Where a run stands: the place of the text where it goes on, the steps that are left, and the arguments in hand with
 // the next of them.
-#[derive(Drop)]
+#[derive(Clone, Copy)]
 pub struct Here {
     pub place: usize,
     pub left: usize,
@@ -33,13 +33,13 @@ pub struct Here {
 }
 
 // Whether a run goes on, or is over with this code and position; 0 and 0 is its end.
-#[derive(Drop)]
+#[derive(Clone, Copy)]
 pub enum How {
     On,
     Over { code: u32, position: usize },
 }
 
-#[derive(Drop)]
+#[derive(Clone, Copy)]
 pub struct Moved {
     pub how: How,
     pub here: Here,

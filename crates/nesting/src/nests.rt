@@ -19,7 +19,7 @@ const UNLIMITED: u16 = 65535;
 
 // An open block: what it is, the place of its opener and that of its inside, the passes left, and the arguments in hand
 // outside it.
-#[derive(Drop)]
+#[derive(Clone, Copy)]
 pub struct Block {
     pub kind: usize,
     pub place: usize,
@@ -31,7 +31,7 @@ pub struct Block {
 
 // The open blocks: the first `depth` of each array. Sixteen bits hold every place of a text, entry and limit of 01.
 #[repr(C)]
-#[derive(Drop)]
+#[derive(Clone, Copy)]
 pub struct Nest {
     pub depth: usize,
     pub kinds: [u16; 8],

@@ -1,4 +1,6 @@
 // The text of an integer: its sign and magnitude, its digits in a base, and digits in groups.
+#![tactic(auto)]
+
 pub mod bases; // digits in any base
 pub mod decimal; // digits in base ten
 

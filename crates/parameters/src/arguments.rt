@@ -8,7 +8,7 @@ use rules::{Argument, ArgumentPosition, EntryIndex};
 use table::{entry_of, read_argument};
 
 // The arguments in hand: the entry of the first, and how many there are.
-#[derive(Drop)]
+#[derive(Clone, Copy)]
 pub struct Hand {
     pub first: EntryIndex,
     pub count: usize,

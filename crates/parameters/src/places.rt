@@ -12,7 +12,7 @@ use rules::scalars::{wide, widened};
 use rules::{Argument, ArgumentPosition, Parameter, Place, Setting};
 
 // A parameter that is worked out, with the next argument after it; or the code that refuses it.
-#[derive(Drop)]
+#[derive(Clone, Copy)]
 pub enum WorkedOut {
     Is {
         setting: Setting,

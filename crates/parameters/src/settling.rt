@@ -10,7 +10,7 @@ use directives::rows::row_in;
 use rules::{ArgumentPosition, Directive, Parameters, Places, Setting, Settings};
 
 // The parameters of a directive, worked out, with the next argument after them; or the code that refuses them.
-#[derive(Drop)]
+#[derive(Clone, Copy)]
 pub enum SettledOut {
     Is {
         settings: Settings,

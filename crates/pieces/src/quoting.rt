@@ -59,7 +59,7 @@ fn quote_whole(src: &[u8], out: &mut [u8])
 }
 
 // Where a place of the escaped text falls: at a byte of the string, whose backslash is gone already or not.
-#[derive(Drop)]
+#[derive(Clone, Copy)]
 struct Landing {
     at: usize,
     gone: bool,
@@ -91,7 +91,7 @@ fn find_landing(src: &[u8], from: usize) -> Landing
 }
 
 // The string's next byte, whose backslash is gone already or not, and the place after what is written.
-#[derive(Drop)]
+#[derive(Clone, Copy)]
 pub struct Stand {
     pub next: usize,
     pub gone: bool,

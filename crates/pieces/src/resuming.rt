@@ -11,7 +11,7 @@ use table::string_part;
 // What is left of a piece, as restOf in specs/Rest has it. But for the place of the string its numbers may be any: no
 // sum is made of them.
 #[repr(C)]
-#[derive(Drop)]
+#[derive(Clone, Copy)]
 pub struct QuoteRest {
     pub stage: usize,
     pub before: usize,
@@ -22,7 +22,7 @@ pub struct QuoteRest {
 }
 
 // What is left now, and the place after what is written.
-#[derive(Drop)]
+#[derive(Clone, Copy)]
 pub struct RestWritten {
     pub rest: QuoteRest,
     pub at: usize,
@@ -58,7 +58,7 @@ pub fn quote_rest(before: usize, behind: usize, pad: u8, start: usize, end: usiz
 }
 
 // How many bytes of padding are left, and the place after those written.
-#[derive(Drop)]
+#[derive(Clone, Copy)]
 struct Padded {
     missing: usize,
     at: usize,

@@ -17,7 +17,7 @@ pub fn reach(len: usize, from: usize, n: usize) -> usize
 }
 
 // The places of a window below a fall in the first segment, those below b in the second, from its place start on.
-#[derive(Drop)]
+#[derive(Clone, Copy)]
 pub struct Cuts {
     pub a: usize,
     pub b: usize,

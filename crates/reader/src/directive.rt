@@ -15,14 +15,14 @@ use rules::scalars::{both, not, wide};
 use rules::{Directive, Item, Parameter, Parameters};
 
 // A number that is read: its value and the position after it, or a number that is refused.
-#[derive(Drop)]
+#[derive(Clone, Copy)]
 pub enum NumberRead {
     Bad,
     Whole { value: usize, after: usize },
 }
 
 // A parameter that is read, if one is written, and the position after it.
-#[derive(Drop)]
+#[derive(Clone, Copy)]
 enum ParameterRead {
     Bad,
     Cut,

@@ -27,7 +27,7 @@ pub const REPEAT: u8 = 2;
 const OTHER: u8 = 3;
 
 // A short directive, after which the text goes on at next. The detail is 1 for ~s, the base, or the byte repeated.
-#[derive(Drop)]
+#[derive(Clone, Copy)]
 pub enum Short {
     Other,
     Is {
@@ -40,7 +40,7 @@ pub enum Short {
 }
 
 // A number that may be left out, and the position after it.
-#[derive(Drop)]
+#[derive(Clone, Copy)]
 struct Leading {
     number: usize,
     after: usize,

@@ -1,25 +1,27 @@
 // The types that document 01 speaks of. What they mean is in specs/.
+#![tactic(auto)]
+
 pub mod codes;
 pub mod limits;
 pub mod scalars;
 
 // How a check ends: all is well, or the first fault has this code and position.
-#[derive(Drop)]
+#[derive(Clone, Copy)]
 pub enum Verdict {
     Accepted,
     Refused { code: u32, position: usize },
 }
 
 // The number of an entry of the table, from 0.
-#[derive(Drop)]
+#[derive(Clone, Copy)]
 pub struct EntryIndex(pub usize);
 
 // The number of an argument in the list of arguments at hand, from 0.
-#[derive(Drop)]
+#[derive(Clone, Copy)]
 pub struct ArgumentPosition(pub usize);
 
 // What an entry holds. A string is given by its place: the bytes of the table from start to end.
-#[derive(Drop)]
+#[derive(Clone, Copy)]
 pub enum Argument {
     Boolean(bool),
     Integer(i64),
@@ -29,7 +31,7 @@ pub enum Argument {
 }
 
 // A directive that writes a text of its own and leaves the order of reading alone.
-#[derive(Drop)]
+#[derive(Clone, Copy)]
 pub enum Form {
     // ~a, and with true ~s
     Object(bool),
@@ -46,7 +48,7 @@ pub enum Form {
 }
 
 // What a block is.
-#[derive(Drop)]
+#[derive(Clone, Copy)]
 pub enum Bracket {
     // ~[ ~]
     Conditional,
@@ -55,7 +57,7 @@ pub enum Bracket {
 }
 
 // The role of a directive, by its code.
-#[derive(Drop)]
+#[derive(Clone, Copy)]
 pub enum Code {
     Writes(Form),
     // ~*
@@ -73,7 +75,7 @@ pub enum Code {
 }
 
 // A parameter as it is written.
-#[derive(Drop)]
+#[derive(Clone, Copy)]
 pub enum Parameter {
     // nothing is written
     Default,
@@ -88,7 +90,7 @@ pub enum Parameter {
 }
 
 // The parameters of a directive: how many are written, empty ones included, and the first five of them.
-#[derive(Drop)]
+#[derive(Clone, Copy)]
 pub struct Parameters {
     pub count: usize,
     pub first: Parameter,
@@ -99,7 +101,7 @@ pub struct Parameters {
 }
 
 // A place for a parameter.
-#[derive(Drop)]
+#[derive(Clone, Copy)]
 pub enum Place {
     // nothing may be written: there is no such place
     Empty,
@@ -108,7 +110,7 @@ pub enum Place {
 }
 
 // The places of a directive: how many there are, and five of them, those behind the last being empty.
-#[derive(Drop)]
+#[derive(Clone, Copy)]
 pub struct Places {
     pub count: usize,
     pub first: Place,
@@ -119,7 +121,7 @@ pub struct Places {
 }
 
 // The modifiers that a directive takes.
-#[derive(Drop)]
+#[derive(Clone, Copy)]
 pub enum Modifiers {
     Neither,
     Colon,
@@ -130,7 +132,7 @@ pub enum Modifiers {
 }
 
 // The kinds of argument that a directive takes.
-#[derive(Drop)]
+#[derive(Clone, Copy)]
 pub enum Kinds {
     Any,
     NoList,
@@ -139,7 +141,7 @@ pub enum Kinds {
 }
 
 // Where the argument of a directive comes from.
-#[derive(Drop)]
+#[derive(Clone, Copy)]
 pub enum Origin {
     // it takes none
     Nowhere,
@@ -152,7 +154,7 @@ pub enum Origin {
 }
 
 // Whether a format with a directive is plain.
-#[derive(Drop)]
+#[derive(Clone, Copy)]
 pub enum Plainness {
     Plain,
     // it is, but for this
@@ -161,7 +163,7 @@ pub enum Plainness {
 }
 
 // What a directive is.
-#[derive(Drop)]
+#[derive(Clone, Copy)]
 pub struct Row {
     pub places: Places,
     pub modifiers: Modifiers,
@@ -171,7 +173,7 @@ pub struct Row {
 }
 
 // A directive as it is written. The text goes on at next.
-#[derive(Drop)]
+#[derive(Clone, Copy)]
 pub struct Directive {
     pub code: Code,
     pub colon: bool,
@@ -181,7 +183,7 @@ pub struct Directive {
 }
 
 // What stands at a position of a format text.
-#[derive(Drop)]
+#[derive(Clone, Copy)]
 pub enum Item {
     // the end of the text
     End,
@@ -194,14 +196,14 @@ pub enum Item {
 }
 
 // A parameter that is worked out: absent, or its number, which for a character is its byte.
-#[derive(Drop)]
+#[derive(Clone, Copy)]
 pub enum Setting {
     Absent,
     Is(usize),
 }
 
 // The parameters of a directive, worked out.
-#[derive(Drop)]
+#[derive(Clone, Copy)]
 pub struct Settings {
     pub first: Setting,
     pub second: Setting,

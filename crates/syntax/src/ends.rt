@@ -10,7 +10,7 @@ use reader::short::skip_short;
 use rules::{Code, Item};
 
 // What an item is to the blocks, with the position after it. Nothing is read on behind a fault or the end.
-#[derive(Drop)]
+#[derive(Clone, Copy)]
 pub enum Shape {
     Stops,
     Passes(usize),
@@ -72,7 +72,7 @@ pub fn shape_at(text: &[u8], p: usize) -> Shape
 }
 
 // How a clause ends: at a closer, or at a ~; after which another clause begins at next.
-#[derive(Drop)]
+#[derive(Clone, Copy)]
 pub enum ClauseEnd {
     Last {
         position: usize,

@@ -16,7 +16,7 @@ use rules::{Bracket, Code, Directive, Item};
 
 // The innermost open block, by the kind of its opener: none, ~[, ~:[, ~@[, or one of ~{ and ~@{. The opener itself is not
 // kept: a Directive travels by memory, which takes longer than to read a mark.
-#[derive(Drop)]
+#[derive(Clone, Copy)]
 pub enum Around {
     Top,
     Numbered,
@@ -27,7 +27,7 @@ pub enum Around {
 
 // Where a check stands: the innermost block, where it is opened and where its inside starts, how many ~; it has so far,
 // whether the last is a ~:;, and how many blocks more may be open.
-#[derive(Drop)]
+#[derive(Clone, Copy)]
 pub struct Scope {
     pub around: Around,
     pub opened: usize,
@@ -38,7 +38,7 @@ pub struct Scope {
 }
 
 // What an item does where it is met, and where the text goes on after it.
-#[derive(Drop)]
+#[derive(Clone, Copy)]
 pub enum Met {
     Wrong { code: u32, position: usize },
     Ends,

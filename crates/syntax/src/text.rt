@@ -10,7 +10,7 @@ use rules::codes::LONG_FORMAT;
 use rules::limits::{DEEPEST, LONGEST_FORMAT};
 
 // How reading a block ends: the whole check ends, or the block is closed and the text goes on at a position.
-#[derive(Drop)]
+#[derive(Clone, Copy)]
 enum Checked {
     Ended(Verdict),
     Closed(usize),

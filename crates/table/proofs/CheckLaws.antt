@@ -18,8 +18,8 @@ module _ (t : List ℕ) (n pool i zeros : ℕ) (is_zeros : zeros ≡ zeros_after
   pub by_tag : zeros ≡ 0 → (high low : ℕ) → high ≡ be32_at t (entry_place i + 4) → low ≡ be32_at t (entry_place i + 8) → (right : Bool)
       → right ≡ right_for (get_or t (entry_place i) 0) n pool i high low → right ≡ is_right n pool i (entry_at t i)
   unfolding entry_at
-  by_tag z high low is_high is_low right is_right =
-      rw (is_right, eq-eqb (zeros_after t (entry_place i)) 0 (sym is_zeros ∙ z), is_high, is_low)
+  by_tag z high low is_high is_low right test_is =
+      rw (test_is, eq-eqb (zeros_after t (entry_place i)) 0 (sym is_zeros ∙ z), is_high, is_low)
 
 -- the loop over the entries: it begins with all of them, and i is the next to look at
 pub whole : (t : List ℕ) (n pool : ℕ) → first_bad t n pool (n - 0) 0 ≡ first_bad t n pool n 0
@@ -32,19 +32,19 @@ module _ (t : List ℕ) (n pool i : ℕ) (next : i < n) where
   left_over = omega arith
 
   -- `right` is what the test of entry i answers
-  module _ (right : Bool) (is_right : right ≡ is_right n pool i (entry_at t i)) (from_here : first_bad t n pool (n - i) i ≡ first_bad t n pool n 0) where
+  module _ (right : Bool) (test_is : right ≡ is_right n pool i (entry_at t i)) (from_here : first_bad t n pool (n - i) i ≡ first_bad t n pool n 0) where
     pub right_next : not right ≡ false → first_bad t n pool (n - (i + 1)) (i + 1) ≡ first_bad t n pool n 0
     unfolding first_bad
     right_next r =
         let one : suc i ≡ i + 1 = omega arith in
-        let e : is_right n pool i (entry_at t i) ≡ true = sym is_right ∙ not-false right r in
+        let e : is_right n pool i (entry_at t i) ≡ true = sym test_is ∙ not-false right r in
         let step : first_bad t n pool (n - i) i ≡ first_bad t n pool (n - (i + 1)) (i + 1) = rw (left_over, first_bad, e, one) in
         sym step ∙ from_here
 
     pub wrong_here : not right ≡ true → Refused 1 (entry_place i) ≡ first_bad t n pool n 0
     unfolding first_bad
     wrong_here r =
-        let e : is_right n pool i (entry_at t i) ≡ false = sym is_right ∙ not-true right r in
+        let e : is_right n pool i (entry_at t i) ≡ false = sym test_is ∙ not-true right r in
         let step : first_bad t n pool (n - i) i ≡ Refused 1 (entry_place i) = rw (left_over, first_bad, e) in
         sym step ∙ from_here
 

@@ -1,4 +1,6 @@
 // The argument table: its check, and the reading of its entries.
+#![tactic(auto)]
+
 ghost use Rattle.std.specs.Prelude.{◌≡◌, ◌+◌, ◌-◌, ◌*◌, ◌≤◌, ◌<◌, length, take, drop};
 ghost use Rattle.rules.specs.Table.{be16_at, be32_at, entry_count, argument_count, pool_length, entry_place, zeros_after, entry_at, right_for, is_right, first_bad, table_verdict, signed_of, Holds};
 ghost use Rattle.rules.specs.declared.Verdict.TheVariants.{Accepted};

@@ -20,7 +20,7 @@ use vet_turns::turns::turn_form;
 
 // One element of a sequence: it leads to the argument `next` with at most `size` bytes, and the text goes on at `place`;
 // it fails; or the sequence ends here.
-#[derive(Drop)]
+#[derive(Clone, Copy)]
 pub enum Element {
     Leads {
         next: ArgumentPosition,
@@ -35,7 +35,7 @@ pub enum Element {
 }
 
 // A whole sequence: it leads to the argument `next` with at most `size` bytes, and so it ends; or it fails.
-#[derive(Drop)]
+#[derive(Clone, Copy)]
 pub enum Counted {
     Leads {
         next: ArgumentPosition,
@@ -49,7 +49,7 @@ pub enum Counted {
 }
 
 // The clauses of a block: their ways end so, and the text goes on at `place` after it; or one fails.
-#[derive(Drop)]
+#[derive(Clone, Copy)]
 pub enum Clauses {
     End { ends: Ends, place: usize },
     Fail { code: u32, position: usize },

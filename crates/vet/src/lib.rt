@@ -1,4 +1,5 @@
 // What a format without jumps and loops needs at the most, vetted over the kinds of its arguments.
+#![tactic(auto)]
 pub mod asking;
 pub mod counting;
 pub mod ends;

@@ -16,7 +16,7 @@ const MOST_PADDING: usize = 65536;
 
 // All numbers 0 is a fresh state. What the numbers of any state mean is `remains` in specs/States.
 #[repr(C)]
-#[derive(Drop)]
+#[derive(Clone, Copy)]
 pub struct State {
     // 0 fresh, 1 begun, any other ended
     pub stage: usize,
@@ -41,7 +41,7 @@ pub struct State {
 
 // The answer of a call: 01's code, or MORE, and with it the position, the steps done and the bytes written.
 #[repr(C)]
-#[derive(Drop)]
+#[derive(Clone, Copy)]
 pub struct Resumed {
     pub code: u32,
     pub position: usize,
