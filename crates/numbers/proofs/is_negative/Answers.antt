@@ -2,11 +2,7 @@
 use mir.Syntax.{w64}
 use mir.ValLaws.{to_z-of_z}
 use Rattle.rules.proofs.Signs.{negative_below}
-use Rattle.numbers.proofs.is_negative.Statement.{statement}
-use Rattle.numbers.proofs.is_negative.Tie as tie
+use Rattle.numbers.proofs.is_negative.Goals as goal
 
-returns : tie.Need-returns
+pub returns : goal.returns
 returns c = rw (to_z-of_z w64 c.args.x c.ranges.x) (negative_below c.args.x)
-
-pub is-negative-spec : {M : Type 1} → statement M
-is-negative-spec = tie.close (tie.spec returns)
