@@ -6,8 +6,7 @@ use mathlib.Core.List.{List, [], ◌∷◌}
 use native.Mathlib.Omega.{arith}
 use types.Run.{OneOf}
 use denote.Enum.Declared.{tag_of}
-use Rattle.rules.specs.Choice.{both}
-use Rattle.rules.specs.Rows.{suits, each_suits}
+use Rattle.rules.specs.Rows.{suits}
 use Rattle.rules.specs.Table.{View, view_of}
 use Rattle.rules.specs.Working.{worked, wrong, work_out, settle, InPlace}
 use Rattle.rules.specs.declared.ArgumentPosition.{ArgumentPosition}
@@ -25,7 +24,7 @@ use Rattle.parameters.specs.declared.arguments.Hand.{Hand}
 use Rattle.parameters.specs.declared.places.WorkedOut.{WorkedOut}
 use Rattle.parameters.specs.declared.places.WorkedOut.TheVariants.{Is as worked_is, Wrong as worked_wrong}
 use Rattle.parameters.specs.declared.settling.SettledOut.{SettledOut}
-use Rattle.parameters.specs.declared.settling.SettledOut.TheVariants.{Is as settled_is, Wrong as settled_wrong}
+use Rattle.parameters.specs.declared.settling.SettledOut.TheVariants.{Is as settled_is}
 
 -- the arguments of a run stand in an accepted table, for every parameter
 pub all_supplied_lem : {t : List ℕ} {hand : Hand} {ps : Parameters} → InHand t hand → AllSupplied t hand ps
