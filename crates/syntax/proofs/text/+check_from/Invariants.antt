@@ -1,0 +1,16 @@
+-- `check_from` meets its contract. The room for blocks falls at each call of itself. The invariant: what is found from
+-- here on is what is found from the start, whatever opens the block and whatever other blocks are open; each arm is a law
+-- of `CheckLaws`. The measure of the loop is what is left of the text. Assumes nothing.
+use Prim.Native.Nat.{◌-◌}
+use lib.ListN.{length}
+use Rattle.syntax.proofs.CheckLaws.{Checking}
+use Rattle.syntax.proofs.text.+check_from.Given as goal
+
+abbrev pub decreases-check_from : goal.decreases-check_from
+decreases-check_from l = l.room
+
+abbrev pub invariant-loop-code : goal.invariant-loop-code
+invariant-loop-code l = Checking l.text l.start l.room l.around l.opened l.p l.separators l.fallback
+
+abbrev pub decreases-loop-code : goal.decreases-loop-code
+decreases-loop-code l = length l.text - l.p
