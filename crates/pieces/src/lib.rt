@@ -1,6 +1,7 @@
 // What a directive writes, as a value of a few words, which is measured, and written whole or in part. What it stands
 // for is in specs/Bytes, what it may be made from in specs/Given, and what is left of one that is cut in specs/Rest.
 #![tactic(auto)]
+
 pub mod copying; // fills and copies
 pub mod window; // where a window falls in a text of three segments
 pub mod quoting; // a string in quotes
