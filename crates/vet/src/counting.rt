@@ -79,7 +79,7 @@ fn close_block(ends: Ends, p: usize, place: usize) -> Element
 }
 
 // The clauses of the conditional d, each from the argument `start`.
-#[cycle(count_block_count_clauses_count_element_count_sequence)]
+#[cycle(counts)]
 fn count_clauses(
     format: &[u8],
     kinds: &[u8],
@@ -126,7 +126,7 @@ fn count_clauses(
 }
 
 // The conditional d at p, where `next` is the next argument.
-#[cycle(count_block_count_clauses_count_element_count_sequence)]
+#[cycle(counts)]
 fn count_block(
     format: &[u8],
     kinds: &[u8],
@@ -160,7 +160,7 @@ fn count_block(
 
 // The item at p, where `next` is the next argument. The last arms are closers and the end of the text: a text that is
 // accepted and vettable has nothing else there.
-#[cycle(count_block_count_clauses_count_element_count_sequence)]
+#[cycle(counts)]
 fn count_element(
     format: &[u8],
     kinds: &[u8],
@@ -208,7 +208,7 @@ fn count_element(
 }
 
 // The sequence that is read at `start`, from the argument `first`.
-#[cycle(count_block_count_clauses_count_element_count_sequence)]
+#[cycle(counts)]
 fn count_sequence(
     format: &[u8],
     kinds: &[u8],

@@ -1,5 +1,6 @@
 // What a format without jumps and loops needs at the most, vetted over the kinds of its arguments.
 #![tactic(auto)]
+
 pub mod asking;
 pub mod counting;
 pub mod ends;
