@@ -10,7 +10,7 @@ use lib.IntN.{ℤ, pos, negsuc}
 use lib.ListN.{length}
 use Rattle.rules.specs.Choice.{both}
 use Rattle.rules.specs.Number.{is_negative, magnitude_of}
-use Rattle.rules.specs.Table.{View, Value, integer, meant, view_of}
+use Rattle.rules.specs.Table.{View, Value, meant, view_of}
 use Rattle.rules.specs.Text.{Sequence, end, Clauses, none, clause, innermost, as_clauses, levels_at}
 use Rattle.rules.specs.Working.{argument_in}
 use Rattle.rules.specs.Run.{Flow, refused, fallback_of, clause_at, is_false, pick_integer, with_argument, pick_by}

@@ -49,7 +49,8 @@ module _ (t : List ℕ) (hand : Hand) (i : ArgumentPosition) {atsign : Bool} whe
 
       pub over_not : is_list_value x ≡ false → GoesOver t hand atsign i.0 (OverWrong 7)
       over_not n = rw e (record {
-        is = λ p m j d q st body rest on. there p m j d q st body rest on ∙ over_other (view_of t) p m _ x n;
+        is = λ p m j d q st body rest on. there p m j d q st body rest on
+            ∙ over_other (view_of t) p m (λ inner. on (iteration p st.first body rest (other (hand_at hand (i.0 + 1)))) inner) x n;
         inside = tt;
       })
 
