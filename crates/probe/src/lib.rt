@@ -1,5 +1,6 @@
 // The inner layers, exported so that tests and benchmarks can call them. No part of the product.
 #![tactic(auto)]
+
 ghost use Rattle.std.specs.Prelude.{◌≡◌, length};
 ghost use Rattle.rules.specs.Table.{table_verdict};
 ghost use Rattle.probe.specs.Probe.{code_of, position_of, count_written, buffer_after};
