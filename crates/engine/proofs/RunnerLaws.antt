@@ -21,7 +21,6 @@ use Rattle.rules.specs.declared.Directive.{Directive}
 use Rattle.rules.specs.declared.Item.{Item}
 use Rattle.rules.specs.declared.Item.TheVariants.{Literal, Written}
 use Rattle.rules.specs.declared.Setting.{Setting}
-use Rattle.rules.specs.contracts.Item as item_declared
 use Rattle.rules.proofs.TextLaws.{next_inside, stands}
 use Rattle.syntax.specs.Ends.{AfterBlock}
 use Rattle.parameters.specs.Settling.{hand_at}

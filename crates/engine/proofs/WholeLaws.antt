@@ -7,7 +7,7 @@ use lib.ListN.{length, take, drop, take-append-drop}
 use lib.Seq.{length-take-le}
 use Rattle.rules.specs.Table.{View, view_of, table_verdict, argument_count}
 use Rattle.rules.specs.Text.{end, levels_at, sequence_of, text_verdict}
-use Rattle.rules.specs.Run.{refused, run}
+use Rattle.rules.specs.Run.{run}
 use Rattle.rules.specs.Answer.{Answer, limit, fit, flow_of, unless_refused, answer_of, Answers}
 use Rattle.rules.specs.declared.Verdict.{Verdict}
 use Rattle.rules.specs.declared.Verdict.TheVariants.{Accepted, Refused}

@@ -27,7 +27,7 @@ use stepping::items::{act, is_ended, put_literal};
 use stepping::short::run_short;
 
 // The sequence that is read at start, with level levels left for blocks.
-#[cycle(run_block_run_clause_run_conditional_run_item_run_iteration_run_opened_run_passes_run_sequence)]
+#[cycle(runs)]
 pub fn run_sequence(
     text: &[u8],
     marks: &[u16],
@@ -107,7 +107,7 @@ fn spot_at(position: usize, place: usize, left: usize, at: usize) -> Spot
 }
 
 // The item at p, which does not end its sequence.
-#[cycle(run_block_run_clause_run_conditional_run_item_run_iteration_run_opened_run_passes_run_sequence)]
+#[cycle(runs)]
 fn run_item(
     text: &[u8],
     marks: &[u16],
@@ -139,7 +139,7 @@ fn run_item(
 }
 
 // The block that d opens at p.
-#[cycle(run_block_run_clause_run_conditional_run_item_run_iteration_run_opened_run_passes_run_sequence)]
+#[cycle(runs)]
 fn run_block(
     text: &[u8],
     marks: &[u16],
@@ -170,7 +170,7 @@ fn run_block(
 }
 
 // The block that d opens, once it is begun: its parameters are worked out, for either bracket.
-#[cycle(run_block_run_clause_run_conditional_run_item_run_iteration_run_opened_run_passes_run_sequence)]
+#[cycle(runs)]
 fn run_opened(
     text: &[u8],
     marks: &[u16],
@@ -206,7 +206,7 @@ fn run_opened(
 }
 
 // The conditional d, whose parameters are worked out.
-#[cycle(run_block_run_clause_run_conditional_run_item_run_iteration_run_opened_run_passes_run_sequence)]
+#[cycle(runs)]
 fn run_conditional(
     text: &[u8],
     marks: &[u16],
@@ -266,7 +266,7 @@ fn end_block(
 }
 
 // The clause at z of the block whose inside is at q.
-#[cycle(run_block_run_clause_run_conditional_run_item_run_iteration_run_opened_run_passes_run_sequence)]
+#[cycle(runs)]
 fn run_clause(
     text: &[u8],
     marks: &[u16],
@@ -302,7 +302,7 @@ fn run_clause(
 }
 
 // The iteration d, whose parameters are worked out.
-#[cycle(run_block_run_clause_run_conditional_run_item_run_iteration_run_opened_run_passes_run_sequence)]
+#[cycle(runs)]
 fn run_iteration(
     text: &[u8],
     marks: &[u16],
@@ -360,7 +360,7 @@ fn run_iteration(
 
 // The passes of the iteration at p whose inside is at q. Where they stand is said by a spot whose place is one in the
 // block.
-#[cycle(run_block_run_clause_run_conditional_run_item_run_iteration_run_opened_run_passes_run_sequence)]
+#[cycle(runs)]
 fn run_passes(
     text: &[u8],
     marks: &[u16],
