@@ -7,7 +7,7 @@ make check       tests/run: proves all again and runs every test; CONTRIBUTING.m
 make quick       builds, and runs the tests of what is in build/ alone
 make install     installs it; as root for the folders below
 make uninstall   removes the files that make install put there; folders that others use stay
-make clean       removes build/; what is proved stays in target/
+make clean       removes build/; what is proved stays in crates/*/out
 
 Set on the command line, as in `make install PREFIX=$$HOME/tilde`; what holds now:
   PREFIX      $(PREFIX)
@@ -69,37 +69,41 @@ $(error this is $(shell uname -m): the archives of rt link into x86-64 programs 
 endif
 endif
 
-# The proved archives and the program. One rt at a time: they share target/. It may leave a file that was right as it
-# was, hence touch.
-PROVED_FROM := crates.txt $(shell find crates \( -name edits -o -name must-fail \) -prune -o -type f -print)
+# The proved archives and the program, where rt leaves them. One rt at a time: each proves the crates below its own, and
+# the next takes them as they are. It may leave a file that was right as it was, hence touch.
+PROVED_FROM := crates.txt $(shell find crates \( -name edits -o -name must-fail -o -name out \) -prune -o -type f -print)
 rt_there = @command -v rt >/dev/null || { echo 'make: $@ is missing or older than crates/, and rt, which' \
     'builds it, is not there: install the Rattle kit and put its rt on the PATH' >&2; exit 1; }
 
-# rt proves two crates at a time where it is told of all of them at once: then an archive proves its own crate again.
-target/bin/jobs: $(PROVED_FROM)
+# rt run builds the program and then runs it, here over no input.
+JOBS := crates/jobs/out/jobs
+$(JOBS): $(PROVED_FROM)
 	$(rt_there)
-	rt check jobs tilde tilde_windows
+	cd crates/jobs && rt run </dev/null
 	touch $@
-ARCHIVES := $(patsubst %,target/staticlib/lib%.a,tilde tilde_windows probe)
-$(ARCHIVES): target/staticlib/lib%.a: $(PROVED_FROM) | target/bin/jobs
+archive = crates/$1/out/lib$1.a
+ARCHIVES := $(foreach crate,tilde tilde_windows probe,$(call archive,$(crate)))
+$(ARCHIVES): $(PROVED_FROM) | $(JOBS)
 	$(rt_there)
-	rt staticlib $*
+	cd $(@D:/out=) && rt lib
 	touch $@
-target/staticlib/libtilde_windows.a: | target/staticlib/libtilde.a
-target/staticlib/libprobe.a: | target/staticlib/libtilde_windows.a
+$(call archive,tilde_windows): | $(call archive,tilde)
+$(call archive,probe): | $(call archive,tilde_windows)
 
 # Objects: those that rt built, as they are, and those of tools/. exports.o is also part of the shared library.
 PROVED := build/proved/tilde.o build/proved/tilde_windows.o
 TOOLS := $(patsubst tools/%.c,build/tools/%.o,$(wildcard tools/*.c))
 
-$(PROVED): build/proved/%.o: target/staticlib/lib%.a | build/proved
-	$(AR) p $< $*.o >$@ && test -s $@
+build/proved/tilde.o: $(call archive,tilde)
+build/proved/tilde_windows.o: $(call archive,tilde_windows)
+$(PROVED): | build/proved
+	$(AR) p $< $(@F) >$@ && test -s $@
 build/tools/exports.o: private PLACED := -fPIC
 $(TOOLS): build/tools/%.o: tools/%.c Makefile | build/tools
 	$(CC) -std=c11 -Wall -Wextra -Iinclude $(CPPFLAGS) $(CFLAGS) $(PLACED) -MMD -MP -c -o $@ $<
 -include $(TOOLS:.o=.d)
 # What rt has to make comes first, so that without rt nothing is built.
-build/proved build/tools build/man: | target/bin/jobs
+build/proved build/tools build/man: | $(JOBS)
 	mkdir -p $@
 
 build/libtilde.a: $(PROVED) build/tools/exports.o
@@ -112,7 +116,7 @@ $(LINKS): build/$(SHARED)
 	ln -sf $(SHARED) $@
 build/tilde: $(filter-out build/tools/exports.o,$(TOOLS)) build/libtilde.a
 	$(CC) $(CFLAGS) $(LDFLAGS) -o $@ $^
-build/tilde-jobs: target/bin/jobs | build/tools
+build/tilde-jobs: $(JOBS) | build/tools
 	cp $< $@
 
 $(PAGES): build/man/%: man/% include/tilde.h Makefile | build/man
@@ -125,7 +129,7 @@ build/man/tilde-format.7: docs/FORMATS.md man/from-markdown include/tilde.h Make
 
 check:
 	tests/run
-quick: all target/staticlib/libprobe.a
+quick: all $(call archive,probe)
 	set -e; for run in tests/*/run; do echo "$$run"; "$$run"; done
 
 # Folders may have spaces in their names. The shell, sed or pkg-config would take these bytes for something else.

@@ -106,8 +106,8 @@ enum tilde_tag {
 #define TILDE_MOST_LONGEST 4096
 
 /* A call of tilde_format, tilde_resume or tilde_vet takes at most so many bytes of stack on x86-64, with archives that
-   rt staticlib built: from its caller's frame down, with the memcpy and memset that it calls. What runs on the same
-   stack meanwhile, a signal handler or the loader that binds memcpy at its first call, comes on top. */
+   rt lib built: from its caller's frame down, with the memcpy and memset that it calls. What runs on the same stack
+   meanwhile, a signal handler or the loader that binds memcpy at its first call, comes on top. */
 #define TILDE_STACK_BYTES 16384
 
 /* Writes the text of a format over the arguments of a table at the start of a buffer, and answers a tilde_code: one of

@@ -51,13 +51,15 @@ check_without_rt() {
     for program in bash sh sed find uname gcc make awk grep echo mkdir; do
         ln -s "$(command -v "$program")" "$bare/$program"
     done
-    same "make calls neither rt nor gcc again" "" "$(make -n | grep -E '^(rt|gcc) ' || true)"
-    same "what rt proves after a change" $'rt check jobs tilde tilde_windows\nrt staticlib tilde\nrt staticlib tilde_windows' \
-        "$(make -n -W crates.txt | grep '^rt ')"
-    cp target/staticlib/libtilde.a "$room/before.a"
+    same "make calls neither rt nor gcc again" "" "$(make -n | grep -E '^(cd .* && rt|gcc) ' || true)"
+    same "what rt proves after a change" "cd crates/jobs && rt run </dev/null
+cd crates/tilde && rt lib
+cd crates/tilde_windows && rt lib" "$(make -n -W crates.txt | grep '^cd .* && rt ')"
+    cp crates/tilde/out/libtilde.a "$room/before.a"
     PATH="$bare" refused "sources newer than the archives, without rt" "install the Rattle kit" -W crates.txt
-    check "the archive is still there" cmp "$room/before.a" target/staticlib/libtilde.a
-    cp -r Makefile crates.txt crates include tools man docs bindings tilde.pc.in "$bare"
-    PATH="$bare" refused "no archives and no rt" "target/bin/jobs is missing" -C "$bare" -j 4
+    check "the archive is still there" cmp "$room/before.a" crates/tilde/out/libtilde.a
+    cp -r Makefile crates.txt include tools man docs bindings tilde.pc.in "$bare"
+    find crates -name out -prune -o -type f -exec cp --parents -t "$bare" {} +
+    PATH="$bare" refused "no archives and no rt" "crates/jobs/out/jobs is missing" -C "$bare" -j 4
     same "nothing is built before that" "" "$(ls -d "$bare/build" 2>/dev/null || true)"
 }

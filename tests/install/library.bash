@@ -2,13 +2,13 @@
 
 check_library() {
     local shared="$prefix/lib/libtilde.so.$version" archive member
-    for archive in tilde tilde_windows; do
-        for member in $(ar t "target/staticlib/lib$archive.a"); do
-            check "$member is as rt built it" cmp <(ar p "target/staticlib/lib$archive.a" "$member") \
-                <(ar p "$prefix/lib/libtilde.a" "$member")
+    local archives=(crates/tilde/out/libtilde.a crates/tilde_windows/out/libtilde_windows.a)
+    for archive in "${archives[@]}"; do
+        for member in $(ar t "$archive"); do
+            check "$member is as rt built it" cmp <(ar p "$archive" "$member") <(ar p "$prefix/lib/libtilde.a" "$member")
         done
     done
-    same "the members of libtilde.a" "$( (ar t target/staticlib/libtilde.a; ar t target/staticlib/libtilde_windows.a
+    same "the members of libtilde.a" "$( (for archive in "${archives[@]}"; do ar t "$archive"; done
         echo exports.o) | sort)" "$(ar t "$prefix/lib/libtilde.a" | sort)"
     if there readelf; then
         readelf -dW "$shared" >"$room/dynamic"

@@ -58,7 +58,7 @@ check_programs() {
     same "a refusal is not on standard output" "" "$("$prefix/bin/tilde" try '~d' '"calm"' 2>/dev/null || true)"
     same "tilde-jobs takes no options" ff "$(echo wind | "$prefix/bin/tilde-jobs" --help)"
     check "the installed tilde is that of build/" cmp build/tilde "$prefix/bin/tilde"
-    check "the installed tilde-jobs is that of target/" cmp target/bin/jobs "$prefix/bin/tilde-jobs"
+    check "the installed tilde-jobs is as rt built it" cmp crates/jobs/out/jobs "$prefix/bin/tilde-jobs"
 }
 
 # A prefix with a space works, for those who let the shell read what pkg-config says.
