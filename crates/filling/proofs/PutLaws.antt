@@ -24,7 +24,6 @@ use Rattle.rules.specs.declared.Item.TheVariants.{Literal, Written}
 use Rattle.rules.specs.declared.Settings.{Settings}
 use Rattle.rules.specs.declared.Argument.{Argument}
 use Rattle.rules.specs.contracts.Code as code_declared
-use Rattle.rules.specs.contracts.Item as item_declared
 use Rattle.rules.proofs.Tests.{not_both_ways}
 use Rattle.pieces.specs.Rest.{Appends}
 use Rattle.pieces.proofs.Rests.{append_none, append_one}
