@@ -1,5 +1,6 @@
 // Format and vet for callers in C. Neither asks anything of its caller: every byte and every number is answered.
 #![tactic(auto)]
+
 ghost use Rattle.rules.specs.Answer.{Answers};
 ghost use Rattle.vet_rules.specs.Demand.{Promised};
 ghost use Rattle.tilde.specs.Exported.{vetted};
