@@ -1,5 +1,6 @@
 // Job lines: a frame in hexadecimal to the answer of its format, in hexadecimal.
 #![tactic(auto)]
+
 ghost use Rattle.std.specs.Prelude.{◌≡◌, ◌++◌, ◌+◌, ◌*◌, ◌/◌, ◌%◌, ◌≤◌, ◌<◌, length, take};
 ghost use Rattle.rules.specs.Job.{digit_value, hex_of, numbers_of, no_frame, answer_line};
 ghost use Rattle.lines.specs.Front.{AtFront};
