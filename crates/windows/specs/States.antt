@@ -1,5 +1,5 @@
 -- What a state means: the bytes that are still to come, and how the run ends. Assumes nothing: these are definitions.
-use Rattle.std.specs.Prelude.{ℕ, zero, suc, Bool, true, false, List, [], ◌++◌, leb, ltb, length, drop}
+use Rattle.std.specs.Prelude.{ℕ, zero, suc, Bool, true, List, [], ◌++◌, leb, ltb, length, drop}
 use Rattle.rules.specs.Choice.{both, choose}
 use Rattle.rules.specs.Flow.{Flow, limit, given_text, finish_of}
 use Rattle.rules.specs.Table.{view_of, table_verdict}
