@@ -1,7 +1,6 @@
 -- Small inputs, cut into their lines by the definition. Assumes nothing.
-use Prim.Native.Nat.{ℕ}
 use mathlib.Core.Path.{◌≡◌, refl}
-use mathlib.Core.List.{List, [], ◌∷◌}
+use mathlib.Core.List.{[], ◌∷◌}
 use Rattle.rules.specs.Letters.{bytes}
 use Rattle.chunks.specs.Cutting.{ended_lines, begun_line, last_line, lines_of}
 

@@ -6,9 +6,7 @@ use native.Mathlib.Decide.{dec_lt}
 use native.Mathlib.Omega.{arith}
 use lib.ListN.{length, take, drop, length-append, length-take, length-drop, take-append-drop}
 use lib.Seq.{take-add, take_all, take_at, take-nil}
-use Rattle.rules.specs.Job.{answer_line}
 use Rattle.lines.specs.Front.{over, AtFront}
-use Rattle.lines.specs.Lent.{frame_bytes, line_text}
 use Rattle.chunks.specs.Cutting.{line_in, ended_lines, begun_line, answers_to}
 use Rattle.chunks.specs.Feeding.{after_lines, Answered, Taken, FarEnough}
 use Rattle.chunks.proofs.Cuts.{line_within, ended_append, begun_append, cut_off, line_ends}

@@ -1,5 +1,6 @@
 // An input that comes in chunks: its lines, and their answers.
 #![tactic(auto)]
+
 ghost use Rattle.std.specs.Prelude.{◌≡◌, [], ◌∷◌, ◌++◌, ◌+◌, ◌≤◌, ◌<◌, min, length, take, drop};
 ghost use Rattle.lines.specs.Front.{AtFront};
 ghost use Rattle.chunks.specs.Cutting.{line_in, last_line};

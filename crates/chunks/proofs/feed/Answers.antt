@@ -1,0 +1,129 @@
+-- `chunks::feed` meets its contract. What stands so far is what the bytes that are passed give. Assumes nothing.
+use borrow.Author.Rules.{rules}
+use mathlib.Core.Path.{refl}
+use native.Mathlib.Omega.{arith}
+use Rattle.chunks.proofs.Buffers.{front_within}
+use Rattle.chunks.proofs.Steps.{take_none, held_within, filled_within, end_within, take_rest, take_line, far_full, far_all}
+use Rattle.chunks.proofs.feed.Goals as goal
+
+pub loop-from-init : goal.loop-from-init
+loop-from-init c = (
+  take_none c.args.line.now c.args.frame.now c.args.text.now c.args.out.now
+      c.args.held c.requires.in_bounds.1,
+  omega arith,
+  refl,
+  refl,
+  refl,
+  refl,
+)
+
+pub overflow_sub-out : goal.overflow_sub-out
+overflow_sub-out c = filled_within c.loop-from.invariant.0
+
+pub shape_of-line-then-out-filled-lt32795 : goal.shape_of-line-then-out-filled-lt32795
+shape_of-line-then-out-filled-lt32795 c = c.loop-from.invariant.2
+
+pub shape_of-frame-then-out-filled-lt32795 : goal.shape_of-frame-then-out-filled-lt32795
+shape_of-frame-then-out-filled-lt32795 c = c.loop-from.invariant.3
+
+pub shape_of-text-then-out-filled-lt32795 : goal.shape_of-text-then-out-filled-lt32795
+shape_of-text-then-out-filled-lt32795 c = c.loop-from.invariant.4
+
+pub shape_of-out-then-out-filled-lt32795 : goal.shape_of-out-then-out-filled-lt32795
+shape_of-out-then-out-filled-lt32795 c = c.loop-from.invariant.5
+
+pub returns-then-out-filled-lt32795-clause-taken : goal.returns-then-out-filled-lt32795-clause-taken
+returns-then-out-filled-lt32795-clause-taken c = c.loop-from.invariant.0
+
+pub returns-then-out-filled-lt32795-clause-far_enough : goal.returns-then-out-filled-lt32795-clause-far_enough
+returns-then-out-filled-lt32795-clause-far_enough c =
+    far_full c.args.chunk.now c.loop-from.from c.loop-from.invariant.1 c.requires.in_bounds_3
+    c.loop-from.invariant.0 (omega (arith, c.if-out-filled-lt32795.true, c.loop-from.invariant.5))
+
+pub slice_bounds-hold-count : goal.slice_bounds-hold-count
+slice_bounds-hold-count c = omega (arith, c.line_end-end.ensures)
+
+pub slice_bounds-hold-start : goal.slice_bounds-hold-start
+slice_bounds-hold-start c = omega (arith, c.line_end-end.ensures)
+
+pub slice_bounds-hold-end : goal.slice_bounds-hold-end
+slice_bounds-hold-end c =
+    end_within c.args.chunk.now c.loop-from.from c.line_end-end.result c.loop-from.invariant.1
+    c.line_end-end.ensures
+
+pub hold-kept-requires : goal.hold-kept-requires
+hold-kept-requires c = omega (arith, held_within c.loop-from.invariant.0, c.loop-from.invariant.2)
+
+pub loop-from-smaller-then-end-chunk : goal.loop-from-smaller-then-end-chunk
+loop-from-smaller-then-end-chunk c = omega (arith, c.if-end-chunk.true, c.loop-from-test.true)
+
+pub loop-from-preserved-then-end-chunk : goal.loop-from-preserved-then-end-chunk
+loop-from-preserved-then-end-chunk c = (
+  take_rest c.args.chunk.now c.loop-from.from c.line_end-end.result c.loop-from.invariant.1 c.loop-from.invariant.2
+      c.loop-from.invariant.0 c.line_end-end.ensures c.hold-kept.ensures c.if-end-chunk.true,
+  search rules,
+  search rules,
+  search rules,
+  search rules,
+  search rules,
+)
+
+pub slice_bounds-add_answer-end : goal.slice_bounds-add_answer-end
+slice_bounds-add_answer-end c = front_within c.hold-kept.ensures
+
+pub overflow_add-from : goal.overflow_add-from
+overflow_add-from c =
+    omega (
+      arith,
+      end_within c.args.chunk.now c.loop-from.from c.line_end-end.result c.loop-from.invariant.1
+          c.line_end-end.ensures,
+      c.if-end-chunk.false,
+    )
+
+pub loop-from-smaller : goal.loop-from-smaller
+loop-from-smaller c =
+    omega (
+      arith,
+      end_within c.args.chunk.now c.loop-from.from c.line_end-end.result c.loop-from.invariant.1
+          c.line_end-end.ensures,
+      c.if-end-chunk.false,
+      c.loop-from-test.true,
+      c.line_end-end.ensures,
+    )
+
+pub loop-from-preserved : goal.loop-from-preserved
+loop-from-preserved c = (
+  take_line c.args.chunk.now c.loop-from.from c.line_end-end.result c.loop-from.invariant.1
+      c.loop-from.invariant.2 c.loop-from.invariant.0 c.line_end-end.ensures c.hold-kept.ensures c.requires.in_bounds.0
+      c.if-end-chunk.false c.add_answer-filled.ensures,
+  omega (
+    arith,
+    end_within c.args.chunk.now c.loop-from.from
+        c.line_end-end.result c.loop-from.invariant.1 c.line_end-end.ensures,
+    c.if-end-chunk.false,
+  ),
+  search rules,
+  search rules,
+  search rules,
+  search rules,
+)
+
+pub shape_of-line : goal.shape_of-line
+shape_of-line c = c.loop-from.invariant.2
+
+pub shape_of-frame : goal.shape_of-frame
+shape_of-frame c = c.loop-from.invariant.3
+
+pub shape_of-text : goal.shape_of-text
+shape_of-text c = c.loop-from.invariant.4
+
+pub shape_of-out : goal.shape_of-out
+shape_of-out c = c.loop-from.invariant.5
+
+pub returns-clause-taken : goal.returns-clause-taken
+returns-clause-taken c = c.loop-from.invariant.0
+
+pub returns-clause-far_enough : goal.returns-clause-far_enough
+returns-clause-far_enough c =
+    far_all c.args.chunk.now c.loop-from.from c.loop-from.invariant.1
+    c.requires.in_bounds_3 c.loop-from.invariant.0 c.loop-from-test.false
