@@ -2,6 +2,7 @@
 // crate of its own, since parts that two calls of one archive share are no longer made one with either, and
 // `tilde_format` would be slower by up to a quarter.
 #![tactic(auto)]
+
 ghost use Rattle.windows.specs.Calls.{Resumes};
 
 use windows::resuming::resume;
