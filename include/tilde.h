@@ -7,7 +7,7 @@
 #include <stdint.h>
 
 /* The version of this header: major, minor and patch. */
-#define TILDE_VERSION "0.4.1"
+#define TILDE_VERSION "0.4.0"
 
 #ifdef __cplusplus
 extern "C" {
