@@ -265,7 +265,8 @@ pub fn resume(format: &[u8], table: &[u8], window: &mut [u8], state: State) -> R
             state,
         };
     }
-    if window.len() == 0 {
+    let no_room = window.len() == 0;
+    if no_room {
         return more(0, state);
     }
     let tables = check_table(table);

@@ -7,20 +7,20 @@ use Rattle.windows.proofs.resuming.resume.Goals as goal
 pub returns-then-state-ge-ENDED : goal.returns-then-state-ge-ENDED
 returns-then-state-ge-ENDED c = let a = c.args in after_end a.format.now a.table.now a.state c.if-state-ge-ENDED.true
 
-pub returns-then-window-eq0 : goal.returns-then-window-eq0
-returns-then-window-eq0 c = let a = c.args in idle a.format.now a.table.now a.state (omega (arith, c.if-state-ge-ENDED.false)) c.if-window-eq0.true c.more.ensures
+pub returns-then-no_room : goal.returns-then-no_room
+returns-then-no_room c = let a = c.args in idle a.format.now a.table.now a.state (omega (arith, c.if-state-ge-ENDED.false)) c.if-no_room.true c.more.ensures
 
 pub pick_up-requires : goal.pick_up-requires
 pick_up-requires c = sym c.check_table-tables.ensures ∙ c.in-Accepted.is
 
 pub returns-then-state-eq-BEGUN : goal.returns-then-state-eq-BEGUN
-returns-then-state-eq-BEGUN c = let a = c.args in begun_state_lem a.format.now a.table.now a.state (omega (arith, c.if-state-ge-ENDED.false)) c.if-window-eq0.false c.check_table-tables.ensures c.in-Accepted.is c.if-state-eq-BEGUN.true c.pick_up.ensures
+returns-then-state-eq-BEGUN c = let a = c.args in begun_state_lem a.format.now a.table.now a.state (omega (arith, c.if-state-ge-ENDED.false)) c.if-no_room.false c.check_table-tables.ensures c.in-Accepted.is c.if-state-eq-BEGUN.true c.pick_up.ensures
 
 pub start-requires : goal.start-requires
 start-requires c = sym c.check_table-tables.ensures ∙ c.in-Accepted.is
 
 pub returns-in-Refused : goal.returns-in-Refused
-returns-in-Refused c = let a = c.args in table_refused a.format.now a.table.now a.state (omega (arith, c.if-state-ge-ENDED.false)) c.if-window-eq0.false c.check_table-tables.ensures c.in-Refused.is c.ended.ensures
+returns-in-Refused c = let a = c.args in table_refused a.format.now a.table.now a.state (omega (arith, c.if-state-ge-ENDED.false)) c.if-no_room.false c.check_table-tables.ensures c.in-Refused.is c.ended.ensures
 
 pub returns-else-state-eq-BEGUN : goal.returns-else-state-eq-BEGUN
-returns-else-state-eq-BEGUN c = let a = c.args in fresh_state a.format.now a.table.now a.state (omega (arith, c.if-state-ge-ENDED.false)) c.if-window-eq0.false c.check_table-tables.ensures c.in-Accepted.is c.if-state-eq-BEGUN.false c.start.ensures
+returns-else-state-eq-BEGUN c = let a = c.args in fresh_state a.format.now a.table.now a.state (omega (arith, c.if-state-ge-ENDED.false)) c.if-no_room.false c.check_table-tables.ensures c.in-Accepted.is c.if-state-eq-BEGUN.false c.start.ensures
