@@ -3,7 +3,7 @@
 
 define HELP
 make             the libraries, the programs and the man pages, in build/; proves what is not proved
-make check       tests/run: proves all again and runs every test; CONTRIBUTING.md says how long that takes
+make check       tests/run: rt ci, and every test; CONTRIBUTING.md says how long that takes
 make quick       builds, and runs the tests of what is in build/ alone
 make install     installs it; as root for the folders below
 make uninstall   removes the files that make install put there; folders that others use stay
@@ -71,7 +71,8 @@ endif
 
 # The proved archives and the program, where rt leaves them. One rt at a time: each proves the crates below its own, and
 # the next takes them as they are. It may leave a file that was right as it was, hence touch.
-PROVED_FROM := crates.txt $(shell find crates \( -name edits -o -name must-fail -o -name out \) -prune -o -type f -print)
+PROVED_FROM := crates.txt \
+    $(shell find crates \( -name edits -o -name must-fail -o -name out \) -prune -o -type f -print)
 rt_there = @command -v rt >/dev/null || { echo 'make: $@ is missing or older than crates/, and rt, which' \
     'builds it, is not there: install the Rattle kit and put its rt on the PATH' >&2; exit 1; }
 

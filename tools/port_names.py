@@ -3,8 +3,8 @@
 snake case, types in camel case. Run once, at the top, right after the kit's port.py; `--list` prints old and new names
 and writes nothing.
 
-Of the text of specs/, proofs/ and src/ it changes names that specs/ and proofs/ declare, and nothing in strings. Names of
-functions, types and exports of src/ stay. Where two names would fall together, the lemma's gets `_lem`.
+Of the text of specs/, proofs/ and src/ it changes names that specs/ and proofs/ declare, and nothing in strings. Names
+of functions, types and exports of src/ stay. Where two names would fall together, the lemma's gets `_lem`.
 """
 import collections
 import os
@@ -77,7 +77,8 @@ def names(top):
                     if kind == "code":
                         words.update(TOKEN.findall(text))
                         for word in TOKEN.findall(text):
-                            if is_camel(word) and "b'" not in word or "-" in word and path.endswith(".antt") and not whole and word[0].islower():
+                            dashed = "-" in word and path.endswith(".antt") and not whole and word[0].islower()
+                            if dashed or is_camel(word) and "b'" not in word:
                                 used.setdefault(word, path)
                 if whole or path.endswith(".rt") or line.lstrip().startswith(("--", "use ", "pub use ", "let ")):
                     continue
@@ -127,7 +128,8 @@ def respell(text, kind, new, fields, local, own, in_source, proof):
             return word
         if kind == "comment":
             return new[word] if is_camel(word) else word
-        if m.start() and text[m.start() - 1] == "." and not is_camel(word) and (word not in fields or word in BY_HAND and proof):
+        dotted = m.start() and text[m.start() - 1] == "."
+        if dotted and not is_camel(word) and (word not in fields or word in BY_HAND and proof):
             return word
         return new[word]
 
@@ -152,8 +154,12 @@ def main(argv):
             local = {m.group(2) for m in map(DECLARED.match, lines) if m and "-" in m.group(2)}
         own = IN_FILE.get(path, {})
         comment = "//" if path.endswith(".rt") else "--"
-        out = ["".join(t if k == "string" else respell(t, k, new, fields, local, own, comment == "//", path.endswith("Proof.antt")) for k, t in pieces(line, comment))
-               for line in lines]
+        source, proof = comment == "//", path.endswith("Proof.antt")
+
+        def turned(kind, text):
+            return text if kind == "string" else respell(text, kind, new, fields, local, own, source, proof)
+
+        out = ["".join(turned(k, t) for k, t in pieces(line, comment)) for line in lines]
         if out != lines:
             with open(path, "w", encoding="utf-8") as f:
                 f.write("\n".join(out))

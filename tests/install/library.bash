@@ -5,7 +5,8 @@ check_library() {
     local archives=(crates/tilde/out/libtilde.a crates/tilde_windows/out/libtilde_windows.a)
     for archive in "${archives[@]}"; do
         for member in $(ar t "$archive"); do
-            check "$member is as rt built it" cmp <(ar p "$archive" "$member") <(ar p "$prefix/lib/libtilde.a" "$member")
+            check "$member is as rt built it" \
+                cmp <(ar p "$archive" "$member") <(ar p "$prefix/lib/libtilde.a" "$member")
         done
     done
     same "the members of libtilde.a" "$( (for archive in "${archives[@]}"; do ar t "$archive"; done
