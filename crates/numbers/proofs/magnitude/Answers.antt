@@ -3,39 +3,36 @@
 use native.Mathlib.Omega.{arith}
 use Rattle.numbers.proofs.Signed.{Turned, turn, Kept, keep}
 use Rattle.numbers.proofs.magnitude.Goals as goal
+use Rattle.numbers.proofs.magnitude.Goals.{Then-x-lt0, Else-x-lt0}
+
+turned : (c : Then-x-lt0) → Turned c.args.x
+turned c =
+    turn c.args.x c.ranges.x c.if-x-lt0.true
+
+kept : (c : Else-x-lt0) → Kept c.args.x
+kept c =
+    keep c.args.x c.ranges.x c.if-x-lt0.false
 
 pub overflow_sub-result : goal.overflow_sub-result
 overflow_sub-result c =
-    let turned : Turned c.args.x =
-    turn c.args.x c.ranges.x c.if-x-lt0.true in
-    turned.fits
+    (turned c).fits
 
 pub overflow_cast-result : goal.overflow_cast-result
 overflow_cast-result c =
-    let turned : Turned c.args.x =
-    turn c.args.x c.ranges.x c.if-x-lt0.true in
-    rw turned.reads (tt, omega (arith, turned.small))
+    rw (turned c).reads (tt, omega (arith, (turned c).small))
 
 pub overflow_add-result : goal.overflow_add-result
 overflow_add-result c =
-    let turned : Turned c.args.x =
-    turn c.args.x c.ranges.x c.if-x-lt0.true in
-    rw turned.reads (omega (arith, turned.small))
+    rw (turned c).reads (omega (arith, (turned c).small))
 
 pub overflow_cast-result-else-x-lt0 : goal.overflow_cast-result-else-x-lt0
 overflow_cast-result-else-x-lt0 c =
-    let kept : Kept c.args.x =
-    keep c.args.x c.ranges.x c.if-x-lt0.false in
-    (kept.positive, kept.fits)
+    ((kept c).positive, (kept c).fits)
 
 pub returns-then-x-lt0 : goal.returns-then-x-lt0
 returns-then-x-lt0 c =
-    let turned : Turned c.args.x =
-    turn c.args.x c.ranges.x c.if-x-lt0.true in
-    rw turned.reads turned.full
+    rw (turned c).reads (turned c).full
 
 pub returns-else-x-lt0 : goal.returns-else-x-lt0
 returns-else-x-lt0 c =
-    let kept : Kept c.args.x =
-    keep c.args.x c.ranges.x c.if-x-lt0.false in
-    kept.reads
+    (kept c).reads

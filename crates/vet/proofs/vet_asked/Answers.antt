@@ -3,9 +3,6 @@ use mathlib.Core.Path.{sym, ◌∙◌}
 use Rattle.vet.proofs.Asks.{not_read}
 use Rattle.vet.proofs.vet_asked.Goals as goal
 
-pub vet_read-requires-clause-longest_value : goal.vet_read-requires-clause-longest_value
-vet_read-requires-clause-longest_value c = c.requires
-
 pub vet_read-requires-clause-format_value : goal.vet_read-requires-clause-format_value
 vet_read-requires-clause-format_value c = sym c.check_text-text.ensures ∙ c.in-Accepted.is
 

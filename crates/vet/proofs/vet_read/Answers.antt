@@ -9,15 +9,8 @@ count_format-requires-clause-asked c =
     let args = c.args in
     asked_of args.kinds.now args.longest c.requires.longest_value
 
-pub count_format-requires-clause-format_value : goal.count_format-requires-clause-format_value
-count_format-requires-clause-format_value c =
-    let args = c.args in
-    c.requires.format_value
-
 pub count_format-requires-clause-format_value_2 : goal.count_format-requires-clause-format_value_2
-count_format-requires-clause-format_value_2 c =
-    let args = c.args in
-    sym c.check_vettable-vettable.ensures ∙ c.in-Accepted.is
+count_format-requires-clause-format_value_2 c = sym c.check_vettable-vettable.ensures ∙ c.in-Accepted.is
 
 pub returns-in-Accepted : goal.returns-in-Accepted
 returns-in-Accepted c =

@@ -12,32 +12,14 @@ use Rattle.actions.proofs.acting.act_form.Goals as goal
 pub settle_directive-settled-requires-clause-all_supplied : goal.settle_directive-settled-requires-clause-all_supplied
 settle_directive-settled-requires-clause-all_supplied c = all_supplied_lem c.requires.in_hand
 
-pub settle_directive-settled-requires-clause-next_le_count : goal.settle_directive-settled-requires-clause-next_le_count
-settle_directive-settled-requires-clause-next_le_count c = c.requires.next_le_count
-
 pub write_form-requires-clause-well_set : goal.write_form-requires-clause-well_set
 write_form-requires-clause-well_set c =
     let a = c.args in
     let well = sym c.is_well_written.ensures ∙ c.if-is_well_written.true in
     worked_in a.form _ c.requires.form_right (form_in_range c.settle_directive-settled.ensures well c.in-Is.is c.requires.code_value)
 
-pub write_form-requires-clause-in_hand : goal.write_form-requires-clause-in_hand
-write_form-requires-clause-in_hand c =
-    let a = c.args in
-    let well = sym c.is_well_written.ensures ∙ c.if-is_well_written.true in
-    c.requires.in_hand
-
-pub write_form-requires-clause-at_in_bounds : goal.write_form-requires-clause-at_in_bounds
-write_form-requires-clause-at_in_bounds c =
-    let a = c.args in
-    let well = sym c.is_well_written.ensures ∙ c.if-is_well_written.true in
-    c.requires.at_in_bounds
-
 pub write_form-requires-clause-i_le_count : goal.write_form-requires-clause-i_le_count
-write_form-requires-clause-i_le_count c =
-    let a = c.args in
-    let well = sym c.is_well_written.ensures ∙ c.if-is_well_written.true in
-    next_reaches c.settle_directive-settled.ensures c.in-Is.is
+write_form-requires-clause-i_le_count c = next_reaches c.settle_directive-settled.ensures c.in-Is.is
 
 pub returns-in-Is : goal.returns-in-Is
 returns-in-Is c =

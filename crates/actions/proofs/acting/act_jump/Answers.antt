@@ -15,12 +15,8 @@ use Rattle.actions.proofs.acting.act_jump.Goals as goal
 pub settle_directive-settled-requires-clause-all_supplied : goal.settle_directive-settled-requires-clause-all_supplied
 settle_directive-settled-requires-clause-all_supplied c = all_supplied_lem c.requires.in_hand
 
-pub settle_directive-settled-requires-clause-next_le_count : goal.settle_directive-settled-requires-clause-next_le_count
-settle_directive-settled-requires-clause-next_le_count c = c.requires.next_le_count
-
 pub jump-requires-clause-jump_set : goal.jump-requires-clause-jump_set
 jump-requires-clause-jump_set c =
-    let a = c.args in
     let well = sym c.is_well_written.ensures ∙ c.if-is_well_written.true in
     numbered (c.in-Is.settings.first) (jump_in_range c.settle_directive-settled.ensures well c.in-Is.is c.requires.code_value)
 

@@ -9,12 +9,6 @@ use native.Mathlib.Omega.{arith}
 use mathlib.Core.Path.{◌≡◌, ◌∙◌, ap}
 use Rattle.actions.proofs.acting.put_piece.Goals as goal
 
-pub write_whole-requires-clause-good : goal.write_whole-requires-clause-good
-write_whole-requires-clause-good c =
-    let a = c.args in
-    let w = bytes_of a.table.now a.piece in
-    c.requires.good
-
 pub write_whole-requires-clause-out_len : goal.write_whole-requires-clause-out_len
 write_whole-requires-clause-out_len c =
     let a = c.args in
@@ -32,11 +26,7 @@ returns-then-n-out-clause-puts c =
     c.requires.before_le_count.1
 
 pub returns-then-n-out-clause-untouched : goal.returns-then-n-out-clause-untouched
-returns-then-n-out-clause-untouched c =
-    let a = c.args in
-    let w = bytes_of a.table.now a.piece in
-    let n : c.piece_length-n.result ≡ length w = c.piece_length-n.ensures.length a.table.now c.requires.good in
-    untouched_on _ c.go_on.ensures
+returns-then-n-out-clause-untouched c = untouched_on _ c.go_on.ensures
 
 pub returns-clause-puts : goal.returns-clause-puts
 returns-clause-puts c =
@@ -46,8 +36,4 @@ returns-clause-puts c =
     performed_full a.spot a.next.0 a.count a.out.now w _ a.before.0 c.refuse.ensures c.requires.at_in_bounds (omega (arith, c.if-n-out.false)) c.requires.before_le_count.0
 
 pub returns-clause-untouched : goal.returns-clause-untouched
-returns-clause-untouched c =
-    let a = c.args in
-    let w = bytes_of a.table.now a.piece in
-    let n : c.piece_length-n.result ≡ length w = c.piece_length-n.ensures.length a.table.now c.requires.good in
-    untouched_refused _ 10 c.refuse.ensures
+returns-clause-untouched c = untouched_refused _ 10 c.refuse.ensures

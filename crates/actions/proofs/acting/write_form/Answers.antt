@@ -14,14 +14,7 @@ make_piece-piece-requires-clause-reachable c =
     k.1.0
 
 pub put_piece-requires-clause-good : goal.put_piece-requires-clause-good
-put_piece-requires-clause-good c =
-    let k = shown_reaches c.plan_settled-planned.ensures c.in-Shows.is in
-    c.make_piece-piece.ensures.good
-
-pub put_piece-requires-clause-at_in_bounds : goal.put_piece-requires-clause-at_in_bounds
-put_piece-requires-clause-at_in_bounds c =
-    let k = shown_reaches c.plan_settled-planned.ensures c.in-Shows.is in
-    c.requires.at_in_bounds
+put_piece-requires-clause-good c = c.make_piece-piece.ensures.good
 
 pub put_piece-requires-clause-before_le_count : goal.put_piece-requires-clause-before_le_count
 put_piece-requires-clause-before_le_count c =
@@ -36,9 +29,7 @@ returns-in-Shows-clause-writes c =
     c.put_piece.ensures.puts
 
 pub returns-in-Shows-clause-untouched : goal.returns-in-Shows-clause-untouched
-returns-in-Shows-clause-untouched c =
-    let a = c.args in
-    c.put_piece.ensures.untouched
+returns-in-Shows-clause-untouched c = c.put_piece.ensures.untouched
 
 pub returns-in-Wrong-clause-writes : goal.returns-in-Wrong-clause-writes
 returns-in-Wrong-clause-writes c =
@@ -48,6 +39,4 @@ returns-in-Wrong-clause-writes c =
     c.requires.at_in_bounds c.requires.i_le_count
 
 pub returns-in-Wrong-clause-untouched : goal.returns-in-Wrong-clause-untouched
-returns-in-Wrong-clause-untouched c =
-    let a = c.args in
-    untouched_refused _ _ c.refuse.ensures
+returns-in-Wrong-clause-untouched c = untouched_refused _ _ c.refuse.ensures

@@ -12,9 +12,7 @@ returns-then-n-out-clause-puts c =
     (run_put a.out.now a.spot.at a.n a.byte _ c.requires c.if-n-out.true c.fill.ensures) k
 
 pub returns-then-n-out-clause-untouched : goal.returns-then-n-out-clause-untouched
-returns-then-n-out-clause-untouched c =
-    let a = c.args in
-    untouched_on _ c.go_on.ensures
+returns-then-n-out-clause-untouched c = untouched_on _ c.go_on.ensures
 
 pub returns-clause-puts : goal.returns-clause-puts
 returns-clause-puts c =
@@ -22,6 +20,4 @@ returns-clause-puts c =
     λ count k. direct_full a.spot a.next.0 count a.n a.out.now (replicate a.n a.byte) (sym (length-replicate a.n a.byte)) _ a.next.0 c.refuse.ensures c.requires c.if-n-out.false k
 
 pub returns-clause-untouched : goal.returns-clause-untouched
-returns-clause-untouched c =
-    let a = c.args in
-    untouched_refused _ 10 c.refuse.ensures
+returns-clause-untouched c = untouched_refused _ 10 c.refuse.ensures

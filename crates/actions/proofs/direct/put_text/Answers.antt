@@ -13,11 +13,7 @@ returns-then-n-out-clause-puts c =
     (text_put c.requires.string_in a.width n q a.out.now a.spot.at _ _ c.requires.at_in_bounds c.if-n-out.true c.copy_part.ensures c.fill.ensures) l
 
 pub returns-then-n-out-clause-untouched : goal.returns-then-n-out-clause-untouched
-returns-then-n-out-clause-untouched c =
-    let a = c.args in
-    let n = c.larger-n.result in
-    let q = c.larger-n.ensures in
-    untouched_on _ c.go_on.ensures
+returns-then-n-out-clause-untouched c = untouched_on _ c.go_on.ensures
 
 pub returns-clause-puts : goal.returns-clause-puts
 returns-clause-puts c =
@@ -27,8 +23,4 @@ returns-clause-puts c =
     λ count k l. direct_full a.spot a.next.0 count n a.out.now _ (text_length c.requires.string_in a.width n q) _ a.before.0 c.refuse.ensures c.requires.at_in_bounds c.if-n-out.false k
 
 pub returns-clause-untouched : goal.returns-clause-untouched
-returns-clause-untouched c =
-    let a = c.args in
-    let n = c.larger-n.result in
-    let q = c.larger-n.ensures in
-    untouched_refused _ 10 c.refuse.ensures
+returns-clause-untouched c = untouched_refused _ 10 c.refuse.ensures

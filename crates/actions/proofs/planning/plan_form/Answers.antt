@@ -10,23 +10,13 @@ use Rattle.actions.proofs.planning.plan_form.Goals as goal
 pub settle_directive-settled-requires-clause-all_supplied : goal.settle_directive-settled-requires-clause-all_supplied
 settle_directive-settled-requires-clause-all_supplied c = all_supplied_lem c.requires.in_hand
 
-pub settle_directive-settled-requires-clause-next_le_count : goal.settle_directive-settled-requires-clause-next_le_count
-settle_directive-settled-requires-clause-next_le_count c = c.requires.next_le_count
-
 pub plan_settled-requires-clause-well_set : goal.plan_settled-requires-clause-well_set
 plan_settled-requires-clause-well_set c =
     let well = sym c.is_well_written.ensures ∙ c.if-is_well_written.true in
     worked_in c.args.form _ c.requires.form_right (form_in_range c.settle_directive-settled.ensures well c.in-Is.is c.requires.code_value)
 
-pub plan_settled-requires-clause-in_hand : goal.plan_settled-requires-clause-in_hand
-plan_settled-requires-clause-in_hand c =
-    let well = sym c.is_well_written.ensures ∙ c.if-is_well_written.true in
-    c.requires.in_hand
-
 pub plan_settled-requires-clause-i_le_count : goal.plan_settled-requires-clause-i_le_count
-plan_settled-requires-clause-i_le_count c =
-    let well = sym c.is_well_written.ensures ∙ c.if-is_well_written.true in
-    next_reaches c.settle_directive-settled.ensures c.in-Is.is
+plan_settled-requires-clause-i_le_count c = next_reaches c.settle_directive-settled.ensures c.in-Is.is
 
 pub returns-in-Is : goal.returns-in-Is
 returns-in-Is c =

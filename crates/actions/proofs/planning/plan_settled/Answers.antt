@@ -4,14 +4,8 @@ use Rattle.rules.specs.Rows.{accepts}
 use Rattle.actions.proofs.Plans.{plans_none, plans_shown, plans_other}
 use Rattle.actions.proofs.planning.plan_settled.Goals as goal
 
-pub take_argument-taken-requires-clause-in_hand : goal.take_argument-taken-requires-clause-in_hand
-take_argument-taken-requires-clause-in_hand c = c.requires.in_hand
-
 pub take_argument-taken-requires-clause-source_reachable : goal.take_argument-taken-requires-clause-source_reachable
 take_argument-taken-requires-clause-source_reachable c = c.source_of-source.ensures.by_index_2 c.args.table.now
-
-pub take_argument-taken-requires-clause-i_le_count : goal.take_argument-taken-requires-clause-i_le_count
-take_argument-taken-requires-clause-i_le_count c = c.requires.i_le_count
 
 pub returns-then-takes_kind : goal.returns-then-takes_kind
 returns-then-takes_kind c =

@@ -75,7 +75,6 @@ pub run_clause-returns-in-Ended : goal.run_clause-returns-in-Ended
 run_clause-returns-in-Ended t c =
     let a = c.args in
     let u = c.run_sequence-r.ensures in
-    let w = u.ends c.in-Ended.is in
     record { is = λ f h. blocks_clause (levels_at a.text.now) (length a.text.now) (view_of a.table.now) a.stand.hand.first.0 a.stand.hand.count a.level a.q f a.stand.left a.stand.at a.out.now a.z a.stand.next.0 h u c.in-Ended.is _ (closes_after c.block_end.ensures) }
 
 pub run_clause-shape_of-out-in-Escaped : goal.run_clause-shape_of-out-in-Escaped
@@ -113,10 +112,7 @@ run_conditional-run_clause-requires t c =
     (omega (arith, c.decreases), (c.requires.landmarks, (record { held = c.requires.in_hand; reaches = w.1; written = c.requires.at_in_bounds }, w.0)))
 
 pub run_conditional-end_block-requires-clause-landmarks : goal.run_conditional-end_block-requires-clause-landmarks
-run_conditional-end_block-requires-clause-landmarks t c =
-    let a = c.args in
-    let w = subst (ChosenIn a.text.now a.d.after a.hand.count) c.in-Nothing.is c.choose_clause-chosen.ensures.inside in
-    c.requires.landmarks
+run_conditional-end_block-requires-clause-landmarks t c = c.requires.landmarks
 
 pub run_conditional-end_block-requires-clause-inside_at : goal.run_conditional-end_block-requires-clause-inside_at
 run_conditional-end_block-requires-clause-inside_at t c =
@@ -130,7 +126,6 @@ run_conditional-shape_of-out t c = (c.run_clause.ensures.is _ (λ ks. refl)).doe
 pub run_conditional-returns-in-At : goal.run_conditional-returns-in-At
 run_conditional-returns-in-At t c =
     let a = c.args in
-    let w = subst (ChosenIn a.text.now a.d.after a.hand.count) c.in-At.is c.choose_clause-chosen.ensures.inside in
     λ j. c.run_clause.ensures.is (picking (levels_at a.text.now) (view_of a.table.now) (hand_at a.hand) a.spot.position a.d a.d.after j a.spot.left a.settings a.i.0)
     (λ ks. c.choose_clause-chosen.ensures.is a.spot.position a.spot.left j _ ∙ ap (λ (x : Chosen). on_chosen (levels_at a.text.now) a.spot.position a.spot.left x (λ y after. run (view_of a.table.now) a.spot.left y (conditional (innermost (outer (levels_at a.text.now a.d.after))).rest ∷ ks) (hand_at a.hand after))) c.in-At.is)
 
@@ -175,10 +170,7 @@ run_item-act-requires-clause-acts_alone t c =
     acts_alone_lem c.in-Written.d.code (code_right a.text.now a.p c.in-Written.d e) (sym c.opens_block.ensures ∙ c.if-opens_block.false) (sym (ap ends_at c.in-Written.is) ∙ c.requires.item_value)
 
 pub run_item-act-requires-clause-stands : goal.run_item-act-requires-clause-stands
-run_item-act-requires-clause-stands t c =
-    let a = c.args in
-    let e = c.requires.p_value ∙ c.in-Written.is in
-    c.requires.stands
+run_item-act-requires-clause-stands t c = c.requires.stands
 
 pub run_item-shape_of-out-in-Literal : goal.run_item-shape_of-out-in-Literal
 run_item-shape_of-out-in-Literal t c =

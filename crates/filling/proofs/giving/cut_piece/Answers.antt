@@ -2,14 +2,8 @@
 use native.Mathlib.Omega.{arith}
 use Rattle.filling.proofs.giving.cut_piece.Goals as goal
 
-pub cut_quote-requires-clause-good : goal.cut_quote-requires-clause-good
-cut_quote-requires-clause-good c = c.requires.good
-
 pub cut_quote-requires-clause-content_value : goal.cut_quote-requires-clause-content_value
 cut_quote-requires-clause-content_value c = c.in-Quoted.is
-
-pub cut_quote-requires-clause-at_in_bounds : goal.cut_quote-requires-clause-at_in_bounds
-cut_quote-requires-clause-at_in_bounds c = c.requires.at_in_bounds
 
 pub cut_quote-requires-clause-at_in_bounds_2 : goal.cut_quote-requires-clause-at_in_bounds_2
 cut_quote-requires-clause-at_in_bounds_2 c = omega (arith, c.if-given-eq0.true, c.requires.at_in_bounds_2)

@@ -7,11 +7,6 @@ write_rest-w-requires-clause-rest_in c =
     let a = c.args in
     quote_in a.table.now a.piece c.requires.good c.requires.content_value c.quote_rest-q.ensures
 
-pub write_rest-w-requires-clause-from_in_bounds : goal.write_rest-w-requires-clause-from_in_bounds
-write_rest-w-requires-clause-from_in_bounds c =
-    let a = c.args in
-    c.requires.at_in_bounds
-
 pub returns : goal.returns
 returns c =
     let a = c.args in

@@ -12,18 +12,6 @@ returns-then-here-eq0 c =
     let a = c.args in
     λ t. puts_none t a.table.now (Written a.d) a.d.after a.here a.given a.at a.window.now c.if-here-eq0.true c.over.ensures c.requires.at_in_bounds
 
-pub plan_form-planned-requires-clause-code_value : goal.plan_form-planned-requires-clause-code_value
-plan_form-planned-requires-clause-code_value c = c.requires.code_value
-
-pub plan_form-planned-requires-clause-form_right : goal.plan_form-planned-requires-clause-form_right
-plan_form-planned-requires-clause-form_right c = c.requires.form_right
-
-pub plan_form-planned-requires-clause-in_hand : goal.plan_form-planned-requires-clause-in_hand
-plan_form-planned-requires-clause-in_hand c = c.requires.in_hand
-
-pub plan_form-planned-requires-clause-next_le_count : goal.plan_form-planned-requires-clause-next_le_count
-plan_form-planned-requires-clause-next_le_count c = c.requires.next_le_count
-
 pub make_piece-piece-requires-clause-well_set : goal.make_piece-piece-requires-clause-well_set
 make_piece-piece-requires-clause-well_set c =
     let a = c.args in
@@ -41,9 +29,6 @@ stepped-requires c = omega (arith, c.if-here-eq0.false)
 
 pub give_piece-requires-clause-good : goal.give_piece-requires-clause-good
 give_piece-requires-clause-good c = c.make_piece-piece.ensures.good
-
-pub give_piece-requires-clause-at_in_bounds : goal.give_piece-requires-clause-at_in_bounds
-give_piece-requires-clause-at_in_bounds c = c.requires.at_in_bounds
 
 pub stepped-requires-in-Wrong : goal.stepped-requires-in-Wrong
 stepped-requires-in-Wrong c = omega (arith, c.if-here-eq0.false)

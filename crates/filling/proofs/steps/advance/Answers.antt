@@ -18,24 +18,13 @@ run_ahead-s-requires-clause-next_le_count c =
     (next_in a.table.now a.here.hand a.here.next.0 c.requires.standing.sound.hand)
 
 pub run_ahead-s-requires-clause-place_in_bounds : goal.run_ahead-s-requires-clause-place_in_bounds
-run_ahead-s-requires-clause-place_in_bounds c =
-    let a = c.args in
-    c.requires.standing.sound.place
+run_ahead-s-requires-clause-place_in_bounds c = c.requires.standing.sound.place
 
 pub run_ahead-s-requires-clause-left_bound : goal.run_ahead-s-requires-clause-left_bound
-run_ahead-s-requires-clause-left_bound c =
-    let a = c.args in
-    c.requires.standing.sound.left
+run_ahead-s-requires-clause-left_bound c = c.requires.standing.sound.left
 
 pub run_ahead-s-requires-clause-at_in_bounds : goal.run_ahead-s-requires-clause-at_in_bounds
-run_ahead-s-requires-clause-at_in_bounds c =
-    let a = c.args in
-    c.requires.standing.room
-
-pub step_item-requires-clause-landmarks : goal.step_item-requires-clause-landmarks
-step_item-requires-clause-landmarks c =
-    let a = c.args in
-    c.requires.landmarks
+run_ahead-s-requires-clause-at_in_bounds c = c.requires.standing.room
 
 pub step_item-requires-clause-standing : goal.step_item-requires-clause-standing
 step_item-requires-clause-standing c =

@@ -14,16 +14,6 @@ returns-then-here-eq0 c =
 pub stepped-begun-requires : goal.stepped-begun-requires
 stepped-begun-requires c = omega (arith, c.if-here-eq0.false)
 
-pub leave-requires-clause-landmarks : goal.leave-requires-clause-landmarks
-leave-requires-clause-landmarks c =
-    let a = c.args in
-    c.requires.landmarks
-
-pub leave-requires-clause-table_value : goal.leave-requires-clause-table_value
-leave-requires-clause-table_value c =
-    let a = c.args in
-    c.requires.table_value
-
 pub leave-requires-clause-sound : goal.leave-requires-clause-sound
 leave-requires-clause-sound c =
     let a = c.args in

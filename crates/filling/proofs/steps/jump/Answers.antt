@@ -16,15 +16,6 @@ returns-then-here-eq0 c =
 pub overflow_sub-spot : goal.overflow_sub-spot
 overflow_sub-spot c = omega (arith, c.if-here-eq0.false)
 
-pub act_jump-r-requires-clause-code_value : goal.act_jump-r-requires-clause-code_value
-act_jump-r-requires-clause-code_value c = c.requires.code_value
-
-pub act_jump-r-requires-clause-in_hand : goal.act_jump-r-requires-clause-in_hand
-act_jump-r-requires-clause-in_hand c = c.requires.in_hand
-
-pub act_jump-r-requires-clause-next_le_count : goal.act_jump-r-requires-clause-next_le_count
-act_jump-r-requires-clause-next_le_count c = c.requires.next_le_count
-
 pub returns-in-Refused : goal.returns-in-Refused
 returns-in-Refused c =
     let a = c.args in

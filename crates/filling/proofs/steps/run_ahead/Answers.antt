@@ -7,9 +7,6 @@ use Rattle.filling.proofs.steps.run_ahead.Goals as goal
 pub run_short-requires-clause-stands : goal.run_short-requires-clause-stands
 run_short-requires-clause-stands c = record { held = c.requires.in_hand; reaches = c.requires.next_le_count; written = c.requires.at_in_bounds }
 
-pub run_short-requires-clause-start_in_bounds : goal.run_short-requires-clause-start_in_bounds
-run_short-requires-clause-start_in_bounds c = c.requires.place_in_bounds
-
 pub unhold-requires : goal.unhold-requires
 unhold-requires c = omega (arith, (c.run_short.ensures.strides 0).does.falls, c.requires.left_bound)
 

@@ -11,17 +11,11 @@ use Rattle.filling.proofs.PutLaws.{puts_step, escape_code}
 use borrow.Enum.Refused.{opened}
 use Rattle.filling.proofs.steps.step_directive.Goals as goal
 
-pub open_block-requires-clause-landmarks : goal.open_block-requires-clause-landmarks
-open_block-requires-clause-landmarks c = c.requires.landmarks
-
 pub open_block-requires-clause-table_value : goal.open_block-requires-clause-table_value
 open_block-requires-clause-table_value c = c.requires.standing.accepted
 
 pub open_block-requires-clause-sound : goal.open_block-requires-clause-sound
 open_block-requires-clause-sound c = c.requires.standing.sound
-
-pub open_block-requires-clause-place_value : goal.open_block-requires-clause-place_value
-open_block-requires-clause-place_value c = c.requires.place_value
 
 pub open_block-requires-clause-code_value : goal.open_block-requires-clause-code_value
 open_block-requires-clause-code_value c = sym c.opens_block.ensures ∙ c.if-opens_block.true
@@ -33,7 +27,6 @@ returns-then-opens_block c =
 
 pub give_form-requires-clause-code_value : goal.give_form-requires-clause-code_value
 give_form-requires-clause-code_value c =
-    let a = c.args in
     let q = c.in-Writes.is in
     q
 
@@ -46,25 +39,18 @@ give_form-requires-clause-form_right c =
 pub give_form-requires-clause-in_hand : goal.give_form-requires-clause-in_hand
 give_form-requires-clause-in_hand c =
     let a = c.args in
-    let q = c.in-Writes.is in
     (hand_in a.table.now a.here.hand a.here.next.0 c.requires.standing.accepted c.requires.standing.sound.hand)
 
 pub give_form-requires-clause-next_le_count : goal.give_form-requires-clause-next_le_count
 give_form-requires-clause-next_le_count c =
     let a = c.args in
-    let q = c.in-Writes.is in
     (next_in a.table.now a.here.hand a.here.next.0 c.requires.standing.sound.hand)
 
 pub give_form-requires-clause-at_in_bounds : goal.give_form-requires-clause-at_in_bounds
-give_form-requires-clause-at_in_bounds c =
-    let a = c.args in
-    let q = c.in-Writes.is in
-    c.requires.standing.room
+give_form-requires-clause-at_in_bounds c = c.requires.standing.room
 
 pub jump-requires-clause-code_value : goal.jump-requires-clause-code_value
-jump-requires-clause-code_value c =
-    let a = c.args in
-    c.in-Jump.is
+jump-requires-clause-code_value c = c.in-Jump.is
 
 pub jump-requires-clause-in_hand : goal.jump-requires-clause-in_hand
 jump-requires-clause-in_hand c =
@@ -76,25 +62,11 @@ jump-requires-clause-next_le_count c =
     let a = c.args in
     (next_in a.table.now a.here.hand a.here.next.0 c.requires.standing.sound.hand)
 
-pub escape-requires-clause-landmarks : goal.escape-requires-clause-landmarks
-escape-requires-clause-landmarks c =
-    let a = c.args in
-    c.requires.landmarks
-
 pub escape-requires-clause-table_value : goal.escape-requires-clause-table_value
-escape-requires-clause-table_value c =
-    let a = c.args in
-    c.requires.standing.accepted
+escape-requires-clause-table_value c = c.requires.standing.accepted
 
 pub escape-requires-clause-sound : goal.escape-requires-clause-sound
-escape-requires-clause-sound c =
-    let a = c.args in
-    c.requires.standing.sound
-
-pub escape-requires-clause-place_value : goal.escape-requires-clause-place_value
-escape-requires-clause-place_value c =
-    let a = c.args in
-    c.requires.place_value
+escape-requires-clause-sound c = c.requires.standing.sound
 
 pub escape-requires-clause-code_value : goal.escape-requires-clause-code_value
 escape-requires-clause-code_value c =

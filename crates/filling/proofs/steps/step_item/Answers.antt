@@ -13,9 +13,6 @@ use Rattle.blocks.proofs.EndLaws.{no_other}
 use borrow.Enum.Refused.{opened}
 use Rattle.filling.proofs.steps.step_item.Goals as goal
 
-pub end_sequence-requires-clause-landmarks : goal.end_sequence-requires-clause-landmarks
-end_sequence-requires-clause-landmarks c = c.requires.landmarks
-
 pub end_sequence-requires-clause-table_value : goal.end_sequence-requires-clause-table_value
 end_sequence-requires-clause-table_value c = c.requires.standing.accepted
 
@@ -31,10 +28,7 @@ returns-then-ends_here c =
     advances_moved a.text.now a.table.now (comes a.text.now a.table.now a.here a.nest) a.given a.here.left (weight a.here a.nest) a.at a.window.now c.moved_step.ensures c.end_sequence.ensures c.requires.standing.room
 
 pub give_byte-requires-clause-at_in_bounds : goal.give_byte-requires-clause-at_in_bounds
-give_byte-requires-clause-at_in_bounds c =
-    let a = c.args in
-    let e = c.element_at-item.ensures.is (sym c.ends_here.ensures ∙ c.if-ends_here.false) ∙ c.in-Literal.is in
-    c.requires.standing.room
+give_byte-requires-clause-at_in_bounds c = c.requires.standing.room
 
 pub give_byte-requires-clause-place_bound : goal.give_byte-requires-clause-place_bound
 give_byte-requires-clause-place_bound c =
@@ -42,30 +36,14 @@ give_byte-requires-clause-place_bound c =
     let e = c.element_at-item.ensures.is (sym c.ends_here.ensures ∙ c.if-ends_here.false) ∙ c.in-Literal.is in
     omega (arith, stands a.text.now a.here.place _ e, c.requires.standing.sound.short)
 
-pub step_directive-requires-clause-landmarks : goal.step_directive-requires-clause-landmarks
-step_directive-requires-clause-landmarks c =
-    let a = c.args in
-    let f = sym c.ends_here.ensures ∙ c.if-ends_here.false in
-    let q = c.in-Written.is in
-    c.requires.landmarks
-
-pub step_directive-requires-clause-standing : goal.step_directive-requires-clause-standing
-step_directive-requires-clause-standing c =
-    let a = c.args in
-    let f = sym c.ends_here.ensures ∙ c.if-ends_here.false in
-    let q = c.in-Written.is in
-    c.requires.standing
-
 pub step_directive-requires-clause-place_value : goal.step_directive-requires-clause-place_value
 step_directive-requires-clause-place_value c =
-    let a = c.args in
     let f = sym c.ends_here.ensures ∙ c.if-ends_here.false in
     let q = c.in-Written.is in
     c.element_at-item.ensures.is f ∙ q
 
 pub step_directive-requires-clause-code_value : goal.step_directive-requires-clause-code_value
 step_directive-requires-clause-code_value c =
-    let a = c.args in
     let f = sym c.ends_here.ensures ∙ c.if-ends_here.false in
     let q = c.in-Written.is in
     subst (λ (x : Item). ends_at x ≡ false) q f

@@ -15,9 +15,6 @@ use Rattle.making.proofs.making.make_piece.Goals as goal
 pub make_object-requires-clause-well_set : goal.make_object-requires-clause-well_set
 make_object-requires-clause-well_set c = rw c.in-Object.is at c.requires.well_set
 
-pub make_object-requires-clause-reachable : goal.make_object-requires-clause-reachable
-make_object-requires-clause-reachable c = c.requires.reachable
-
 pub make_numeral-requires : goal.make_numeral-requires
 make_numeral-requires c = rw c.in-Numeral.is at c.requires.well_set
 

@@ -8,9 +8,6 @@ use Rattle.making.proofs.Spelled.{in_range_lem, in_groups, in_one}
 use Rattle.making.proofs.Made.{makes_same}
 use Rattle.making.proofs.making.numeral_body.Goals as goal
 
-pub figure_body-requires-clause-le_base : goal.figure_body-requires-clause-le_base
-figure_body-requires-clause-le_base c = c.requires.base
-
 pub figure_body-requires-clause-width_bound : goal.figure_body-requires-clause-width_bound
 figure_body-requires-clause-width_bound c =
     omega (

@@ -25,16 +25,6 @@ padding-count-requires-clause-le_padinc c =
     let minpad = c.number_or-minpad.ensures in
     (omega (arith, padinc, second), omega (arith, padinc, second))
 
-pub padding-count-requires-clause-size_bound : goal.padding-count-requires-clause-size_bound
-padding-count-requires-clause-size_bound c =
-    let first = in_range_lem c.args.settings.first 0 c.requires.in_places.first (omega arith) (omega arith) in
-    let second = in_range_lem c.args.settings.second 1 c.requires.in_places.second (omega arith) (omega arith) in
-    let third = in_range_lem c.args.settings.third 0 c.requires.in_places.third (omega arith) (omega arith) in
-    let minwidth = c.number_or-minwidth.ensures in
-    let padinc = c.number_or-padinc.ensures in
-    let minpad = c.number_or-minpad.ensures in
-    c.requires.size_bound
-
 pub returns-then-atsign : goal.returns-then-atsign
 returns-then-atsign c =
     λ t text makes.

@@ -3,9 +3,6 @@ use Rattle.nesting.proofs.MoveLaws.{closes_is}
 use Rattle.blocks.proofs.ClauseLaws.{inside_start}
 use Rattle.nesting.proofs.moves.close.Goals as goal
 
-pub block_end-requires-clause-landmarks : goal.block_end-requires-clause-landmarks
-block_end-requires-clause-landmarks c = c.requires.landmarks
-
 pub block_end-requires-clause-inside_at : goal.block_end-requires-clause-inside_at
 block_end-requires-clause-inside_at c = inside_start c.args.text.now c.args.inside c.requires.inside_in_bounds
 

@@ -3,12 +3,6 @@ use mathlib.Core.Path.{refl, sym, ◌∙◌}
 use Rattle.nesting.proofs.MoveLaws.{pass_over, pass_none, again_fits, pass_again}
 use Rattle.nesting.proofs.moves.end_pass.Goals as goal
 
-pub close_iteration-requires-clause-landmarks : goal.close_iteration-requires-clause-landmarks
-close_iteration-requires-clause-landmarks c = c.requires.landmarks
-
-pub close_iteration-requires-clause-passing : goal.close_iteration-requires-clause-passing
-close_iteration-requires-clause-passing c = c.requires.passing
-
 pub returns-then-is_over : goal.returns-then-is_over
 returns-then-is_over c = let a = c.args in pass_over a.text.now a.table.now a.here a.block a.outside c.requires.passing (sym c.is_over.ensures ∙ c.if-is_over.true) c.close_iteration.ensures
 
@@ -16,9 +10,7 @@ pub returns-then-here-eq0 : goal.returns-then-here-eq0
 returns-then-here-eq0 c = let a = c.args in pass_none a.text.now a.table.now a.here a.block a.outside c.requires.passing (sym c.is_over.ensures ∙ c.if-is_over.false) c.if-here-eq0.true c.over.ensures
 
 pub pushed-requires-clause-depth_bound : goal.pushed-requires-clause-depth_bound
-pushed-requires-clause-depth_bound c =
-    let a = c.args in
-    c.requires.passing.level
+pushed-requires-clause-depth_bound c = c.requires.passing.level
 
 pub pushed-requires-clause-fits : goal.pushed-requires-clause-fits
 pushed-requires-clause-fits c =

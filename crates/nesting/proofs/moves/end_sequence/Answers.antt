@@ -12,12 +12,6 @@ block_at-block-requires c = let a = c.args in omega (arith, c.if-nest-eq0.false,
 pub popped-outside-requires : goal.popped-outside-requires
 popped-outside-requires c = let a = c.args in omega (arith, c.if-nest-eq0.false)
 
-pub close-requires-clause-landmarks : goal.close-requires-clause-landmarks
-close-requires-clause-landmarks c =
-    let a = c.args in
-    let p = top_lies a.text.now a.table.now a.here a.nest c.requires.sound c.if-nest-eq0.false c.block_at-block.ensures.is in
-    c.requires.landmarks
-
 pub close-requires-clause-inside_in_bounds : goal.close-requires-clause-inside_in_bounds
 close-requires-clause-inside_in_bounds c =
     let a = c.args in
@@ -26,11 +20,6 @@ close-requires-clause-inside_in_bounds c =
 
 pub returns-then-block-eq-CONDITIONAL : goal.returns-then-block-eq-CONDITIONAL
 returns-then-block-eq-CONDITIONAL c = let a = c.args in ends_clause a.text.now a.table.now a.here a.nest c.requires.sound c.if-nest-eq0.false c.requires.place_value c.block_at-block.ensures.is c.popped-outside.ensures c.if-block-eq-CONDITIONAL.true c.close.ensures
-
-pub end_pass-requires-clause-landmarks : goal.end_pass-requires-clause-landmarks
-end_pass-requires-clause-landmarks c =
-    let a = c.args in
-    c.requires.landmarks
 
 pub end_pass-requires-clause-passing : goal.end_pass-requires-clause-passing
 end_pass-requires-clause-passing c =

@@ -22,12 +22,6 @@ block_at-block-requires c = omega (arith, c.loop-outside-test.true, c.loop-outsi
 pub popped-outside-requires : goal.popped-outside-requires
 popped-outside-requires c = c.loop-outside-test.true
 
-pub close_iteration-requires-clause-landmarks : goal.close_iteration-requires-clause-landmarks
-close_iteration-requires-clause-landmarks c =
-    let a = c.args in
-    let w = c.loop-outside.invariant in
-    c.requires.landmarks
-
 pub close_iteration-requires-clause-passing : goal.close_iteration-requires-clause-passing
 close_iteration-requires-clause-passing c =
     let a = c.args in

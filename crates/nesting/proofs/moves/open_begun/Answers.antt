@@ -21,12 +21,6 @@ settle_directive-settled-requires-clause-next_le_count c =
     let a = c.args in
     ready_next a.text.now a.table.now a.here a.nest a.d c.requires.ready
 
-pub open_iteration-requires-clause-ready : goal.open_iteration-requires-clause-ready
-open_iteration-requires-clause-ready c =
-    let a = c.args in
-    let g = (subst (SettlesDirective a.table.now a.here.hand a.d a.here.next.0) c.in-Is.is c.settle_directive-settled.ensures) in
-    c.requires.ready
-
 pub open_iteration-requires-clause-i_le_count : goal.open_iteration-requires-clause-i_le_count
 open_iteration-requires-clause-i_le_count c =
     let a = c.args in
@@ -41,18 +35,6 @@ open_iteration-requires-clause-fits_passes c =
 
 pub returns-then-is_iteration : goal.returns-then-is_iteration
 returns-then-is_iteration c = let a = c.args in open_settled a.text.now a.table.now a.here a.nest a.d c.requires.ready true (sym c.is_iteration.ensures ∙ c.if-is_iteration.true) (sym c.is_well_written.ensures ∙ not-false _ c.if-not-is_well_written.false-raw) (subst (SettlesDirective a.table.now a.here.hand a.d a.here.next.0) c.in-Is.is c.settle_directive-settled.ensures) (c.open_iteration.ensures a.here.next.0)
-
-pub open_conditional-requires-clause-landmarks : goal.open_conditional-requires-clause-landmarks
-open_conditional-requires-clause-landmarks c =
-    let a = c.args in
-    let g = (subst (SettlesDirective a.table.now a.here.hand a.d a.here.next.0) c.in-Is.is c.settle_directive-settled.ensures) in
-    c.requires.landmarks
-
-pub open_conditional-requires-clause-ready : goal.open_conditional-requires-clause-ready
-open_conditional-requires-clause-ready c =
-    let a = c.args in
-    let g = (subst (SettlesDirective a.table.now a.here.hand a.d a.here.next.0) c.in-Is.is c.settle_directive-settled.ensures) in
-    c.requires.ready
 
 pub open_conditional-requires-clause-i_le_count : goal.open_conditional-requires-clause-i_le_count
 open_conditional-requires-clause-i_le_count c =

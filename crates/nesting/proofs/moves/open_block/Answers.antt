@@ -9,11 +9,6 @@ returns-then-nest-ge-DEEPEST c = let a = c.args in met_deep a.text.now a.table.n
 pub returns-then-here-eq0 : goal.returns-then-here-eq0
 returns-then-here-eq0 c = let a = c.args in met_none a.text.now a.table.now a.here a.nest a.d c.requires.place_value c.requires.code_value (omega (arith, c.if-nest-ge-DEEPEST.false)) c.if-here-eq0.true c.over-then-here-eq0.ensures
 
-pub open_begun-requires-clause-landmarks : goal.open_begun-requires-clause-landmarks
-open_begun-requires-clause-landmarks c =
-    let a = c.args in
-    c.requires.landmarks
-
 pub open_begun-requires-clause-ready : goal.open_begun-requires-clause-ready
 open_begun-requires-clause-ready c =
     let a = c.args in

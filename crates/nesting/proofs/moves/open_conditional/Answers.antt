@@ -4,40 +4,21 @@ use Rattle.blocks.specs.Clauses.{Chooses}
 use Rattle.nesting.proofs.OpenLaws.{ready_hand, clause_fits, conditional_wrong, conditional_none, conditional_on}
 use Rattle.nesting.proofs.moves.open_conditional.Goals as goal
 
-pub choose_clause-chosen-requires-clause-landmarks : goal.choose_clause-chosen-requires-clause-landmarks
-choose_clause-chosen-requires-clause-landmarks c =
-    let a = c.args in
-    c.requires.landmarks
-
 pub choose_clause-chosen-requires-clause-in_hand : goal.choose_clause-chosen-requires-clause-in_hand
 choose_clause-chosen-requires-clause-in_hand c =
     let a = c.args in
     ready_hand a.text.now a.table.now a.here a.nest a.d c.requires.ready
 
-pub choose_clause-chosen-requires-clause-i_le_count : goal.choose_clause-chosen-requires-clause-i_le_count
-choose_clause-chosen-requires-clause-i_le_count c =
-    let a = c.args in
-    c.requires.i_le_count
-
 pub choose_clause-chosen-requires-clause-after_in_bounds : goal.choose_clause-chosen-requires-clause-after_in_bounds
-choose_clause-chosen-requires-clause-after_in_bounds c =
-    let a = c.args in
-    c.requires.ready.inside
+choose_clause-chosen-requires-clause-after_in_bounds c = c.requires.ready.inside
 
 pub pushed-requires-clause-depth_bound : goal.pushed-requires-clause-depth_bound
-pushed-requires-clause-depth_bound c =
-    let a = c.args in
-    c.requires.ready.level
+pushed-requires-clause-depth_bound c = c.requires.ready.level
 
 pub pushed-requires-clause-fits : goal.pushed-requires-clause-fits
 pushed-requires-clause-fits c =
     let a = c.args in
     clause_fits a.text.now a.table.now a.here a.nest a.d c.requires.ready a.settings a.i c.requires.i_le_count (subst (Chooses a.text.now a.table.now a.here.hand a.d a.settings a.i.0) c.in-At.is c.choose_clause-chosen.ensures)
-
-pub block_end-requires-clause-landmarks : goal.block_end-requires-clause-landmarks
-block_end-requires-clause-landmarks c =
-    let a = c.args in
-    c.requires.landmarks
 
 pub block_end-requires-clause-inside_at : goal.block_end-requires-clause-inside_at
 block_end-requires-clause-inside_at c =

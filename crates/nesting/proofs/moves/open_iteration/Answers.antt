@@ -11,18 +11,11 @@ go_over-entries-requires-clause-in_hand c =
     let a = c.args in
     ready_hand a.text.now a.table.now a.here a.nest a.d c.requires.ready
 
-pub go_over-entries-requires-clause-i_le_count : goal.go_over-entries-requires-clause-i_le_count
-go_over-entries-requires-clause-i_le_count c =
-    let a = c.args in
-    c.requires.i_le_count
-
 pub next_after-requires : goal.next_after-requires
 next_after-requires c = let a = c.args in omega (arith, c.requires.i_le_count, hand_small (ready_hand a.text.now a.table.now a.here a.nest a.d c.requires.ready))
 
 pub pushed-requires-clause-depth_bound : goal.pushed-requires-clause-depth_bound
-pushed-requires-clause-depth_bound c =
-    let a = c.args in
-    c.requires.ready.level
+pushed-requires-clause-depth_bound c = c.requires.ready.level
 
 pub pushed-requires-clause-fits : goal.pushed-requires-clause-fits
 pushed-requires-clause-fits c =

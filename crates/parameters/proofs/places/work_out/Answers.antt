@@ -6,9 +6,6 @@ use Rattle.parameters.proofs.places.work_out.Goals as goal
 pub work_next-requires-clause-in_hand : goal.work_next-requires-clause-in_hand
 work_next-requires-clause-in_hand c = c.requires.supplied c.in-Next.is
 
-pub work_next-requires-clause-next_le_count : goal.work_next-requires-clause-next_le_count
-work_next-requires-clause-next_le_count c = c.requires.next_le_count
-
 pub written-requires : goal.written-requires
 written-requires c = tag_written c.args.x (opened c.in_default.in_default-own.keys3)
 

@@ -14,9 +14,6 @@ work_out-b-requires-clause-next_le_count c = still_reaches c.work_out-a.ensures 
 pub returns-in_default-b : goal.returns-in_default-b
 returns-in_default-b c = rw c.refusal-in_default-b.ensures (second_wrong c.work_out-a.ensures c.in-Is.is _ c.work_out-b.ensures c.in_default-b.in_default-b-own.keys2)
 
-pub settle_last-requires-clause-all_supplied : goal.settle_last-requires-clause-all_supplied
-settle_last-requires-clause-all_supplied c = c.requires.all_supplied
-
 pub settle_last-requires-clause-next_le_count : goal.settle_last-requires-clause-next_le_count
 settle_last-requires-clause-next_le_count c = still_reaches c.work_out-b.ensures c.in-Is-b.is
 

@@ -6,9 +6,6 @@ use lib.ListN.{length}
 use Rattle.pieces.proofs.Numerals.{ungrouped, in_groups}
 use Rattle.pieces.proofs.figuring.digits_size.Goals as goal
 
-pub digit_count-count-requires : goal.digit_count-count-requires
-digit_count-count-requires c = c.requires.base
-
 pub returns-then-x-eq0-clause-size : goal.returns-then-x-eq0-clause-size
 returns-then-x-eq0-clause-size c =
     c.digit_count-count.ensures.count

@@ -6,9 +6,6 @@ use Rattle.pieces.specs.Bytes.{digits_in}
 use Rattle.pieces.proofs.Numerals.{unsigned, with_sign, sign_put, sign_room}
 use Rattle.pieces.proofs.figuring.figure_whole.Goals as goal
 
-pub digits_whole-requires-clause-good_figure : goal.digits_whole-requires-clause-good_figure
-digits_whole-requires-clause-good_figure c = c.requires.good_figure
-
 pub digits_whole-requires-clause-out_len : goal.digits_whole-requires-clause-out_len
 digits_whole-requires-clause-out_len c = c.requires.out_len ∙ ap length (unsigned c.args.x c.if-x-eq0.true)
 
@@ -26,9 +23,6 @@ slice_bounds-digits_whole-count c = simp length-set (omega (arith, (c.requires.o
 
 pub slice_bounds-digits_whole-start : goal.slice_bounds-digits_whole-start
 slice_bounds-digits_whole-start c = simp length-set (omega (arith, (c.requires.out_len ∙ ap length (with_sign c.args.x c.if-x-eq0.false))))
-
-pub digits_whole-requires-2-clause-good_figure : goal.digits_whole-requires-2-clause-good_figure
-digits_whole-requires-2-clause-good_figure c = c.requires.good_figure
 
 pub digits_whole-requires-2-clause-out_len : goal.digits_whole-requires-2-clause-out_len
 digits_whole-requires-2-clause-out_len c =

@@ -27,25 +27,13 @@ quote_part-requires-clause-size_value c =
     lent.size
 
 pub quote_part-requires-clause-size_bound : goal.quote_part-requires-clause-size_bound
-quote_part-requires-clause-size_bound c =
-    let lent =
-    is_quoted c.requires.good_body _ _ c.string_part-in-Quoted.ensures c.in-Quoted.is in
-    c.requires.good_body.small
-
-pub quote_part-requires-clause-out_len_bound : goal.quote_part-requires-clause-out_len_bound
-quote_part-requires-clause-out_len_bound c =
-    let lent =
-    is_quoted c.requires.good_body _ _ c.string_part-in-Quoted.ensures c.in-Quoted.is in
-    c.requires.out_len_bound
+quote_part-requires-clause-size_bound c = c.requires.good_body.small
 
 pub figure_part-requires-clause-good_figure : goal.figure_part-requires-clause-good_figure
 figure_part-requires-clause-good_figure c = (is_figures c.requires.good_body _ c.in-Figures.is).places
 
 pub figure_part-requires-clause-size_value : goal.figure_part-requires-clause-size_value
 figure_part-requires-clause-size_value c = (is_figures c.requires.good_body _ c.in-Figures.is).size
-
-pub figure_part-requires-clause-out_len_bound : goal.figure_part-requires-clause-out_len_bound
-figure_part-requires-clause-out_len_bound c = c.requires.out_len_bound
 
 pub slice_bounds-copy_part-end : goal.slice_bounds-copy_part-end
 slice_bounds-copy_part-end c =

@@ -13,19 +13,13 @@ returns-then-stand-eq0 c =
     λ s n level here e _. alone_none s n (view_of a.table.now) a.stand.hand.first.0 a.stand.hand.count level here a.stand.next.0 a.stand.left a.stand.at a.out.now a.p a.d c.requires.acts_alone e _ c.if-stand-eq0.true c.refuse.ensures c.requires.stands.written c.requires.stands.reaches
 
 pub act_form-requires-clause-code_value : goal.act_form-requires-clause-code_value
-act_form-requires-clause-code_value c =
-    let a = c.args in
-    c.in-Writes.is
+act_form-requires-clause-code_value c = c.in-Writes.is
 
 pub act_form-requires-clause-form_right : goal.act_form-requires-clause-form_right
-act_form-requires-clause-form_right c =
-    let a = c.args in
-    subst ActsAlone c.in-Writes.is c.requires.acts_alone
+act_form-requires-clause-form_right c = subst ActsAlone c.in-Writes.is c.requires.acts_alone
 
 pub act_form-requires-clause-in_hand : goal.act_form-requires-clause-in_hand
-act_form-requires-clause-in_hand c =
-    let a = c.args in
-    c.requires.stands.held
+act_form-requires-clause-in_hand c = c.requires.stands.held
 
 pub act_form-requires-clause-at_in_bounds : goal.act_form-requires-clause-at_in_bounds
 act_form-requires-clause-at_in_bounds c =
@@ -33,9 +27,7 @@ act_form-requires-clause-at_in_bounds c =
     begun_inside _ _ a.out.now c.begin-spot.ensures c.requires.stands.written
 
 pub act_form-requires-clause-next_le_count : goal.act_form-requires-clause-next_le_count
-act_form-requires-clause-next_le_count c =
-    let a = c.args in
-    c.requires.stands.reaches
+act_form-requires-clause-next_le_count c = c.requires.stands.reaches
 
 pub returns-in-Writes : goal.returns-in-Writes
 returns-in-Writes c =

@@ -17,14 +17,10 @@ returns-then-stand-eq0-clause-steps c =
     λ s n level here e _. acts_none s n (view_of a.table.now) a.stand.hand.first.0 a.stand.hand.count level here a.stand.next.0 a.stand.left a.stand.at a.out.now e _ c.if-stand-eq0.true c.refuse.ensures c.requires.stands.written c.requires.stands.reaches
 
 pub returns-then-stand-eq0-clause-held : goal.returns-then-stand-eq0-clause-held
-returns-then-stand-eq0-clause-held c =
-    let a = c.args in
-    unbegun_none c.refuse.ensures
+returns-then-stand-eq0-clause-held c = unbegun_none c.refuse.ensures
 
 pub returns-then-stand-eq0-clause-stays : goal.returns-then-stand-eq0-clause-stays
-returns-then-stand-eq0-clause-stays c =
-    let a = c.args in
-    refused_stays c.refuse.ensures
+returns-then-stand-eq0-clause-stays c = refused_stays c.refuse.ensures
 
 pub put_run-requires : goal.put_run-requires
 put_run-requires c = begun_inside _ _ c.args.out.now c.begin-spot.ensures c.requires.stands.written
@@ -36,22 +32,12 @@ returns-then-kind-gt-NUMERAL-clause-steps c =
     λ s n level here e h. short_begun s n (view_of a.table.now) a.stand.hand.first.0 a.stand.hand.count level here a.stand.next.0 a.stand.left a.stand.at a.out.now (brief_of a.kind a.detail) (setting_of 4097 a.number) (setting_of 256 a.byte) c.requires.short_in e h c.if-stand-eq0.false _ c.begin-spot.ensures (λ d q w. writes_as (view_of a.table.now) (hand_at a.stand.hand 0) a.stand.next.0 a.stand.hand.count _ d _ _ _ {x = setting_of 4097 a.number} {y = setting_of 256 a.byte} (sym (repeat_form a.kind a.detail (omega (arith, c.if-kind-gt-NUMERAL.true)))) refl refl (run_written a.table.now a.stand.hand st _ a.stand.next.0 d a.detail _ c.number_or.ensures (c.put_run.ensures.puts a.stand.hand.count c.requires.stands.reaches)))
 
 pub returns-then-kind-gt-NUMERAL-clause-held : goal.returns-then-kind-gt-NUMERAL-clause-held
-returns-then-kind-gt-NUMERAL-clause-held c =
-    let a = c.args in
-    let st = short_settings (setting_of 4097 a.number) (setting_of 256 a.byte) in
-    unbegun _ c.begin-spot.ensures c.if-stand-eq0.false c.put_run.ensures.untouched
+returns-then-kind-gt-NUMERAL-clause-held c = unbegun _ c.begin-spot.ensures c.if-stand-eq0.false c.put_run.ensures.untouched
 
 pub returns-then-kind-gt-NUMERAL-clause-stays : goal.returns-then-kind-gt-NUMERAL-clause-stays
 returns-then-kind-gt-NUMERAL-clause-stays c =
     let a = c.args in
-    let st = short_settings (setting_of 4097 a.number) (setting_of 256 a.byte) in
     performed_stays (c.put_run.ensures.puts a.stand.hand.count c.requires.stands.reaches)
-
-pub write_argument-requires-clause-form_right : goal.write_argument-requires-clause-form_right
-write_argument-requires-clause-form_right c = c.requires.form_right
-
-pub write_argument-requires-clause-short_in : goal.write_argument-requires-clause-short_in
-write_argument-requires-clause-short_in c = c.requires.short_in
 
 pub write_argument-requires-clause-kind_bound : goal.write_argument-requires-clause-kind_bound
 write_argument-requires-clause-kind_bound c = omega (arith, c.if-kind-gt-NUMERAL.false)
@@ -71,9 +57,7 @@ returns-clause-steps c =
     λ s n level here e h. short_begun s n (view_of a.table.now) a.stand.hand.first.0 a.stand.hand.count level here a.stand.next.0 a.stand.left a.stand.at a.out.now (brief_of a.kind a.detail) (setting_of 4097 a.number) (setting_of 256 a.byte) c.requires.short_in e h c.if-stand-eq0.false _ c.begin-spot.ensures c.write_argument.ensures.writes
 
 pub returns-clause-held : goal.returns-clause-held
-returns-clause-held c =
-    let a = c.args in
-    unbegun _ c.begin-spot.ensures c.if-stand-eq0.false c.write_argument.ensures.untouched
+returns-clause-held c = unbegun _ c.begin-spot.ensures c.if-stand-eq0.false c.write_argument.ensures.untouched
 
 pub returns-clause-stays : goal.returns-clause-stays
 returns-clause-stays c =

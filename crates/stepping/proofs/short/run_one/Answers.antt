@@ -24,31 +24,19 @@ act_short-requires-clause-short_in c =
     let u = subst (ShortAt a.text.now a.p) c.in-Is.is c.read_short-short.ensures.means in
     u.suits
 
-pub act_short-requires-clause-stands : goal.act_short-requires-clause-stands
-act_short-requires-clause-stands c =
-    let a = c.args in
-    let u = subst (ShortAt a.text.now a.p) c.in-Is.is c.read_short-short.ensures.means in
-    c.requires.stands
-
 pub returns-in-Other-clause-strides : goal.returns-in-Other-clause-strides
 returns-in-Other-clause-strides c =
     let a = c.args in
     λ level. strides_none (levels_at a.text.now) (length a.text.now) (view_of a.table.now) a.stand.hand.first.0 a.stand.hand.count level a.p a.stand.next.0 a.stand.left a.stand.at a.out.now _ refl c.requires.p_in_bounds c.requires.stands.written c.requires.stands.reaches
 
 pub returns-in-Other-clause-other : goal.returns-in-Other-clause-other
-returns-in-Other-clause-other c =
-    let a = c.args in
-    λ _ _. (sym c.read_short-short.ensures.is ∙ c.in-Other.is, (refl, refl))
+returns-in-Other-clause-other c = λ _ _. (sym c.read_short-short.ensures.is ∙ c.in-Other.is, (refl, refl))
 
 pub returns-in-Other-clause-held : goal.returns-in-Other-clause-held
-returns-in-Other-clause-held c =
-    let a = c.args in
-    λ x q. absurd (no_end q refl)
+returns-in-Other-clause-held c = λ x q. absurd (no_end q refl)
 
 pub returns-in-Other-clause-stays : goal.returns-in-Other-clause-stays
-returns-in-Other-clause-stays c =
-    let a = c.args in
-    λ q. no_end_left q refl
+returns-in-Other-clause-stays c = λ q. no_end_left q refl
 
 pub shape_of-out : goal.shape_of-out
 shape_of-out c =
@@ -80,17 +68,7 @@ returns-in-Is-clause-other c =
 pub returns-in-Is-clause-held : goal.returns-in-Is-clause-held
 returns-in-Is-clause-held c =
     let a = c.args in
-    let u = subst (ShortAt a.text.now a.p) c.in-Is.is c.read_short-short.ensures.means in
-    let one = c.act_short.ensures.steps (levels_at a.text.now) (length a.text.now) in
-    let here = writes_at a.text.now a.p _ u.item _ refl in
-    let on = directive_ahead a.text.now a.p _ u.item in
     held_up (levels_at a.text.now) (length a.text.now) (view_of a.table.now) a.stand.hand.first.0 a.stand.hand.count a.p a.stand.next.0 a.stand.left a.stand.at a.out.now c.act_short.result c.requires.p_in_bounds c.requires.stands.written c.requires.stands.reaches c.act_short.ensures.held
 
 pub returns-in-Is-clause-stays : goal.returns-in-Is-clause-stays
-returns-in-Is-clause-stays c =
-    let a = c.args in
-    let u = subst (ShortAt a.text.now a.p) c.in-Is.is c.read_short-short.ensures.means in
-    let one = c.act_short.ensures.steps (levels_at a.text.now) (length a.text.now) in
-    let here = writes_at a.text.now a.p _ u.item _ refl in
-    let on = directive_ahead a.text.now a.p _ u.item in
-    c.act_short.ensures.stays
+returns-in-Is-clause-stays c = c.act_short.ensures.stays

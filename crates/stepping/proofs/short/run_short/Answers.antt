@@ -42,19 +42,11 @@ run_one-r-requires-clause-stands c =
     record { held = c.requires.stands.held; reaches = c.loop-hand.invariant.0.inside; written = omega (arith, c.put_literals-k.ensures.puts.room, (puts 0 c.loop-hand.next.0 c.loop-hand.invariant.0.inside).does.size) }
 
 pub run_one-r-requires-clause-p_in_bounds : goal.run_one-r-requires-clause-p_in_bounds
-run_one-r-requires-clause-p_in_bounds c =
-    let a = c.args in
-    let s = levels_at a.text.now in
-    let n = length a.text.now in
-    let v = view_of a.table.now in
-    let puts = c.put_literals-k.ensures.puts.runs v a.first.hand.first.0 a.first.hand.count in
-    c.put_literals-k.ensures.puts.inside
+run_one-r-requires-clause-p_in_bounds c = c.put_literals-k.ensures.puts.inside
 
 pub shape_of-out-then-not-is_ended : goal.shape_of-out-then-not-is_ended
 shape_of-out-then-not-is_ended c =
     let a = c.args in
-    let s = levels_at a.text.now in
-    let n = length a.text.now in
     let v = view_of a.table.now in
     let puts = c.put_literals-k.ensures.puts.runs v a.first.hand.first.0 a.first.hand.count in
     let one = c.run_one-r.ensures.strides in
@@ -71,14 +63,7 @@ returns-then-not-is_ended-clause-strides c =
     c.loop-hand.invariant.0.ends _ _ (λ level. strides_on s n v a.first.hand.first.0 a.first.hand.count level c.loop-hand.p c.loop-hand.next.0 c.loop-hand.left c.loop-hand.at c.loop-hand.out (puts level c.loop-hand.next.0 c.loop-hand.invariant.0.inside) refl (one level))
 
 pub returns-then-not-is_ended-clause-all : goal.returns-then-not-is_ended-clause-all
-returns-then-not-is_ended-clause-all c =
-    let a = c.args in
-    let s = levels_at a.text.now in
-    let n = length a.text.now in
-    let v = view_of a.table.now in
-    let puts = c.put_literals-k.ensures.puts.runs v a.first.hand.first.0 a.first.hand.count in
-    let one = c.run_one-r.ensures.strides in
-    λ h. absurd (not_both_ways (ap is_ended h) (sym c.is_ended.ensures ∙ not-true _ c.if-not-is_ended.true-raw))
+returns-then-not-is_ended-clause-all c = λ h. absurd (not_both_ways (ap is_ended h) (sym c.is_ended.ensures ∙ not-true _ c.if-not-is_ended.true-raw))
 
 pub returns-then-not-is_ended-clause-held : goal.returns-then-not-is_ended-clause-held
 returns-then-not-is_ended-clause-held c =
@@ -87,24 +72,14 @@ returns-then-not-is_ended-clause-held c =
     let n = length a.text.now in
     let v = view_of a.table.now in
     let puts = c.put_literals-k.ensures.puts.runs v a.first.hand.first.0 a.first.hand.count in
-    let one = c.run_one-r.ensures.strides in
     λ x q. c.loop-hand.invariant.0.ends _ _ (λ level. strides_on s n v a.first.hand.first.0 a.first.hand.count level c.loop-hand.p c.loop-hand.next.0 c.loop-hand.left c.loop-hand.at c.loop-hand.out (puts level c.loop-hand.next.0 c.loop-hand.invariant.0.inside) refl (c.run_one-r.ensures.held x q level))
 
 pub returns-then-not-is_ended-clause-stays : goal.returns-then-not-is_ended-clause-stays
-returns-then-not-is_ended-clause-stays c =
-    let a = c.args in
-    let s = levels_at a.text.now in
-    let n = length a.text.now in
-    let v = view_of a.table.now in
-    let puts = c.put_literals-k.ensures.puts.runs v a.first.hand.first.0 a.first.hand.count in
-    let one = c.run_one-r.ensures.strides in
-    c.run_one-r.ensures.stays
+returns-then-not-is_ended-clause-stays c = c.run_one-r.ensures.stays
 
 pub shape_of-out-then-r-p : goal.shape_of-out-then-r-p
 shape_of-out-then-r-p c =
     let a = c.args in
-    let s = levels_at a.text.now in
-    let n = length a.text.now in
     let v = view_of a.table.now in
     let puts = c.put_literals-k.ensures.puts.runs v a.first.hand.first.0 a.first.hand.count in
     let one = c.run_one-r.ensures.strides in
@@ -140,18 +115,10 @@ returns-then-r-p-clause-held c =
     let n = length a.text.now in
     let v = view_of a.table.now in
     let puts = c.put_literals-k.ensures.puts.runs v a.first.hand.first.0 a.first.hand.count in
-    let one = c.run_one-r.ensures.strides in
     λ x q. c.loop-hand.invariant.0.ends _ _ (λ level. strides_on s n v a.first.hand.first.0 a.first.hand.count level c.loop-hand.p c.loop-hand.next.0 c.loop-hand.left c.loop-hand.at c.loop-hand.out (puts level c.loop-hand.next.0 c.loop-hand.invariant.0.inside) refl (c.run_one-r.ensures.held x q level))
 
 pub returns-then-r-p-clause-stays : goal.returns-then-r-p-clause-stays
-returns-then-r-p-clause-stays c =
-    let a = c.args in
-    let s = levels_at a.text.now in
-    let n = length a.text.now in
-    let v = view_of a.table.now in
-    let puts = c.put_literals-k.ensures.puts.runs v a.first.hand.first.0 a.first.hand.count in
-    let one = c.run_one-r.ensures.strides in
-    c.run_one-r.ensures.stays
+returns-then-r-p-clause-stays c = c.run_one-r.ensures.stays
 
 pub loop-hand-smaller : goal.loop-hand-smaller
 loop-hand-smaller c =

@@ -19,16 +19,10 @@ returns-then-hand-k-clause-writes c =
     λ d q w. performed_refused _ 6 a.i.0 c.refuse.ensures (λ on. own_none (view_of a.table.now) (hand_at a.hand 0) a.i.0 a.spot.position a.spot.left a.kind a.detail s d on c.requires.kind_bound c.if-hand-k.true) c.requires.at_in_bounds c.requires.i_le_count
 
 pub returns-then-hand-k-clause-untouched : goal.returns-then-hand-k-clause-untouched
-returns-then-hand-k-clause-untouched c =
-    let a = c.args in
-    let s = short_settings (setting_of 4097 a.number) (setting_of 256 a.byte) in
-    untouched_refused _ 6 c.refuse.ensures
+returns-then-hand-k-clause-untouched c = untouched_refused _ 6 c.refuse.ensures
 
 pub put_text-requires-clause-string_in : goal.put_text-requires-clause-string_in
 put_text-requires-clause-string_in c = string_held c.in-Text.is c.argument_at-argument.ensures.entry
-
-pub put_text-requires-clause-at_in_bounds : goal.put_text-requires-clause-at_in_bounds
-put_text-requires-clause-at_in_bounds c = c.requires.at_in_bounds
 
 pub returns-then-is_both-clause-writes : goal.returns-then-is_both-clause-writes
 returns-then-is_both-clause-writes c =
@@ -41,29 +35,7 @@ returns-then-is_both-clause-writes c =
     λ d q w. writes_as (view_of a.table.now) (hand_at a.hand 0) a.i.0 a.hand.count a.spot d _ _ _ {x = setting_of 4097 a.number} {y = setting_of 256 a.byte} (sym e) refl refl (text_written a.table.now a.hand s a.spot a.i.0 d c.argument_at-argument.result l c.argument_at-argument.ensures.value _ _ c.number_or-width.result x (string_held x c.argument_at-argument.ensures.entry) w (object_alone a.kind a.detail (setting_of 4097 a.number) (setting_of 256 a.byte) y c.requires.short_in) refl refl c.number_or-width.ensures (c.put_text.ensures.puts a.hand.count (omega (arith, l)) (omega (arith, l))))
 
 pub returns-then-is_both-clause-untouched : goal.returns-then-is_both-clause-untouched
-returns-then-is_both-clause-untouched c =
-    let a = c.args in
-    let s = short_settings (setting_of 4097 a.number) (setting_of 256 a.byte) in
-    let x = c.in-Text.is in
-    let l = c.if-hand-k.false in
-    let y = sym c.is_both.ensures ∙ c.if-is_both.true in
-    let e = object_form a.kind a.detail y in
-    c.put_text.ensures.untouched
-
-pub write_piece-requires-clause-form_right : goal.write_piece-requires-clause-form_right
-write_piece-requires-clause-form_right c = c.requires.form_right
-
-pub write_piece-requires-clause-short_in : goal.write_piece-requires-clause-short_in
-write_piece-requires-clause-short_in c = c.requires.short_in
-
-pub write_piece-requires-clause-in_hand : goal.write_piece-requires-clause-in_hand
-write_piece-requires-clause-in_hand c = c.requires.in_hand
-
-pub write_piece-requires-clause-i_le_count : goal.write_piece-requires-clause-i_le_count
-write_piece-requires-clause-i_le_count c = c.requires.i_le_count
-
-pub write_piece-requires-clause-at_in_bounds : goal.write_piece-requires-clause-at_in_bounds
-write_piece-requires-clause-at_in_bounds c = c.requires.at_in_bounds
+returns-then-is_both-clause-untouched c = c.put_text.ensures.untouched
 
 pub pad_or-requires : goal.pad_or-requires
 pad_or-requires c = let a = c.args in pad_few a.kind a.detail a.byte (setting_of 4097 a.number) (sym c.is_both-in-Integer.ensures ∙ c.if-is_both-2.true) c.requires.short_in
@@ -79,44 +51,7 @@ returns-then-is_both-2-clause-writes c =
     λ d q w. writes_as (view_of a.table.now) (hand_at a.hand 0) a.i.0 a.hand.count a.spot d _ _ _ {x = setting_of 4097 a.number} {y = setting_of 256 a.byte} (sym e) refl refl (decimal_written a.table.now a.hand s a.spot a.i.0 d c.argument_at-argument.result l c.argument_at-argument.ensures.value _ _ c.number_or-width.result c.pad_or.result c.in-Integer.is back q w c.number_or-width.ensures c.pad_or.ensures (c.put_decimal.ensures.puts a.hand.count (omega (arith, l)) (omega (arith, l))))
 
 pub returns-then-is_both-2-clause-untouched : goal.returns-then-is_both-2-clause-untouched
-returns-then-is_both-2-clause-untouched c =
-    let a = c.args in
-    let s = short_settings (setting_of 4097 a.number) (setting_of 256 a.byte) in
-    let l = c.if-hand-k.false in
-    let y = (sym c.is_both-in-Integer.ensures ∙ c.if-is_both-2.true) in
-    let e = decimal_form a.kind a.detail y in
-    let back = to_z-of_z w64 c.in-Integer.x (record { sfits = c.in-Integer.known_told-in-Integer-1-own.given.0.1 }) in
-    c.put_decimal.ensures.untouched
-
-pub write_piece-requires-in-Integer-clause-form_right : goal.write_piece-requires-in-Integer-clause-form_right
-write_piece-requires-in-Integer-clause-form_right c = c.requires.form_right
-
-pub write_piece-requires-in-Integer-clause-short_in : goal.write_piece-requires-in-Integer-clause-short_in
-write_piece-requires-in-Integer-clause-short_in c = c.requires.short_in
-
-pub write_piece-requires-in-Integer-clause-in_hand : goal.write_piece-requires-in-Integer-clause-in_hand
-write_piece-requires-in-Integer-clause-in_hand c = c.requires.in_hand
-
-pub write_piece-requires-in-Integer-clause-i_le_count : goal.write_piece-requires-in-Integer-clause-i_le_count
-write_piece-requires-in-Integer-clause-i_le_count c = c.requires.i_le_count
-
-pub write_piece-requires-in-Integer-clause-at_in_bounds : goal.write_piece-requires-in-Integer-clause-at_in_bounds
-write_piece-requires-in-Integer-clause-at_in_bounds c = c.requires.at_in_bounds
-
-pub write_piece-requires-in_default-clause-form_right : goal.write_piece-requires-in_default-clause-form_right
-write_piece-requires-in_default-clause-form_right c = c.requires.form_right
-
-pub write_piece-requires-in_default-clause-short_in : goal.write_piece-requires-in_default-clause-short_in
-write_piece-requires-in_default-clause-short_in c = c.requires.short_in
-
-pub write_piece-requires-in_default-clause-in_hand : goal.write_piece-requires-in_default-clause-in_hand
-write_piece-requires-in_default-clause-in_hand c = c.requires.in_hand
-
-pub write_piece-requires-in_default-clause-i_le_count : goal.write_piece-requires-in_default-clause-i_le_count
-write_piece-requires-in_default-clause-i_le_count c = c.requires.i_le_count
-
-pub write_piece-requires-in_default-clause-at_in_bounds : goal.write_piece-requires-in_default-clause-at_in_bounds
-write_piece-requires-in_default-clause-at_in_bounds c = c.requires.at_in_bounds
+returns-then-is_both-2-clause-untouched c = c.put_decimal.ensures.untouched
 
 pub returns-else-is_both-clause-writes : goal.returns-else-is_both-clause-writes
 returns-else-is_both-clause-writes c = c.write_piece.ensures.writes

@@ -10,27 +10,10 @@ write_form-requires-clause-well_set c =
     let a = c.args in
     short_worked (brief_of a.kind a.detail) (setting_of 4097 a.number) (setting_of 256 a.byte) _ _ _ c.setting_of-first.ensures c.setting_of-second.ensures c.short_form-form.ensures c.requires.form_right c.requires.short_in
 
-pub write_form-requires-clause-in_hand : goal.write_form-requires-clause-in_hand
-write_form-requires-clause-in_hand c =
-    let a = c.args in
-    c.requires.in_hand
-
-pub write_form-requires-clause-at_in_bounds : goal.write_form-requires-clause-at_in_bounds
-write_form-requires-clause-at_in_bounds c =
-    let a = c.args in
-    c.requires.at_in_bounds
-
-pub write_form-requires-clause-i_le_count : goal.write_form-requires-clause-i_le_count
-write_form-requires-clause-i_le_count c =
-    let a = c.args in
-    c.requires.i_le_count
-
 pub returns-clause-writes : goal.returns-clause-writes
 returns-clause-writes c =
     let a = c.args in
     λ d q w. writes_as (view_of a.table.now) (hand_at a.hand 0) a.i.0 a.hand.count a.spot d _ _ _ c.short_form-form.ensures c.setting_of-first.ensures c.setting_of-second.ensures (c.write_form.ensures.writes d q w)
 
 pub returns-clause-untouched : goal.returns-clause-untouched
-returns-clause-untouched c =
-    let a = c.args in
-    c.write_form.ensures.untouched
+returns-clause-untouched c = c.write_form.ensures.untouched

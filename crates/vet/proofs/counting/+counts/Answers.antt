@@ -104,21 +104,14 @@ count_element-overflow_add-result t c =
 
 pub count_element-turn_form-requires-clause-writing : goal.count_element-turn_form-requires-clause-writing
 count_element-turn_form-requires-clause-writing t c =
-    let args = c.args in
     let is = sym c.item_at-item.ensures ∙ c.in-Written.is in
     writing_of _ (vettable_writes c.requires.vettable_at _ is _ c.in-Writes.is) _ c.in-Writes.is
 
 pub count_element-turn_form-requires-clause-asked : goal.count_element-turn_form-requires-clause-asked
-count_element-turn_form-requires-clause-asked t c =
-    let args = c.args in
-    let is = sym c.item_at-item.ensures ∙ c.in-Written.is in
-    c.requires.asked
+count_element-turn_form-requires-clause-asked t c = c.requires.asked
 
 pub count_element-turn_form-requires-clause-next_in_bounds : goal.count_element-turn_form-requires-clause-next_in_bounds
-count_element-turn_form-requires-clause-next_in_bounds t c =
-    let args = c.args in
-    let is = sym c.item_at-item.ensures ∙ c.in-Written.is in
-    c.requires.next_in_bounds
+count_element-turn_form-requires-clause-next_in_bounds t c = c.requires.next_in_bounds
 
 pub count_element-count_block-requires : goal.count_element-count_block-requires
 count_element-count_block-requires t c =

@@ -3,9 +3,6 @@ use Rattle.vet.proofs.Sequences.{answer_fails, answer_leads}
 use Rattle.vet.proofs.VettablePlaces.{vettable_text}
 use Rattle.vet.proofs.counting.count_format.Goals as goal
 
-pub count_sequence-counted-requires-clause-asked : goal.count_sequence-counted-requires-clause-asked
-count_sequence-counted-requires-clause-asked c = c.requires.asked
-
 pub count_sequence-counted-requires-clause-vettable_at : goal.count_sequence-counted-requires-clause-vettable_at
 count_sequence-counted-requires-clause-vettable_at c = vettable_text c.args.format.now c.requires.format_value c.requires.format_value_2
 

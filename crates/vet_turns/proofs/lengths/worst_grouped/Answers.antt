@@ -6,9 +6,6 @@ use Rattle.rules.specs.Working.{IsByte}
 use Rattle.rules.proofs.Rowed.{number_least}
 use Rattle.vet_turns.proofs.lengths.worst_grouped.Goals as goal
 
-pub worst_numeral-requires-clause-le_base : goal.worst_numeral-requires-clause-le_base
-worst_numeral-requires-clause-le_base c = c.requires.le_base
-
 pub worst_numeral-requires-clause-le_group : goal.worst_numeral-requires-clause-le_group
 worst_numeral-requires-clause-le_group c = omega (arith, c.number_or-2.ensures, number_least IsByte 1 4096 c.args.settings.fourth 3 c.requires.in_places.fourth (omega arith))
 

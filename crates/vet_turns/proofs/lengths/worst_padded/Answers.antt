@@ -16,11 +16,6 @@ worst_object-requires-clause-sizing c =
       pad = omega (arith, c.number_or-minpad.ensures, number_most IsByte 0 4096 s.third 0 c.requires.in_places.third (omega arith));
     }
 
-pub worst_object-requires-clause-kind_bound : goal.worst_object-requires-clause-kind_bound
-worst_object-requires-clause-kind_bound c =
-    let s = c.args.settings in
-    c.requires.kind_bound
-
 pub returns : goal.returns
 returns c =
     λ colon atsign.

@@ -5,8 +5,5 @@ use Rattle.vet_turns.proofs.turns.settle_fixed.Goals as goal
 pub settle_directive-requires-clause-all_supplied : goal.settle_directive-requires-clause-all_supplied
 settle_directive-requires-clause-all_supplied c = fixed_supplied c.args.d.parameters c.requires.parameters_value
 
-pub settle_directive-requires-clause-next_le_count : goal.settle_directive-requires-clause-next_le_count
-settle_directive-requires-clause-next_le_count c = c.requires.next_in_bounds
-
 pub returns : goal.returns
 returns c = settled_on c.requires.parameters_value c.settle_directive.ensures.in_places

@@ -10,11 +10,6 @@ returns-then-i-eq0 c =
     let a = c.args in
     back_none a.kinds.now a.longest a.form a.d a.settings a.next.0 c.if-i-eq0.true
 
-pub turn_shown-requires-clause-well_set : goal.turn_shown-requires-clause-well_set
-turn_shown-requires-clause-well_set c =
-    let a = c.args in
-    c.requires.well_set
-
 pub turn_shown-requires-clause-kind_bound : goal.turn_shown-requires-clause-kind_bound
 turn_shown-requires-clause-kind_bound c =
     let a = c.args in

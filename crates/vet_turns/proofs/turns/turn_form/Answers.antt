@@ -7,16 +7,6 @@ turn_settled-requires-clause-well_set c =
     let a = c.args in
     settled_well a.kinds.now a.longest a.form a.d a.next.0 c.requires.writing (rw c.requires.writing.code at c.settle_fixed-settled.ensures) c.in-Is.is
 
-pub turn_settled-requires-clause-asked : goal.turn_settled-requires-clause-asked
-turn_settled-requires-clause-asked c =
-    let a = c.args in
-    c.requires.asked
-
-pub turn_settled-requires-clause-next_in_bounds : goal.turn_settled-requires-clause-next_in_bounds
-turn_settled-requires-clause-next_in_bounds c =
-    let a = c.args in
-    c.requires.next_in_bounds
-
 pub returns-in-Is : goal.returns-in-Is
 returns-in-Is c =
     let a = c.args in

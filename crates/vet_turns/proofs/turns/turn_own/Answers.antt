@@ -8,11 +8,6 @@ returns-then-kinds-i c =
     let a = c.args in
     own_none a.kinds.now a.longest a.form a.d a.settings a.next.0 c.if-kinds-i.true
 
-pub turn_shown-requires-clause-well_set : goal.turn_shown-requires-clause-well_set
-turn_shown-requires-clause-well_set c =
-    let a = c.args in
-    c.requires.well_set
-
 pub turn_shown-requires-clause-kind_bound : goal.turn_shown-requires-clause-kind_bound
 turn_shown-requires-clause-kind_bound c =
     let a = c.args in

@@ -4,9 +4,6 @@ use Rattle.rules.proofs.FormLaws.{takes_none}
 use Rattle.vet_turns.proofs.TurnBy.{by_next, by_back, by_no_back, by_number, by_nowhere}
 use Rattle.vet_turns.proofs.turns.turn_settled.Goals as goal
 
-pub worst_of-requires-clause-well_set : goal.worst_of-requires-clause-well_set
-worst_of-requires-clause-well_set c = c.requires.well_set
-
 pub worst_of-requires-clause-kind_bound : goal.worst_of-requires-clause-kind_bound
 worst_of-requires-clause-kind_bound c = (omega arith, c.requires.asked.long)
 

@@ -3,12 +3,6 @@ use mathlib.Core.Path.{sym, ◌∙◌}
 use Rattle.vet_turns.proofs.TurnBy.{shown_yes, shown_no}
 use Rattle.vet_turns.proofs.turns.turn_shown.Goals as goal
 
-pub worst_of-requires-clause-well_set : goal.worst_of-requires-clause-well_set
-worst_of-requires-clause-well_set c = c.requires.well_set
-
-pub worst_of-requires-clause-kind_bound : goal.worst_of-requires-clause-kind_bound
-worst_of-requires-clause-kind_bound c = c.requires.kind_bound
-
 pub worst_of-requires-clause-kind_value : goal.worst_of-requires-clause-kind_value
 worst_of-requires-clause-kind_value c = rw c.wide.ensures.0 at (sym c.takes_kind.ensures ∙ c.if-takes_kind.true)
 

@@ -7,9 +7,6 @@ use Rattle.windows.proofs.resuming.pick_up.Goals as goal
 pub is_sound-requires : goal.is_sound-requires
 is_sound-requires c = (accepted_sound c.args.table.now c.requires).header
 
-pub go_on-requires-clause-table_value : goal.go_on-requires-clause-table_value
-go_on-requires-clause-table_value c = c.requires
-
 pub go_on-requires-clause-s_value : goal.go_on-requires-clause-s_value
 go_on-requires-clause-s_value c = sym c.is_sound.ensures ∙ c.if-is_sound.true
 

@@ -2,11 +2,5 @@
 use Rattle.windows.proofs.ResumeLaws.{filled}
 use Rattle.windows.proofs.resuming.run_by.Goals as goal
 
-pub fill_window-requires-clause-landmarks : goal.fill_window-requires-clause-landmarks
-fill_window-requires-clause-landmarks c = c.requires.landmarks
-
-pub fill_window-requires-clause-standing : goal.fill_window-requires-clause-standing
-fill_window-requires-clause-standing c = c.requires.standing
-
 pub returns : goal.returns
 returns c = let a = c.args in filled a.format.now a.table.now c.requires.standing.accepted c.fill_window.ensures.fills c.fill_window.ensures.stops c.resumed_at.ensures

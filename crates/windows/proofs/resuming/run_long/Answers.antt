@@ -4,6 +4,3 @@ use Rattle.windows.proofs.resuming.run_long.Goals as goal
 
 pub run_by-requires-clause-landmarks : goal.run_by-requires-clause-landmarks
 run_by-requires-clause-landmarks c = none_laid_in c.args.format.now 2050 c.requires.sound.short
-
-pub run_by-requires-clause-standing : goal.run_by-requires-clause-standing
-run_by-requires-clause-standing c = c.requires

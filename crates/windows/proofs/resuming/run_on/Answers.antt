@@ -4,6 +4,3 @@ use Rattle.windows.proofs.resuming.run_on.Goals as goal
 
 pub run_by-requires-clause-landmarks : goal.run_by-requires-clause-landmarks
 run_by-requires-clause-landmarks c = none_laid c.args.format.now c.requires.sound.short
-
-pub run_by-requires-clause-standing : goal.run_by-requires-clause-standing
-run_by-requires-clause-standing c = c.requires

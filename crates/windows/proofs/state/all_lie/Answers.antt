@@ -14,9 +14,6 @@ overflow_sub-i c = omega (arith, c.loop-i-test.true)
 pub block_at-requires : goal.block_at-requires
 block_at-requires c = omega (arith, c.loop-i-test.true, c.loop-i.invariant.0, c.requires.depth_bound)
 
-pub block_lies-requires : goal.block_lies-requires
-block_lies-requires c = c.requires.in_bounds
-
 pub returns-then-not-block_lies : goal.returns-then-not-block_lies
 returns-then-not-block_lies c = let a = c.args in one_out a.size a.table.now a.nest c.loop-i.invariant.1 c.loop-i-test.true c.block_at.ensures.is c.block_lies.ensures (not-true c.block_lies.result c.if-not-block_lies.true-raw)
 

@@ -20,9 +20,6 @@ returns-then-format-s c = let a = c.args in rw (le-leb (length a.format.now) 409
 pub returns-then-not-hand_lies : goal.returns-then-not-hand_lies
 returns-then-not-hand_lies c = let a = c.args in rw (le-leb (length a.format.now) 4096 (omega (arith, c.if-format-gt-LONGEST_FORMAT.false)), le-leb a.s.nest.depth 8 (omega (arith, c.if-nest-gt-DEEPEST.false)), le-leb a.s.left 65536 (omega (arith, c.if-s-gt-MOST_STEPS.false)), le-leb a.s.place (length a.format.now) (omega (arith, c.if-format-s.false)), sym (rw c.here_of-here.ensures at c.hand_lies.ensures) ∙ not-true c.hand_lies.result c.if-not-hand_lies.true-raw)
 
-pub all_lie-requires-clause-in_bounds : goal.all_lie-requires-clause-in_bounds
-all_lie-requires-clause-in_bounds c = c.requires
-
 pub all_lie-requires-clause-depth_bound : goal.all_lie-requires-clause-depth_bound
 all_lie-requires-clause-depth_bound c = omega (arith, c.if-nest-gt-DEEPEST.false)
 
