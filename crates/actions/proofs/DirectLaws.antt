@@ -1,15 +1,14 @@
 -- Texts that are put straight into the buffer: what is put, and that it is what the definition writes. Assumes nothing.
-use Prim.Native.Nat.{ℕ, zero, suc, ◌+◌, ◌-◌, ◌<◌, ◌≤◌}
+use Prim.Native.Nat.{ℕ, zero, suc, max, ◌+◌, ◌-◌, ◌<◌, ◌≤◌}
 use mathlib.Core.Path.{◌≡◌, refl, sym, ap, subst, ◌∙◌}
-use mathlib.Core.Bool.{true, false}
+use mathlib.Core.Bool.{false}
 use mathlib.Core.List.{List, ◌++◌, append_assoc}
 use native.Mathlib.Omega.{arith}
 use borrow.Rule.Slice.PartMut.{put_mid}
-use lib.Dec.{T}
 use lib.IntN.{ℤ, pos, negsuc}
 use lib.ListN.{length, take, drop, set, replicate, length-append, length-drop, length-replicate}
 use lib.Seq.{length-take-le}
-use Rattle.rules.specs.Number.{digits_of, is_negative, magnitude_of, sign_of, pad_left}
+use Rattle.rules.specs.Number.{digits_of, magnitude_of, sign_of, pad_left}
 use Rattle.rules.specs.Table.{Value, boolean, integer, string, Holds, meant, view_of}
 use Rattle.rules.specs.Piece.{or_else, decimal_of}
 use Rattle.rules.specs.Working.{argument_in, own, source_of}
@@ -19,10 +18,9 @@ use Rattle.rules.specs.declared.Argument.TheVariants.{Integer, Text}
 use Rattle.rules.specs.declared.Directive.{Directive}
 use Rattle.rules.specs.declared.Form.{Form}
 use Rattle.rules.specs.declared.Form.TheVariants.{Object, Numeral, Repeat}
-use Rattle.rules.specs.declared.Setting.TheVariants.{Absent}
+use Rattle.std.specs.Prelude.{None}
 use Rattle.rules.specs.declared.Settings.{Settings}
 use Rattle.rules.proofs.Padding.{left_length}
-use Rattle.rules.proofs.Signs.{sign_negative}
 use Rattle.rules.proofs.ShortTexts.{object_text, decimal_text, repeat_text}
 use Rattle.pieces.specs.Bytes.{part}
 use Rattle.pieces.specs.Given.{StringIn, Reachable}
@@ -58,7 +56,7 @@ string_length {t} {start} {end} s =
     length-take-le (end - start) (drop start t) (rw (length-drop start t) (omega (arith, s.order, s.inside)))
 
 -- a string and then spaces, in n bytes
-module _ {t : List ℕ} {start end : ℕ} (s : StringIn t start end) (width n : ℕ) (q : n ≡ end - start + (width - (end - start))) where
+module _ {t : List ℕ} {start end : ℕ} (s : StringIn t start end) (width n : ℕ) (q : n ≡ max (end - start) width) where
   pub text_length : n ≡ length (part start (end - start) t ++ replicate (width - (end - start)) 32)
   text_length =
       omega (
@@ -80,15 +78,6 @@ module _ {t : List ℕ} {start end : ℕ} (s : StringIn t start end) (width n : 
       put_then u (omega (arith, string_length s))
       (fill_between (put_mid at (m - at) b y) m (at + n) (width - (end - start)) 32 z (omega arith) (omega (arith, u.size)) (omega arith) ez)
 
--- the size of the sign
-pub sign_counted : (z : ℤ) → is_negative z ≡ true → 1 ≡ length (sign_of false z)
-sign_counted z e = sym (ap length (sign_negative false z e))
-
-pub sign_missing : (z : ℤ) → is_negative z ≡ false → 0 ≡ length (sign_of false z)
-sign_missing (pos zero) e = refl
-sign_missing (pos (suc n)) e = refl
-sign_missing (negsuc n) e = absurd (subst T e tt)
-
 -- the sign, where there is one
 pub sign_put : (z : ℤ) (b : List ℕ) (at to : ℕ) {e : List ℕ}
     → to ≡ at + length (sign_of false z) → to ≤ length b → at < to → e ≡ set b at 45 → Put b at (sign_of false z) e
@@ -106,11 +95,11 @@ sign_none (negsuc n) b at to q l h x = absurd (omega arith)
 pub record Counted (width : ℕ) (z : ℤ) (count sign n : ℕ) : Type 0 where
   pub digits : count ≡ length (digits_of 10 (magnitude_of z))
   pub signs : sign ≡ length (sign_of false z)
-  pub all : n ≡ sign + count + (width - (sign + count))
+  pub all : n ≡ max (sign + count) width
 
 pub counted : {width : ℕ} {z : ℤ} {m count sign n : ℕ}
     → m ≡ magnitude_of z → count ≡ length (digits_of 10 m) → sign ≡ length (sign_of false z)
-    → n ≡ sign + count + (width - (sign + count)) → Counted width z count sign n
+    → n ≡ max (sign + count) width → Counted width z count sign n
 counted e c s q = record { digits = c ∙ ap (λ (k : ℕ). length (digits_of 10 k)) e; signs = s; all = q }
 
 -- a number to the right of its padding
@@ -188,7 +177,7 @@ module _ (t : List ℕ) (hand : Hand) (s : Settings) (spot : Spot) (i : ℕ) (d 
         ∙ ap (λ (z : Value). write spot.position spot.left f d s z (i + 1) on) (sym y ∙ ap (meant t) q)
 
     pub text_written : (start end width : ℕ) {count : ℕ} {b e : List ℕ} {r : Ran} → x ≡ Text start end → StringIn t start end → d.atsign ≡ false
-        → s.second ≡ Absent → s.third ≡ Absent → s.fourth ≡ Absent → width ≡ or_else s.first 0
+        → s.second ≡ None → s.third ≡ None → s.fourth ≡ None → width ≡ or_else s.first 0
         → Puts (part start (end - start) t ++ replicate (width - (end - start)) 32) (i + 1) count b e r
         → FormWritten (Object false) count b e r
     text_written start end width q l a e₂ e₃ e₄ w k =

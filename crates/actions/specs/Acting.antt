@@ -1,8 +1,8 @@
 -- What a directive that jumps promises, and one that is done at a spot. Assumes nothing: these are definitions.
 use Rattle.std.specs.Prelude.{◌≡◌, List, ℕ, ◌≤◌}
 use Rattle.rules.specs.Run.{Flow}
-use Rattle.rules.specs.declared.Setting.{Setting}
-use Rattle.rules.specs.declared.Setting.TheVariants.{Absent, Is}
+use Rattle.rules.specs.Setting.{Setting}
+use Rattle.std.specs.Prelude.{None, Some}
 use Rattle.rules.specs.declared.Settings.{Settings}
 use Rattle.actions.specs.declared.state.Ran.{Ran}
 use Rattle.actions.specs.declared.state.Spot.{Spot}
@@ -11,8 +11,8 @@ use Rattle.actions.specs.Ran.{refused_ran, Performs}
 
 -- the number of a jump
 abbrev pub Numbered : Setting → Type 0
-Numbered Absent = Unit {0}
-Numbered (Is n) = n ≤ 4096
+Numbered None = Unit {0}
+Numbered (Some n) = n ≤ 4096
 
 abbrev pub JumpSet : Settings → Type 0
 JumpSet s = Numbered s.first

@@ -10,15 +10,14 @@ ghost use Rattle.pieces.specs.Bytes.{Good, bytes_of};
 ghost use Rattle.parameters.specs.Settling.{InHand, hand_at};
 ghost use Rattle.actions.specs.Acting.{JumpSet, Performed, Untouched};
 
-use crate::planning::{Planned, plan_settled};
-use crate::state::{Ran, Spot, go_on, refuse};
+use crate::planning::{Plan, plan_settled};
+use crate::state::{Ran, Spot};
 use directives::places::is_well_written;
 use making::making::make_piece;
 use parameters::{Hand, SettledOut, settle_directive};
 use pieces::Piece;
 use pieces::writing::{piece_length, write_whole};
-use rules::codes::{BAD_PARAMETER, NO_ARGUMENT, NO_ROOM};
-use rules::scalars::number_or;
+use rules::refusal::Refusal;
 use rules::{ArgumentPosition, Code, Directive, Form, Settings};
 
 // A piece put whole at the end of what is written, or refused for want of room.
@@ -42,9 +41,9 @@ fn put_piece(
     if n <= out.len() - at {
         let end = at + n;
         write_whole(piece, table, &mut out[at..end]);
-        return go_on(spot, next, end);
+        return spot.go_on(next, end);
     }
-    refuse(spot, NO_ROOM, before)
+    spot.refuse(Refusal::NoRoom, before)
 }
 
 // The piece of a directive whose parameters are worked out.
@@ -66,17 +65,18 @@ pub fn write_form(
     ensures writes { (d : Directive) → d.colon ≡ colon → d.atsign ≡ atsign → Performed (λ on. write_from (view_of table.now) spot.position spot.left form d (hand_at hand 0) settings i.0 on (source_in form colon settings)) hand.count spot out.old out.new result }
     ensures untouched { Untouched spot i.0 out.old out.new result }
 {
-    let planned = plan_settled(form, colon, settings, table, hand, i);
-    match planned {
-        Planned::Shows {
-            settings: shown,
-            argument,
-            next,
-        } => {
+    match plan_settled(form, colon, settings, table, hand, i) {
+        Ok(
+            Plan {
+                settings: shown,
+                argument,
+                next,
+            },
+        ) => {
             let piece = make_piece(form, colon, atsign, shown, argument, table);
             put_piece(spot, piece, table, hand.count, i, next, out)
         }
-        Planned::Wrong(code) => refuse(spot, code, i),
+        Err(refusal) => spot.refuse(refusal, i),
     }
 }
 
@@ -86,9 +86,9 @@ fn jump_to(spot: Spot, k: usize, count: usize, i: ArgumentPosition) -> Ran
     ensures { (value : ℕ → Value) (b : List ℕ) → spot.at ≤ length b → Performed (λ on. joined value spot.position spot.left (jump_to count k) on) count spot b b result }
 {
     if k <= count {
-        return go_on(spot, ArgumentPosition(k), spot.at);
+        return spot.go_on(ArgumentPosition(k), spot.at);
     }
-    refuse(spot, NO_ARGUMENT, i)
+    spot.refuse(Refusal::NoArgument, i)
 }
 
 // A jump whose parameter is worked out.
@@ -97,19 +97,17 @@ fn jump(spot: Spot, d: Directive, settings: Settings, count: usize, i: ArgumentP
     requires i_le_count { (i.0 ≤ count) × (count ≤ 1024) }
     ensures { (value : ℕ → Value) (b : List ℕ) → spot.at ≤ length b → Performed (λ on. joined value spot.position spot.left (jumping count d settings i.0) on) count spot b b result }
 {
-    let first = settings.first;
-    let k = i.0;
     if d.atsign {
-        return jump_to(spot, number_or(first, 0), count, i);
+        return jump_to(spot, settings.first.unwrap_or(0), count, i);
     }
-    let n = number_or(first, 1);
-    if d.colon {
-        if n <= k {
-            return jump_to(spot, k - n, count, i);
-        }
-        return refuse(spot, NO_ARGUMENT, i);
+    let n = settings.first.unwrap_or(1);
+    if !d.colon {
+        return jump_to(spot, i.0 + n, count, i);
     }
-    jump_to(spot, k + n, count, i)
+    if i.0 < n {
+        return spot.refuse(Refusal::NoArgument, i);
+    }
+    jump_to(spot, i.0 - n, count, i)
 }
 
 // What a directive of a form does once it is begun. A plan from plan_form comes back through memory, and a line of
@@ -130,16 +128,15 @@ pub fn act_form(
     requires next_le_count { next.0 ≤ hand.count }
     ensures { Performed (λ on. item_acts (view_of table.now) spot.position spot.left (Written d) (hand_at hand next.0) on) hand.count spot out.old out.new result }
 {
-    if is_well_written(d) {
-        let settled = settle_directive(table, hand, d, next);
-        return match settled {
-            SettledOut::Is { settings, next: i } => write_form(
-                spot, form, d.colon, d.atsign, settings, table, hand, i, out,
-            ),
-            SettledOut::Wrong(code) => refuse(spot, code, next),
-        };
+    if !is_well_written(d) {
+        return spot.refuse(Refusal::BadParameter, next);
     }
-    refuse(spot, BAD_PARAMETER, next)
+    match settle_directive(table, hand, d, next) {
+        Ok(SettledOut { settings, next: i }) => write_form(
+            spot, form, d.colon, d.atsign, settings, table, hand, i, out,
+        ),
+        Err(refusal) => spot.refuse(refusal, next),
+    }
 }
 
 // What a jump does once it is begun.
@@ -149,12 +146,11 @@ pub fn act_jump(spot: Spot, d: Directive, table: &[u8], hand: Hand, next: Argume
     requires next_le_count { next.0 ≤ hand.count }
     ensures { (b : List ℕ) → spot.at ≤ length b → Performed (λ on. item_acts (view_of table.now) spot.position spot.left (Written d) (hand_at hand next.0) on) hand.count spot b b result }
 {
-    if is_well_written(d) {
-        let settled = settle_directive(table, hand, d, next);
-        return match settled {
-            SettledOut::Is { settings, next: i } => jump(spot, d, settings, hand.count, i),
-            SettledOut::Wrong(code) => refuse(spot, code, next),
-        };
+    if !is_well_written(d) {
+        return spot.refuse(Refusal::BadParameter, next);
     }
-    refuse(spot, BAD_PARAMETER, next)
+    match settle_directive(table, hand, d, next) {
+        Ok(SettledOut { settings, next: i }) => jump(spot, d, settings, hand.count, i),
+        Err(refusal) => spot.refuse(refusal, next),
+    }
 }

@@ -1,17 +1,17 @@
 // Texts that are put straight into the buffer: a repeated byte, a string, a decimal number. Most directives write one of
 // these, and need no piece for it.
-ghost use Rattle.std.specs.Prelude.{◌≡◌, false, ◌++◌, ℕ, ◌+◌, ◌-◌, ◌≤◌, length, replicate};
+ghost use Rattle.std.specs.Prelude.{◌≡◌, false, ◌++◌, ℕ, ◌-◌, ◌≤◌, length, replicate};
 ghost use Rattle.rules.specs.Number.{digits_of, magnitude_of, sign_of, pad_left};
 ghost use Rattle.rules.specs.Run.{put};
 ghost use Rattle.pieces.specs.Bytes.{part};
 ghost use Rattle.pieces.specs.Given.{StringIn};
 ghost use Rattle.actions.specs.Acting.{Performed, Untouched};
 
-use crate::state::{Ran, Spot, go_on, refuse};
+use crate::state::{Ran, Spot};
 use numbers::{count_decimal, fill_decimal, magnitude};
 use pieces::copying::{copy_part, fill};
 use rules::ArgumentPosition;
-use rules::codes::NO_ROOM;
+use rules::refusal::Refusal;
 
 // A byte repeated n times, put whole or refused for want of room.
 pub fn put_run(spot: Spot, byte: u8, n: usize, next: ArgumentPosition, out: &mut [u8]) -> Ran
@@ -23,15 +23,9 @@ pub fn put_run(spot: Spot, byte: u8, n: usize, next: ArgumentPosition, out: &mut
     if n <= out.len() - at {
         let end = at + n;
         fill(byte, &mut out[at..end]);
-        return go_on(spot, next, end);
+        return spot.go_on(next, end);
     }
-    refuse(spot, NO_ROOM, next)
-}
-
-fn larger(a: usize, b: usize) -> usize
-    ensures { result ≡ a + (b - a) }
-{
-    if a <= b { b } else { a }
+    spot.refuse(Refusal::NoRoom, next)
 }
 
 // A string of the table, filled up with spaces to the width.
@@ -52,22 +46,22 @@ pub fn put_text(
 {
     let at = spot.at;
     let size = end - start;
-    let n = larger(size, width);
+    let n = size.max(width);
     if n <= out.len() - at {
         let middle = at + size;
         let to = at + n;
         copy_part(&table[start..end], 0, &mut out[at..middle]);
         fill(b' ', &mut out[middle..to]);
-        return go_on(spot, next, to);
+        return spot.go_on(next, to);
     }
-    refuse(spot, NO_ROOM, before)
+    spot.refuse(Refusal::NoRoom, before)
 }
 
 fn sign_size(x: i64) -> usize
     ensures size { result ≡ length (sign_of false x) }
     ensures within { result ≤ 1 }
 {
-    if x < 0 { 1 } else { 0 }
+    usize::from(x < 0)
 }
 
 // An integer in base ten, to the right of its padding.
@@ -88,7 +82,7 @@ pub fn put_decimal(
     let m = magnitude(x);
     let count = count_decimal(m);
     let size = sign_size(x) + count;
-    let n = larger(size, width);
+    let n = size.max(width);
     if n <= out.len() - at {
         let to = at + n;
         let first = to - size;
@@ -98,7 +92,7 @@ pub fn put_decimal(
             out[first] = b'-';
         }
         fill_decimal(m, &mut out[digits..to]);
-        return go_on(spot, next, to);
+        return spot.go_on(next, to);
     }
-    refuse(spot, NO_ROOM, before)
+    spot.refuse(Refusal::NoRoom, before)
 }

@@ -11,11 +11,11 @@ ghost use Rattle.actions.specs.Planning.{source_as, SourceReachable, Takes, Code
 use directives::places::is_well_written;
 use directives::rows::{form_row, takes_kind};
 use parameters::{Hand, SettledOut, argument_at, settle_directive};
-use rules::codes::{BAD_PARAMETER, NO_ARGUMENT, WRONG_KIND};
+use rules::refusal::Refusal;
 use rules::{Argument, ArgumentPosition, Code, Directive, Form, Origin, Setting, Settings};
 
 // Where the argument of a directive comes from: the next one, the one before it, or none is taken and this stands in.
-#[derive(Clone, Copy)]
+#[derive(Clone, Copy, PartialEq, Eq, Debug)]
 enum Source {
     Own,
     Back,
@@ -24,83 +24,61 @@ enum Source {
 
 fn glyph_source(setting: Setting) -> Source
     requires { Coded setting }
-    ensures by_index { (t : List ℕ) → source_as t result ≡ glyph_source setting }
-    ensures by_index_2 { (t : List ℕ) → SourceReachable t result }
+    ensures means { (t : List ℕ) → source_as t result ≡ glyph_source setting }
+    ensures reachable { (t : List ℕ) → SourceReachable t result }
 {
     match setting {
-        Setting::Absent => Source::Own,
-        Setting::Is(n) => Source::Given(Argument::Character(n as u8)),
+        None => Source::Own,
+        Some(n) => Source::Given(Argument::Character(n as u8)),
     }
 }
 
 fn source_by(origin: Origin, colon: bool, settings: Settings) -> Source
     requires { OriginRight origin settings }
-    ensures by_index { (t : List ℕ) → source_as t result ≡ source_by origin colon settings }
-    ensures by_index_2 { (t : List ℕ) → SourceReachable t result }
+    ensures means { (t : List ℕ) → source_as t result ≡ source_by origin colon settings }
+    ensures reachable { (t : List ℕ) → SourceReachable t result }
 {
     match origin {
         Origin::Nowhere => Source::Given(Argument::Boolean(false)),
-        Origin::Next => Source::Own,
-        Origin::NextOrBack => {
-            if colon {
-                return Source::Back;
-            }
-            Source::Own
-        }
-        Origin::NextOrNumber => {
-            let first = settings.first;
-            glyph_source(first)
-        }
+        Origin::NextOrBack if colon => Source::Back,
+        Origin::Next | Origin::NextOrBack => Source::Own,
+        Origin::NextOrNumber => glyph_source(settings.first),
     }
 }
 
 fn source_of(form: Form, colon: bool, settings: Settings) -> Source
     requires { WellSet form settings }
-    ensures by_index { (t : List ℕ) → source_as t result ≡ source_in form colon settings }
-    ensures by_index_2 { (t : List ℕ) → SourceReachable t result }
+    ensures means { (t : List ℕ) → source_as t result ≡ source_in form colon settings }
+    ensures reachable { (t : List ℕ) → SourceReachable t result }
 {
-    let row = form_row(form);
-    let origin = row.origin;
-    source_by(origin, colon, settings)
+    source_by(form_row(form).origin, colon, settings)
 }
 
-// The argument that a directive takes, with the next one after it; none where 01 gives code 6.
-#[derive(Clone, Copy)]
-pub enum Taken {
-    None,
-    Is {
-        argument: Argument,
-        next: ArgumentPosition,
-    },
+// The argument that a directive takes, with the next one after it.
+#[derive(Clone, Copy, PartialEq, Eq, Debug)]
+struct Taken {
+    argument: Argument,
+    next: ArgumentPosition,
 }
 
-fn take_argument(source: Source, table: &[u8], hand: Hand, i: ArgumentPosition) -> Taken
+// None where 01 gives code 6.
+fn take_argument(source: Source, table: &[u8], hand: Hand, i: ArgumentPosition) -> Option<Taken>
     requires in_hand { InHand table.now hand }
     requires source_reachable { SourceReachable table.now source }
     requires i_le_count { i.0 ≤ hand.count }
     ensures { Takes table.now hand source i.0 result }
 {
-    let k = i.0;
     match source {
-        Source::Own => {
-            if hand.count <= k {
-                return Taken::None;
-            }
-            Taken::Is {
-                argument: argument_at(table, hand, i),
-                next: ArgumentPosition(k + 1),
-            }
-        }
-        Source::Back => {
-            if k == 0 {
-                return Taken::None;
-            }
-            Taken::Is {
-                argument: argument_at(table, hand, ArgumentPosition(k - 1)),
-                next: i,
-            }
-        }
-        Source::Given(argument) => Taken::Is { argument, next: i },
+        Source::Own if i.0 < hand.count => Some(Taken {
+            argument: argument_at(table, hand, i),
+            next: ArgumentPosition(i.0 + 1),
+        }),
+        Source::Back if i.0 > 0 => Some(Taken {
+            argument: argument_at(table, hand, ArgumentPosition(i.0 - 1)),
+            next: i,
+        }),
+        Source::Own | Source::Back => None,
+        Source::Given(argument) => Some(Taken { argument, next: i }),
     }
 }
 
@@ -111,20 +89,17 @@ fn kind_of(argument: Argument) -> usize
         Argument::Boolean(_) => 0,
         Argument::Integer(_) => 1,
         Argument::Character(_) => 2,
-        Argument::Text { start: _, end: _ } => 3,
-        Argument::Entries { first: _, count: _ } => 4,
+        Argument::Text { .. } => 3,
+        Argument::Entries { .. } => 4,
     }
 }
 
-// What a directive shows: its settings, its argument and the next one after it; or the code that refuses it.
-#[derive(Clone, Copy)]
-pub enum Planned {
-    Shows {
-        settings: Settings,
-        argument: Argument,
-        next: ArgumentPosition,
-    },
-    Wrong(u32),
+// What a directive shows: its settings, its argument and the next one after it.
+#[derive(Clone, Copy, PartialEq, Eq, Debug)]
+pub struct Plan {
+    pub settings: Settings,
+    pub argument: Argument,
+    pub next: ArgumentPosition,
 }
 
 // The plan of a directive whose parameters are worked out.
@@ -135,27 +110,24 @@ pub fn plan_settled(
     table: &[u8],
     hand: Hand,
     i: ArgumentPosition,
-) -> Planned
+) -> Result<Plan, Refusal>
     requires well_set { WellSet form settings }
     requires in_hand { InHand table.now hand }
     requires i_le_count { i.0 ≤ hand.count }
     ensures { PlansSettled table.now form colon settings hand i.0 result }
 {
     let source = source_of(form, colon, settings);
-    let taken = take_argument(source, table, hand, i);
-    match taken {
-        Taken::None => Planned::Wrong(NO_ARGUMENT),
-        Taken::Is { argument, next } => {
-            if takes_kind(form, kind_of(argument)) {
-                return Planned::Shows {
-                    settings,
-                    argument,
-                    next,
-                };
-            }
-            Planned::Wrong(WRONG_KIND)
-        }
+    let Taken { argument, next } = take_argument(source, table, hand, i).ok_or(
+        Refusal::NoArgument,
+    )?;
+    if !takes_kind(form, kind_of(argument)) {
+        return Err(Refusal::WrongKind);
     }
+    Ok(Plan {
+        settings,
+        argument,
+        next,
+    })
 }
 
 // The plan of a directive of a form.
@@ -165,21 +137,16 @@ pub fn plan_form(
     table: &[u8],
     hand: Hand,
     next: ArgumentPosition,
-) -> Planned
+) -> Result<Plan, Refusal>
     requires code_value { d.code ≡ Code.Writes form }
     requires form_right { FormRight form }
     requires in_hand { InHand table.now hand }
     requires next_le_count { next.0 ≤ hand.count }
     ensures { Plans table.now form d hand next.0 result }
 {
-    if is_well_written(d) {
-        let settled = settle_directive(table, hand, d, next);
-        return match settled {
-            SettledOut::Is { settings, next: i } => plan_settled(
-                form, d.colon, settings, table, hand, i,
-            ),
-            SettledOut::Wrong(code) => Planned::Wrong(code),
-        };
+    if !is_well_written(d) {
+        return Err(Refusal::BadParameter);
     }
-    Planned::Wrong(BAD_PARAMETER)
+    let SettledOut { settings, next: i } = settle_directive(table, hand, d, next)?;
+    plan_settled(form, d.colon, settings, table, hand, i)
 }

@@ -1,12 +1,15 @@
 // Where a run stands, and how it stops.
 ghost use Rattle.std.specs.Prelude.{◌≡◌, ◌<◌};
+ghost use Rattle.rules.specs.Refusals.{code_of};
 ghost use Rattle.actions.specs.Ran.{refused_ran, ended_ran, begun};
 
 use parameters::Hand;
 use rules::ArgumentPosition;
+use rules::refusal::Refusal;
 
-// How the run of a sequence stops: at its end, at an escape that leaves it, or refused.
-#[derive(Clone, Copy)]
+// How the run of a sequence stops: at its end, at an escape that leaves it, or refused, with 01's number as the laws of
+// flows have it.
+#[derive(Clone, Copy, PartialEq, Eq, Debug)]
 pub enum Stop {
     Ended,
     Escaped,
@@ -15,7 +18,7 @@ pub enum Stop {
 
 // A run that stopped: the next argument, the steps that are left and the end of what is written, and the place of the
 // text where it goes on or ended.
-#[derive(Clone, Copy)]
+#[derive(Clone, Copy, PartialEq, Eq, Debug)]
 pub struct Ran {
     pub stop: Stop,
     pub next: ArgumentPosition,
@@ -26,7 +29,7 @@ pub struct Ran {
 
 // A directive that is met or begun: its position, the place after it, the steps that are left and the end of what is
 // written.
-#[derive(Clone, Copy)]
+#[derive(Clone, Copy, PartialEq, Eq, Debug)]
 pub struct Spot {
     pub position: usize,
     pub place: usize,
@@ -44,43 +47,44 @@ pub struct Stand {
     pub at: usize,
 }
 
-pub fn refuse(spot: Spot, code: u32, next: ArgumentPosition) -> Ran
-    ensures { result ≡ refused_ran code spot.position next.0 spot.left spot.at spot.place }
-{
-    Ran {
-        stop: Stop::Refused {
-            code,
-            position: spot.position,
-        },
-        next,
-        left: spot.left,
-        at: spot.at,
-        place: spot.place,
+impl Spot {
+    // Refused here, with nothing more written.
+    pub fn refuse(self, refusal: Refusal, next: ArgumentPosition) -> Ran
+        ensures { result ≡ refused_ran (code_of refusal) self.position next.0 self.left self.at self.place }
+    {
+        Ran {
+            stop: Stop::Refused {
+                code: refusal.code(),
+                position: self.position,
+            },
+            next,
+            left: self.left,
+            at: self.at,
+            place: self.place,
+        }
     }
-}
 
-// A directive for which a step is left, begun: that step is done.
-pub fn begin(spot: Spot) -> Spot
-    requires { 0 < spot.left }
-    ensures { result ≡ begun spot }
-{
-    Spot {
-        position: spot.position,
-        place: spot.place,
-        left: spot.left - 1,
-        at: spot.at,
+    // A directive for which a step is left, begun: that step is done.
+    pub fn begin(self) -> Spot
+        requires { 0 < self.left }
+        ensures { result ≡ begun self }
+    {
+        Spot {
+            left: self.left - 1,
+            ..self
+        }
     }
-}
 
-// On to the place after the directive, with so much written.
-pub fn go_on(spot: Spot, next: ArgumentPosition, at: usize) -> Ran
-    ensures { result ≡ ended_ran next.0 spot.left at spot.place }
-{
-    Ran {
-        stop: Stop::Ended,
-        next,
-        left: spot.left,
-        at,
-        place: spot.place,
+    // On to the place after the directive, with so much written.
+    pub fn go_on(self, next: ArgumentPosition, at: usize) -> Ran
+        ensures { result ≡ ended_ran next.0 self.left at self.place }
+    {
+        Ran {
+            stop: Stop::Ended,
+            next,
+            left: self.left,
+            at,
+            place: self.place,
+        }
     }
 }

@@ -1,10 +1,11 @@
 -- What the parts that end sequences, open blocks and count passes answer. Assumes nothing: these are definitions.
-use Rattle.std.specs.Prelude.{ℕ, ◌+◌, ◌≤◌, ◌<◌, ◌≡◌, Bool, true, false, List}
-use Rattle.rules.specs.Table.{Value, boolean, integer, character, string, list, meant, entry_count, Holds, view_of}
+use Rattle.std.specs.Prelude.{ℕ, ◌+◌, ◌<◌, ◌≡◌, Bool, true, false, List, Result, Ok, Err}
+use Rattle.rules.specs.Table.{Value, meant, Holds, view_of}
 use Rattle.rules.specs.Directive.{item_at}
 use Rattle.rules.specs.Text.{Sequence, end, innermost, levels_at}
 use Rattle.rules.specs.Working.{Context}
-use Rattle.rules.specs.Run.{Flow, refused, Frame, iteration, Outside, same_arguments, other, enter}
+use Rattle.rules.specs.Refusals.{code_of}
+use Rattle.rules.specs.Run.{Flow, refused, Frame, iteration, Outside, same_arguments, other, with_argument, enter}
 use Rattle.rules.specs.declared.Argument.{Argument}
 use Rattle.rules.specs.declared.Bracket.TheVariants.{Conditional, Iteration}
 use Rattle.rules.specs.declared.Code.{Code}
@@ -12,14 +13,12 @@ use Rattle.rules.specs.declared.Code.TheVariants.{Writes, Jump, Escape, Opens, S
 use Rattle.rules.specs.declared.Directive.{Directive}
 use Rattle.rules.specs.declared.Item.{Item}
 use Rattle.rules.specs.declared.Item.TheVariants.{End, Literal, Written, BadNumber, Unfinished}
-use Rattle.rules.specs.declared.Setting.{Setting}
+use Rattle.rules.specs.Setting.{Setting}
 use Rattle.rules.specs.declared.Settings.{Settings}
+use Rattle.rules.specs.declared.refusal.Refusal.{Refusal}
 use Rattle.parameters.specs.Settling.{InHand, hand_at}
 use Rattle.parameters.specs.declared.arguments.Hand.{Hand}
 use Rattle.blocks.specs.declared.passes.Over.{Over}
-use Rattle.blocks.specs.declared.passes.Over.TheVariants.{Is as OverIs, Wrong as OverWrong}
-use Rattle.blocks.specs.declared.passes.Listed.{Listed}
-use Rattle.blocks.specs.declared.passes.Listed.TheVariants.{Is, Not}
 
 -- whether a code, or an item, ends the sequence in which it stands
 abbrev pub ends_sequence : Code → Bool
@@ -63,17 +62,20 @@ iterates Separator = false
 iterates (Closes b) = false
 iterates Unknown = false
 
-abbrev pub is_list_value : Value → Bool
-is_list_value (boolean b) = false
-is_list_value (integer z) = false
-is_list_value (character c) = false
-is_list_value (string s) = false
-is_list_value (list first count) = true
+-- how a run goes on from the argument that a block takes
+abbrev pub on_taken : List ℕ → ℕ → ℕ → Result Argument Refusal → (Value → Flow) → Flow
+on_taken t p m (Ok x) on = on (meant t x)
+on_taken t p m (Err refusal) on = refused (code_of refusal) p m
 
--- the entries of a list, which lie in the table where the list was read from entry i of it
-abbrev pub ListsTo : List ℕ → ℕ → Argument → Listed → Type 0
-ListsTo t i x (Is h) = (meant t x ≡ list h.first.0 h.count) × (Holds t i x → h.first.0 + h.count ≤ entry_count t)
-ListsTo t i x Not = is_list_value (meant t x) ≡ false
+-- it is one of those in hand
+abbrev pub TakenIn : List ℕ → Hand → ℕ → Result Argument Refusal → Type 0
+TakenIn t hand i (Ok x) = Holds t (hand.first.0 + i) x × (i < hand.count)
+TakenIn t hand i (Err refusal) = Unit {0}
+
+-- r is the argument that a block takes where i is the next one, whatever number j the arguments in hand call the next
+pub record Takes (t : List ℕ) (hand : Hand) (i : ℕ) (r : Result Argument Refusal) : Type 0 where
+  pub is : (p m j : ℕ) (on : Value → Flow) → with_argument (view_of t) p m (hand_at hand j) i on ≡ on_taken t p m r on
+  pub inside : TakenIn t hand i r
 
 -- the arguments in hand outside an iteration, with `@` or not
 abbrev pub outside_of : Bool → Hand → ℕ → Outside
@@ -81,19 +83,18 @@ outside_of true hand i = same_arguments
 outside_of false hand i = other (hand_at hand (i + 1))
 
 -- how an iteration is entered over r
-abbrev pub on_over : ℕ → ℕ → Setting → Sequence → Sequence → Outside → Over → (Frame → Context → Flow) → Flow
-on_over p m limit body rest out (OverIs inner first) on = on (iteration p limit body rest out) (hand_at inner first.0)
-on_over p m limit body rest out (OverWrong code) on = refused code p m
+abbrev pub on_over : ℕ → ℕ → Setting → Sequence → Sequence → Outside → Result Over Refusal → (Frame → Context → Flow) → Flow
+on_over p m limit body rest out (Ok over) on = on (iteration p limit body rest out) (hand_at over.hand over.first.0)
+on_over p m limit body rest out (Err refusal) on = refused (code_of refusal) p m
 
 -- the entries in hand, or those of a list that lies in the table
-abbrev pub OverIn : List ℕ → Hand → Bool → ℕ → Over → Type 0
-OverIn t hand true i (OverIs inner first) = (inner ≡ hand) × (first.0 ≡ i)
-OverIn t hand true i (OverWrong code) = Unit {0}
-OverIn t hand false i (OverIs inner first) = InHand t inner × ((first.0 ≡ 0) × (i < hand.count))
-OverIn t hand false i (OverWrong code) = Unit {0}
+abbrev pub OverIn : List ℕ → Hand → Bool → ℕ → Result Over Refusal → Type 0
+OverIn t hand true i (Ok over) = (over.hand ≡ hand) × (over.first.0 ≡ i)
+OverIn t hand false i (Ok over) = InHand t over.hand × ((over.first.0 ≡ 0) × (i < hand.count))
+OverIn t hand atsign i (Err refusal) = Unit {0}
 
 -- r is what an iteration goes over, where i is the next argument
-pub record GoesOver (t : List ℕ) (hand : Hand) (atsign : Bool) (i : ℕ) (r : Over) : Type 0 where
+pub record GoesOver (t : List ℕ) (hand : Hand) (atsign : Bool) (i : ℕ) (r : Result Over Refusal) : Type 0 where
   pub is : (p m j : ℕ) (d : Directive) → d.atsign ≡ atsign → (st : Settings) (body rest : Sequence) (on : Frame → Context → Flow)
       → enter (view_of t) p m d body rest (hand_at hand j) st i on ≡ on_over p m st.first body rest (outside_of atsign hand i) r on
   pub inside : OverIn t hand atsign i r

@@ -10,29 +10,16 @@ use rules::{Bracket, Code, Item};
 fn is_end(code: Code) -> bool
     ensures { result ≡ ends_sequence code }
 {
-    match code {
-        Code::Writes(_) => false,
-        Code::Jump => false,
-        Code::Escape => false,
-        Code::Opens(_) => false,
-        Code::Separator => true,
-        Code::Closes(_) => true,
-        Code::Unknown => true,
-    }
+    matches!(code, Code::Separator | Code::Closes(_) | Code::Unknown)
 }
 
 pub fn ends_here(item: Item) -> bool
     ensures { result ≡ ends_at item }
 {
     match item {
-        Item::End => true,
+        Item::End | Item::BadNumber | Item::Unfinished => true,
         Item::Literal(_) => false,
-        Item::Written(d) => {
-            let code = d.code;
-            is_end(code)
-        }
-        Item::BadNumber => true,
-        Item::Unfinished => true,
+        Item::Written(d) => is_end(d.code),
     }
 }
 
@@ -51,30 +38,11 @@ pub fn element_at(text: &[u8], p: usize) -> Item
 pub fn opens_block(code: Code) -> bool
     ensures { result ≡ opens_block code }
 {
-    match code {
-        Code::Writes(_) => false,
-        Code::Jump => false,
-        Code::Escape => false,
-        Code::Opens(_) => true,
-        Code::Separator => false,
-        Code::Closes(_) => false,
-        Code::Unknown => false,
-    }
+    matches!(code, Code::Opens(_))
 }
 
 pub fn is_iteration(code: Code) -> bool
     ensures { result ≡ iterates code }
 {
-    match code {
-        Code::Writes(_) => false,
-        Code::Jump => false,
-        Code::Escape => false,
-        Code::Opens(bracket) => match bracket {
-            Bracket::Conditional => false,
-            Bracket::Iteration => true,
-        },
-        Code::Separator => false,
-        Code::Closes(_) => false,
-        Code::Unknown => false,
-    }
+    matches!(code, Code::Opens(Bracket::Iteration))
 }

@@ -1,133 +1,121 @@
 // Which clause a conditional wants, by its parameter or its argument. The text is not looked at.
 ghost use Rattle.std.specs.Prelude.{◌≡◌, cond, List, ℕ, ◌≤◌};
 ghost use Rattle.rules.specs.Table.{meant, view_of};
-ghost use Rattle.rules.specs.Run.{is_false, pick, pick_numbered};
+ghost use Rattle.rules.specs.Run.{is_false, pick};
 ghost use Rattle.parameters.specs.Settling.{InHand, hand_at};
-ghost use Rattle.blocks.specs.Clauses.{pick_two, pick_one, pick_own, Wants};
+ghost use Rattle.blocks.specs.Clauses.{counted_from, pick_two, pick_one, pick_own, Wants};
+ghost use Rattle.blocks.specs.Parts.{Takes};
 
 use numbers::{is_negative, magnitude};
 use parameters::{Hand, argument_at};
-use rules::codes::{NO_ARGUMENT, WRONG_KIND};
-use rules::scalars::not;
-use rules::{Argument, ArgumentPosition, Directive, Setting, Settings};
+use rules::refusal::Refusal;
+use rules::{Argument, ArgumentPosition, Directive, Settings};
 
-// A clause by its number, if it is counted, and else, with a fallback, the one after a last ~:;; no clause; each with
-// the next argument then; or the code that refuses the conditional.
-#[derive(Clone, Copy)]
-pub enum Wanted {
-    Clause {
-        number: usize,
-        counted: bool,
-        fallback: bool,
-        next: ArgumentPosition,
-    },
-    Nothing {
-        next: ArgumentPosition,
-    },
-    Wrong(u32),
+// A clause that is looked for: by its number; or, where that is none or no clause has it, with a fallback, the one after
+// a last ~:;.
+#[derive(Clone, Copy, Debug, PartialEq, Eq)]
+pub struct Sought {
+    pub number: Option<usize>,
+    pub fallback: bool,
+}
+
+impl Sought {
+    // The same clause, where those before clause n are counted no longer.
+    pub fn counted_from(self, n: usize) -> Sought
+        ensures { result ≡ counted_from n self }
+    {
+        Sought {
+            number: self.number.map(|m| m.saturating_sub(n)),
+            fallback: self.fallback,
+        }
+    }
+}
+
+// What a conditional wants, a clause or none, and the next argument then.
+#[derive(Clone, Copy, Debug, PartialEq, Eq)]
+pub struct Wanted {
+    pub clause: Option<Sought>,
+    pub next: ArgumentPosition,
+}
+
+// The argument that a block takes.
+pub fn take_argument(table: &[u8], hand: Hand, i: ArgumentPosition) -> Result<Argument, Refusal>
+    requires { InHand table.now hand }
+    ensures { Takes table.now hand i.0 result }
+{
+    if hand.count <= i.0 {
+        return Err(Refusal::NoArgument);
+    }
+    Ok(argument_at(table, hand, i))
 }
 
 fn is_false(argument: Argument) -> bool
     ensures { (t : List ℕ) → result ≡ is_false (meant t argument) }
 {
-    match argument {
-        Argument::Boolean(b) => not(b),
-        Argument::Integer(_) => false,
-        Argument::Character(_) => false,
-        Argument::Text { start: _, end: _ } => false,
-        Argument::Entries { first: _, count: _ } => false,
-    }
-}
-
-// The first clause of two, or the second.
-fn number_of(first: bool) -> usize
-    ensures { result ≡ cond first 0 1 }
-{
-    if first { 0 } else { 1 }
+    matches!(argument, Argument::Boolean(false))
 }
 
 // ~:[: the first clause for #f, else the second.
-fn want_two(table: &[u8], hand: Hand, i: ArgumentPosition) -> Wanted
+fn want_two(table: &[u8], hand: Hand, i: ArgumentPosition) -> Result<Wanted, Refusal>
     requires in_hand { InHand table.now hand }
     requires i_le_count { i.0 ≤ hand.count }
     ensures { Wants hand.count (λ p m j cs on. pick_two (view_of table.now) p m cs (hand_at hand j) i.0 on) result }
 {
-    let k = i.0;
-    if hand.count <= k {
-        return Wanted::Wrong(NO_ARGUMENT);
-    }
-    let argument = argument_at(table, hand, i);
-    Wanted::Clause {
-        number: number_of(is_false(argument)),
-        counted: true,
-        fallback: false,
-        next: ArgumentPosition(k + 1),
-    }
+    let argument = take_argument(table, hand, i)?;
+    let number = if is_false(argument) { 0 } else { 1 };
+    Ok(Wanted {
+        clause: Some(Sought {
+            number: Some(number),
+            fallback: false,
+        }),
+        next: ArgumentPosition(i.0 + 1),
+    })
 }
 
 // ~@[: #f is taken and runs nothing; another argument stays, and the clause runs.
-fn want_one(table: &[u8], hand: Hand, i: ArgumentPosition) -> Wanted
+fn want_one(table: &[u8], hand: Hand, i: ArgumentPosition) -> Result<Wanted, Refusal>
     requires in_hand { InHand table.now hand }
     requires i_le_count { i.0 ≤ hand.count }
     ensures { Wants hand.count (λ p m j cs on. pick_one (view_of table.now) p m cs (hand_at hand j) i.0 on) result }
 {
-    let k = i.0;
-    if hand.count <= k {
-        return Wanted::Wrong(NO_ARGUMENT);
-    }
-    let argument = argument_at(table, hand, i);
-    let after = ArgumentPosition(k + 1);
+    let argument = take_argument(table, hand, i)?;
+    let after = ArgumentPosition(i.0 + 1);
     if is_false(argument) {
-        return Wanted::Nothing { next: after };
+        return Ok(Wanted {
+            clause: None,
+            next: after,
+        });
     }
-    Wanted::Clause {
-        number: 0,
-        counted: true,
-        fallback: false,
+    Ok(Wanted {
+        clause: Some(Sought {
+            number: Some(0),
+            fallback: false,
+        }),
         next: i,
-    }
+    })
 }
 
 // ~[ with an integer argument, which picks a clause; a negative one has none but the fallback.
-fn want_own(table: &[u8], hand: Hand, i: ArgumentPosition) -> Wanted
+fn want_own(table: &[u8], hand: Hand, i: ArgumentPosition) -> Result<Wanted, Refusal>
     requires in_hand { InHand table.now hand }
     requires i_le_count { i.0 ≤ hand.count }
     ensures { Wants hand.count (λ p m j cs on. pick_own (view_of table.now) p m cs (hand_at hand j) i.0 on) result }
 {
-    let k = i.0;
-    if hand.count <= k {
-        return Wanted::Wrong(NO_ARGUMENT);
-    }
-    let argument = argument_at(table, hand, i);
-    match argument {
-        Argument::Boolean(_) => Wanted::Wrong(WRONG_KIND),
-        Argument::Integer(z) => Wanted::Clause {
-            number: magnitude(z) as usize,
-            counted: not(is_negative(z)),
+    let Argument::Integer(z) = take_argument(table, hand, i)? else {
+        return Err(Refusal::WrongKind);
+    };
+    let number = if is_negative(z) {
+        None
+    } else {
+        Some(magnitude(z) as usize)
+    };
+    Ok(Wanted {
+        clause: Some(Sought {
+            number,
             fallback: true,
-            next: ArgumentPosition(k + 1),
-        },
-        Argument::Character(_) => Wanted::Wrong(WRONG_KIND),
-        Argument::Text { start: _, end: _ } => Wanted::Wrong(WRONG_KIND),
-        Argument::Entries { first: _, count: _ } => Wanted::Wrong(WRONG_KIND),
-    }
-}
-
-// ~[: by its number, or by its argument.
-fn want_numbered(table: &[u8], hand: Hand, number: Setting, i: ArgumentPosition) -> Wanted
-    requires in_hand { InHand table.now hand }
-    requires i_le_count { i.0 ≤ hand.count }
-    ensures { Wants hand.count (λ p m j cs on. pick_numbered (view_of table.now) p m cs (hand_at hand j) i.0 on number) result }
-{
-    match number {
-        Setting::Absent => want_own(table, hand, i),
-        Setting::Is(n) => Wanted::Clause {
-            number: n,
-            counted: true,
-            fallback: true,
-            next: i,
-        },
-    }
+        }),
+        next: ArgumentPosition(i.0 + 1),
+    })
 }
 
 // What the conditional d wants once its parameters are worked out, where i is the next argument.
@@ -137,7 +125,7 @@ pub fn want_clause(
     d: Directive,
     settings: Settings,
     i: ArgumentPosition,
-) -> Wanted
+) -> Result<Wanted, Refusal>
     requires in_hand { InHand table.now hand }
     requires i_le_count { i.0 ≤ hand.count }
     ensures { Wants hand.count (λ p m j cs on. pick (view_of table.now) p m d cs (hand_at hand j) settings i.0 on) result }
@@ -148,6 +136,14 @@ pub fn want_clause(
     if d.atsign {
         return want_one(table, hand, i);
     }
-    let first = settings.first;
-    want_numbered(table, hand, first, i)
+    if settings.first.is_none() {
+        return want_own(table, hand, i);
+    }
+    Ok(Wanted {
+        clause: Some(Sought {
+            number: settings.first,
+            fallback: true,
+        }),
+        next: i,
+    })
 }

@@ -3,10 +3,9 @@ use Prim.Native.Nat.{ℕ, ◌+◌, ◌-◌, ◌≤◌, ◌<◌, min}
 use mathlib.Core.Path.{◌≡◌, refl, sym, ap, ◌∙◌}
 use mathlib.Core.List.{List, [], ◌∷◌, ◌++◌, append-nil, append_assoc}
 use native.Mathlib.Decide.{dec_lt}
-use native.Mathlib.Numerals.{add-one}
 use native.Mathlib.Omega.{arith}
-use lib.ListN.{length, get_or, take, drop, set, length-append, length-take, length-drop, drop_of_length-le}
-use lib.Seq.{take-append-add, drop-append-add, drop-drop, length-take-le, take_all, paste, paste-suc}
+use lib.ListN.{length, take, drop, set, length-append, length-take, length-drop, drop_of_length-le}
+use lib.Seq.{take-append-add, drop-append-add, drop-drop, length-take-le, take_all}
 use borrow.Rule.Slice.PartMut.{put_mid}
 use Rattle.rules.specs.Job.{answer_line}
 use Rattle.lines.specs.Front.{over, AtFront}
@@ -61,32 +60,33 @@ answered_next a k l {frame₀ = frame₀} {text₀ = text₀} {out = out} {out�
       text_is = after_next line_text a k l text₀ r s.text_is t.text_is;
     }
 
--- a part is copied behind what is held of a line, byte by byte
-module _ (line part : List ℕ) (held : ℕ) where
-  pub copy_next : {now : List ℕ} (i : ℕ) → now ≡ paste line held part i → held + i < length line → i < length part
-      → set now (held + i) (get_or part i 0) ≡ paste line held part (i + 1)
-  copy_next i e h k = rw (e, add-one i) (paste-suc line held part i 0 h k)
-
-  pub copy_all : {now : List ℕ} (count : ℕ) → held ≤ length line → count ≡ min (length line - held) (length part)
-      → now ≡ paste line held part count → AtFront line now (take (length line) (take held line ++ part)) (held + count)
-  copy_all count h c e =
-      let front = take held line in
-      let size : length front ≡ held = length-take-le held line h in
-      let room = length line - held in
-      let some : take room part ≡ take count part =
-      elim (dec_lt (length part) room) [
-        | yes p ↦ take_all room part (omega arith) ∙ sym (take_all count part (omega (arith, c)))
-        | no p ↦ let same : room ≡ count = omega (arith, c) in ap (λ (n : ℕ). take n part) same
-      ] in
-      let reach : length line ≡ length front + room = omega (arith, size) in
-      let text : take (length line) (front ++ part) ≡ front ++ take count part =
-      ap (λ (n : ℕ). take n (front ++ part)) reach ∙ take-append-add front part room ∙ ap
-      (λ (l : List ℕ). front ++ l) some
-      in
-      let counted : held + count ≡ length (front ++ take count part) =
-      rw (length-append, size, length-take) (omega (arith, c))
-      in
-      record { count_is = counted ∙ ap length (sym text); buffer_is = rw text e }
+-- a part is copied behind what is held of a line
+pub held_more : (line part : List ℕ) (held count : ℕ) → held ≤ length line → count ≡ min (length part) (length line - held)
+    → AtFront line (put_mid held (held + count - held) line (take count part))
+    (take (length line) (take held line ++ part)) (held + count)
+held_more line part held count h c =
+    let front = take held line in
+    let size : length front ≡ held = length-take-le held line h in
+    let room = length line - held in
+    let some : take room part ≡ take count part =
+    elim (dec_lt (length part) room) [
+      | yes p ↦ take_all room part (omega arith) ∙ sym (take_all count part (omega (arith, c)))
+      | no p ↦ let same : room ≡ count = omega (arith, c) in ap (λ (n : ℕ). take n part) same
+    ] in
+    let reach : length line ≡ length front + room = omega (arith, size) in
+    let text : take (length line) (front ++ part) ≡ front ++ take count part =
+    ap (λ (n : ℕ). take n (front ++ part)) reach ∙ take-append-add front part room ∙ ap
+    (λ (l : List ℕ). front ++ l) some
+    in
+    let counted : held + count ≡ length (front ++ take count part) =
+    rw (length-append, size, length-take) (omega (arith, c))
+    in
+    let here : held + count - held ≡ count = omega arith in
+    record {
+      count_is = counted ∙ ap length (sym text);
+      buffer_is =
+          rw (text, here, drop-drop count held line) (sym (append_assoc front (take count part) (drop (held + count) line)));
+    }
 
 -- an answer in the part of a buffer that is lent from a place on, and its newline
 module _ (out y answer : List ℕ) (at count : ℕ) (room : at + count < length out)

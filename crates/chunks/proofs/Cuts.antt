@@ -1,13 +1,16 @@
 -- Where lines end: over bytes that come one after another, at a newline, and without one. Assumes nothing.
-use Prim.Native.Nat.{ℕ, zero, suc, ◌+◌, ◌≤◌, ◌<◌}
+use Prim.Native.Nat.{ℕ, zero, suc, ◌-◌, ◌≤◌, ◌<◌}
 use mathlib.Core.Path.{◌≡◌, refl, sym, ap, ◌∙◌}
+use mathlib.Core.Bool.{Bool, true, false, cond}
+use lib.Dec.{eqb}
+use Rattle.std.specs.Prelude.{None, Some, position}
+use Rattle.std.specs.List.{position_or_len}
 use mathlib.Core.List.{List, [], ◌∷◌, ◌++◌, append-nil, append_assoc}
 use native.Mathlib.Decide.{ℕ_discrete as dec_eq}
 use native.Mathlib.Omega.{arith}
-use native.Mathlib.Numerals.{add-one}
-use lib.ListN.{length, get_or, take, drop, drop_of_length-le}
-use lib.Seq.{append_snoc, drop-cons}
-use borrow.Author.Tests.{eq-eqb, ne_eqb}
+use lib.ListN.{length, take, drop, length-drop}
+use lib.Seq.{append_snoc, take_all}
+use borrow.Author.Tests.{eq-eqb, ne_eqb, ltb-false}
 use Rattle.rules.specs.Job.{answer_line}
 use Rattle.chunks.specs.Cutting.{line_in, ended_lines, begun_line, answers_to}
 
@@ -124,19 +127,33 @@ line_ends g (x ∷ s) (suc n) e h =
           }
     ]
 
--- where a line ends, byte by byte
-module _ (chunk : List ℕ) (i : ℕ) where
-  pub at_newline : i < length chunk → get_or chunk i 0 ≡ 10 → length (line_in (drop i chunk)) ≡ 0
-  at_newline h e =
-      ap (λ (l : List ℕ). length (line_in l)) (drop-cons chunk i 0 h)
-      ∙ ap length (line_newline (get_or chunk i 0) (drop (suc i) chunk) e)
+-- where a line ends: at the first newline, or behind all of the bytes
+line_length : (s : List ℕ) → length (line_in s) ≡ position_or_len (λ b. eqb b 10) s
+unfolding line_in
+line_length [] = refl
+line_length (b ∷ s) =
+    elim (dec_eq b 10) [
+      | yes e ↦ rw (eq-eqb b 10 e)
+      | no n ↦ rw (ne_eqb b 10 n) (omega (arith, line_length s))
+    ]
 
-  pub at_other : i < length chunk → (get_or chunk i 0 ≡ 10 → ⊥)
-      → length (line_in (drop i chunk)) ≡ length (line_in (drop (i + 1) chunk)) + 1
-  at_other h n =
-      ap (λ (l : List ℕ). length (line_in l)) (drop-cons chunk i 0 h)
-      ∙ ap length (line_other (get_or chunk i 0) (drop (suc i) chunk) n) ∙ rw (add-one i) (omega arith)
+-- the rest of the bytes, as it is lent
+pub rest_lent : (chunk : List ℕ) (from : ℕ) → take (length chunk - from) (drop from chunk) ≡ drop from chunk
+rest_lent chunk from = take_all (length chunk - from) (drop from chunk) (rw length-drop (omega arith))
 
-  pub at_end_lem : length chunk ≤ i → length (line_in (drop i chunk)) ≡ 0
-  unfolding line_in
-  at_end_lem h = rw (drop_of_length-le chunk {i = i} h)
+first_some : (b : Bool) {m n : ℕ} → Some n ≡ cond b (Some m) None → n ≡ m
+first_some true e = cc
+first_some false e = cc
+
+first_none : (b : Bool) (m : ℕ) → None ≡ cond b (Some m) None → b ≡ false
+first_none true m e = cc
+first_none false m e = refl
+
+module _ (s : List ℕ) where
+  pub end_found : {n : ℕ} → Some n ≡ position (λ b. eqb b 10) s → n ≡ length (line_in s)
+  end_found e = first_some _ e ∙ sym (line_length s)
+
+  pub end_missing : None ≡ position (λ b. eqb b 10) s → length (line_in s) ≡ length s
+  end_missing e =
+      let past : length s ≤ position_or_len (λ b. eqb b 10) s = ltb-false _ _ (first_none _ _ e) in
+      omega (arith, past, line_length s, line_within s)

@@ -116,7 +116,7 @@ module _ (chunk : List ℕ) (from end : ℕ) {begun line₀ line frame₀ frame 
 
   -- a line ends in the chunk, and is answered
   pub take_line : {frame₁ text₁ out₁ : List ℕ} {filled₁ : ℕ} → 65535 < length line₀ → (end ≡ length chunk → ⊥)
-      → Answered (take (kept₁ - 0) line₁ ∷ []) frame frame₁ text text₁ out out₁ filled filled₁
+      → Answered (take kept₁ line₁ ∷ []) frame frame₁ text text₁ out out₁ filled filled₁
       → Taken (take (end + 1) chunk) begun line₀ line₁ frame₀ frame₁ text₀ text₁ out₀ out₁ 0 filled₁
   unfolding after_lines
   take_line {frame₁} {text₁} {out₁} {filled₁} long inside a =
@@ -143,9 +143,8 @@ module _ (chunk : List ℕ) (from end : ℕ) {begun line₀ line frame₀ frame 
       let now : line₁ ≡ over (take size l) (after_lines (take size) E line₀) =
       rw size_is at (stands_more t (take (end - from) s) same w)
       in
-      let none : kept₁ - 0 ≡ kept₁ = omega arith in
-      let k : take (kept₁ - 0) line₁ ≡ take size l =
-      rw (none, now) (take_at (take size l) _ kept₁ (sym held.count_is))
+      let k : take kept₁ line₁ ≡ take size l =
+      rw now (take_at (take size l) _ kept₁ (sym held.count_is))
       in
       let b : Answered (take size l ∷ []) frame frame₁ text text₁ out out₁ filled filled₁ = rw k at a in
       record {

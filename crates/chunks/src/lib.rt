@@ -1,7 +1,7 @@
 // An input that comes in chunks: its lines, and their answers.
 #![tactic(auto)]
 
-ghost use Rattle.std.specs.Prelude.{◌≡◌, [], ◌∷◌, ◌++◌, ◌+◌, ◌≤◌, ◌<◌, min, length, take, drop};
+ghost use Rattle.std.specs.Prelude.{◌≡◌, nat_eq, position, [], ◌∷◌, ◌++◌, ◌+◌, ◌≤◌, ◌<◌, length, take, drop};
 ghost use Rattle.lines.specs.Front.{AtFront};
 ghost use Rattle.chunks.specs.Cutting.{line_in, last_line};
 ghost use Rattle.chunks.specs.Feeding.{Answered, Taken, FarEnough};
@@ -9,11 +9,17 @@ ghost use Rattle.chunks.specs.Feeding.{Answered, Taken, FarEnough};
 use lines::answer_with;
 
 // How much of a chunk is taken, how much is held of the line that it ends in, and where the answers end.
-#[derive(Clone, Copy)]
+#[derive(Clone, Copy, Debug, PartialEq, Eq)]
 pub struct Fed {
     pub taken: usize,
     pub held: usize,
     pub filled: usize,
+}
+
+fn newline_in(bytes: &[u8]) -> Option<usize>
+    ensures { result ≡ position (λ b. nat_eq b 10) bytes.now }
+{
+    bytes.iter().position(|byte| *byte == b'\n')
 }
 
 // Where the line that begins at from ends: at its newline, or at the end of the chunk.
@@ -21,20 +27,10 @@ pub fn line_end(chunk: &[u8], from: usize) -> usize
     requires { from ≤ length chunk.now }
     ensures { result ≡ from + length (line_in (drop from chunk.now)) }
 {
-    let mut i = from;
-    while i < chunk.len() {
-        if chunk[i] == b'\n' {
-            return i;
-        }
-        i += 1;
+    match newline_in(&chunk[from..]) {
+        Some(n) => from + n,
+        None => chunk.len(),
     }
-    i
-}
-
-fn least(a: usize, b: usize) -> usize
-    ensures { result ≡ min a b }
-{
-    if a < b { a } else { b }
 }
 
 // Adds a part of a line to what is held of it. What there is no room for is left out.
@@ -42,12 +38,8 @@ pub fn hold(line: &mut [u8], held: usize, part: &[u8]) -> usize
     requires { held ≤ length line.old }
     ensures { AtFront line.old line.new (take (length line.old) (take held line.old ++ part.now)) result }
 {
-    let count = least(line.len() - held, part.len());
-    let mut i = 0;
-    while i < count {
-        line[held + i] = part[i];
-        i += 1;
-    }
+    let count = part.len().min(line.len() - held);
+    line[held..held + count].copy_from_slice(&part[..count]);
     held + count
 }
 
@@ -86,22 +78,15 @@ pub fn feed(
     ensures far_enough { FarEnough chunk.now out.old result.taken result.filled }
 {
     let mut kept = held;
-    let mut filled: usize = 0;
+    let mut filled = 0;
     let mut from = 0;
-    while from < chunk.len() {
-        if out.len() - filled < 32795 {
-            return Fed {
-                taken: from,
-                held: kept,
-                filled: filled,
-            };
-        }
+    while from < chunk.len() && 32795 <= out.len() - filled {
         let end = line_end(chunk, from);
         kept = hold(line, kept, &chunk[from..end]);
         if end == chunk.len() {
             from = end;
         } else {
-            filled = add_answer(&line[0..kept], frame, text, out, filled);
+            filled = add_answer(&line[..kept], frame, text, out, filled);
             kept = 0;
             from = end + 1;
         }
@@ -109,7 +94,7 @@ pub fn feed(
     Fed {
         taken: from,
         held: kept,
-        filled: filled,
+        filled,
     }
 }
 
@@ -119,7 +104,7 @@ pub fn answer_last(line: &[u8], frame: &mut [u8], text: &mut [u8], out: &mut [u8
     requires in_bounds_2 { 32795 ≤ length out.old }
     ensures { Answered (last_line line.now) frame.old frame.new text.old text.new out.old out.new 0 result }
 {
-    if line.len() == 0 {
+    if line.is_empty() {
         return 0;
     }
     add_answer(line, frame, text, out, 0)

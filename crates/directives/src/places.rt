@@ -1,89 +1,50 @@
 // Which parameters and modifiers a directive takes.
-ghost use Rattle.std.specs.Prelude.{◌≡◌, true, leb};
-ghost use Rattle.rules.specs.Choice.{both};
+ghost use Rattle.std.specs.Prelude.{◌≡◌, true};
 ghost use Rattle.rules.specs.Directive.{no_parameters};
-ghost use Rattle.rules.specs.Rows.{takes as takes_of, suits as suits_in, fit_into, row_in, places_in, well_written};
+ghost use Rattle.rules.specs.Rows.{takes as takes_of, suits as suits_in, fit_into, places_in, well_written};
 ghost use Rattle.rules.specs.declared.Parameter.TheVariants.{Default};
-ghost use Rattle.rules.specs.declared.Place.TheVariants.{Empty, Number as NumberPlace, Character as CharacterPlace};
 
 use crate::rows::row_in;
-use rules::scalars::{both, either, not};
 use rules::{Directive, Modifiers, Parameter, Parameters, Place, Places};
-
-fn suits_empty(x: Parameter) -> bool
-    ensures { result ≡ suits_in Empty x }
-{
-    match x {
-        Parameter::Default => true,
-        Parameter::Number(_) => false,
-        Parameter::Character(_) => false,
-        Parameter::Next => false,
-        Parameter::Remaining => false,
-    }
-}
-
-fn suits_number(x: Parameter, least: u16, most: u16) -> bool
-    ensures { result ≡ suits_in (NumberPlace least most) x }
-{
-    match x {
-        Parameter::Default => true,
-        Parameter::Number(n) => both(least <= n, n <= most),
-        Parameter::Character(_) => false,
-        Parameter::Next => true,
-        Parameter::Remaining => true,
-    }
-}
-
-fn suits_character(x: Parameter) -> bool
-    ensures { result ≡ suits_in CharacterPlace x }
-{
-    match x {
-        Parameter::Default => true,
-        Parameter::Number(_) => false,
-        Parameter::Character(_) => true,
-        Parameter::Next => true,
-        Parameter::Remaining => false,
-    }
-}
 
 fn suits(place: Place, x: Parameter) -> bool
     ensures { result ≡ suits_in place x }
 {
     match place {
-        Place::Empty => suits_empty(x),
-        Place::Number { least, most } => suits_number(x, least, most),
-        Place::Character => suits_character(x),
+        Place::Empty => matches!(x, Parameter::Default),
+        Place::Number { least, most } => match x {
+            Parameter::Number(n) => least <= n && n <= most,
+            Parameter::Character(_) => false,
+            Parameter::Default | Parameter::Next | Parameter::Remaining => true,
+        },
+        Place::Character => matches!(
+            x,
+            Parameter::Default | Parameter::Character(_) | Parameter::Next
+        ),
     }
 }
 
-// The parameters are no more than there are places, and each suits its own.
+// The parameters are no more than there are places, and each suits its own. Each is asked before any answer is looked at:
+// that takes fewer instructions than a branch after each (measured).
 fn fits_into(places: Places, ps: Parameters) -> bool
     ensures { result ≡ fit_into places ps }
 {
-    let y1 = places.first;
-    let y2 = places.second;
-    let y3 = places.third;
-    let y4 = places.fourth;
-    let y5 = places.fifth;
-    let p1 = ps.first;
-    let p2 = ps.second;
-    let p3 = ps.third;
-    let p4 = ps.fourth;
-    let p5 = ps.fifth;
-    let last = both(suits(y4, p4), suits(y5, p5));
-    let from_second = both(suits(y2, p2), both(suits(y3, p3), last));
-    let all = both(suits(y1, p1), from_second);
-    both(ps.count <= places.count, all)
+    let first = suits(places.first, ps.first);
+    let second = suits(places.second, ps.second);
+    let third = suits(places.third, ps.third);
+    let fourth = suits(places.fourth, ps.fourth);
+    let fifth = suits(places.fifth, ps.fifth);
+    ps.count <= places.count && first && second && third && fourth && fifth
 }
 
 fn takes(modifiers: Modifiers, colon: bool, atsign: bool) -> bool
     ensures { result ≡ takes_of modifiers colon atsign }
 {
     match modifiers {
-        Modifiers::Neither => not(either(colon, atsign)),
-        Modifiers::Colon => not(atsign),
-        Modifiers::At => not(colon),
-        Modifiers::Either => not(both(colon, atsign)),
+        Modifiers::Neither => !(colon || atsign),
+        Modifiers::Colon => !atsign,
+        Modifiers::At => !colon,
+        Modifiers::Either => !(colon && atsign),
         Modifiers::Any => true,
     }
 }
@@ -91,57 +52,33 @@ fn takes(modifiers: Modifiers, colon: bool, atsign: bool) -> bool
 fn is_default(x: Parameter) -> bool
     ensures { result ≡ true → x ≡ Default }
 {
-    match x {
-        Parameter::Default => true,
-        _ => false,
-    }
+    matches!(x, Parameter::Default)
 }
 
-// Whether no parameter is written.
+// Whether no parameter is written. `&`, not `&&`: the five are asked at once, in fewer instructions (measured).
 pub fn is_bare(ps: Parameters) -> bool
     ensures { result ≡ true → ps ≡ no_parameters }
 {
-    let p1 = ps.first;
-    let p2 = ps.second;
-    let p3 = ps.third;
-    let p4 = ps.fourth;
-    let p5 = ps.fifth;
-    if ps.count == 0 {
-        let front = both(is_default(p1), is_default(p2));
-        let back = both(is_default(p3), both(is_default(p4), is_default(p5)));
-        return both(front, back);
-    }
-    false
-}
-
-// No modifier is wrong.
-fn takes_modifiers(d: Directive) -> bool
-    ensures { result ≡ takes_of (row_in d).modifiers d.colon d.atsign }
-{
-    let row = row_in(d);
-    let modifiers = row.modifiers;
-    takes(modifiers, d.colon, d.atsign)
+    ps.count == 0
+        && (is_default(ps.first)
+            & is_default(ps.second)
+            & is_default(ps.third)
+            & is_default(ps.fourth)
+            & is_default(ps.fifth))
 }
 
 // No parameter is wrong. Most directives that are not short have none: then no place is looked up, at half the cost.
+#[tactic(auto, using(crate::proofs::Tests::bare_fits))]
 fn fits_places(d: Directive) -> bool
     ensures { result ≡ fit_into (places_in d) d.parameters }
 {
-    let ps = d.parameters;
-    if is_bare(ps) {
-        return true;
-    }
-    let row = row_in(d);
-    let places = row.places;
-    fits_into(places, ps)
+    is_bare(d.parameters) || fits_into(row_in(d).places, d.parameters)
 }
 
 // No parameter or modifier is wrong.
+#[tactic(auto, unfolding(rules::specs::Rows::well_written))]
 pub fn is_well_written(d: Directive) -> bool
     ensures { result ≡ well_written d }
 {
-    if takes_modifiers(d) {
-        return fits_places(d);
-    }
-    false
+    takes(row_in(d).modifiers, d.colon, d.atsign) && fits_places(d)
 }

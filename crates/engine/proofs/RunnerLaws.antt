@@ -20,7 +20,7 @@ use Rattle.rules.specs.declared.ArgumentPosition.{ArgumentPosition}
 use Rattle.rules.specs.declared.Directive.{Directive}
 use Rattle.rules.specs.declared.Item.{Item}
 use Rattle.rules.specs.declared.Item.TheVariants.{Literal, Written}
-use Rattle.rules.specs.declared.Setting.{Setting}
+use Rattle.rules.specs.Setting.{Setting}
 use Rattle.rules.proofs.TextLaws.{next_inside, stands}
 use Rattle.syntax.specs.Ends.{AfterBlock}
 use Rattle.parameters.specs.Settling.{hand_at}
@@ -32,14 +32,14 @@ use Rattle.actions.specs.declared.state.Stop.TheVariants.{Ended, Escaped, Refuse
 use Rattle.actions.specs.Ran.{refused_ran, ended_ran, begun, hand}
 use Rattle.actions.proofs.Joining.{no_end_left}
 use Rattle.actions.specs.contracts.state.Stop as stop_declared
-use Rattle.running.specs.Runs.{EndsAt, EndsBlock, After, rest_at, Runs, Steps, Strides, Blocks, Passes, opening}
+use Rattle.running.specs.Runs.{EndsAt, EndsBlock, After, rest_at, Runs, Steps, Strides, Blocks, Passes, RunsClause, opening}
 use Rattle.blocks.specs.Clauses.{InsideAt}
 use Rattle.blocks.specs.Parts.{ends_sequence, opens_block, iterates, outside_of, OverIn}
-use Rattle.blocks.specs.declared.passes.Over.TheVariants.{Is as OverIs}
-use Rattle.stepping.specs.Stepping.{is_ended, ActsAlone}
+use Rattle.std.specs.Prelude.{Ok}
+use Rattle.stepping.specs.Stepping.{ActsAlone}
 use Rattle.engine.specs.Runners.{LeavesPasses, spot_at}
 use Rattle.running.proofs.Arms.{runs_end, steps_deep, steps_block_none, steps_block}
-use Rattle.running.proofs.BlockArms.{chooses_run, iterates_run, blocks_refused, blocks_same, blocks_list, passes_over, passes_none, passes_on, passes_left, passes_refused}
+use Rattle.running.proofs.BlockArms.{chooses_run, iterates_run, blocks_refused, blocks_clause, blocks_clause_left, blocks_clause_refused, blocks_same, blocks_list, passes_over, passes_none, passes_on, passes_left, passes_refused}
 use Rattle.running.proofs.Strides.{strides, strides_runs_on, strides_runs_left, strides_runs_refused}
 use Rattle.running.proofs.Places.{iteration_at, conditional_at}
 
@@ -69,9 +69,9 @@ sequence_stops s n v first count level p i left at b {e} {r} u h = by r.stop ref
 
 -- an item at which the run stops
 pub steps_stopped : (s : ℕ → List Level) (n : ℕ) (v : View) (first count level p i left at : ℕ) (b : List ℕ) {e : List ℕ} {r : Ran}
-    → Steps s n v (hand first count) level p i left at b e r → is_ended r.stop ≡ false → Runs s n v (hand first count) level p i left at b e r
+    → Steps s n v (hand first count) level p i left at b e r → (r.stop ≡ Ended → ⊥) → Runs s n v (hand first count) level p i left at b e r
 steps_stopped s n v first count level p i left at b u h =
-    sequence_stops s n v first count level p i left at b (strides s n v first count level p i left at b u) (λ q. absurd (not_both (ap is_ended q) h))
+    sequence_stops s n v first count level p i left at b (strides s n v first count level p i left at b u) (λ q. absurd (h q))
 
 -- what stands at a spot, by the spot's other name
 pub refused_at_lem : {r : Ran} {x y : Spot} {code i : ℕ} → r ≡ refused_ran code x.position i x.left x.at x.place → x ≡ y → r ≡ refused_ran code y.position i y.left y.at y.place
@@ -163,7 +163,7 @@ ends_inside h e = record { outside = e.around ∙ h.outside; least = omega (arit
 
 -- an iteration over the entries inner, after which the arguments in hand outside come back
 pub over_blocks : (s : ℕ → List Level) (n : ℕ) (v : View) (t : List ℕ) (level p q : ℕ) (f : List Frame → Flow) (left atsign : ℕ) (b : List ℕ) (hand inner : Hand) (with_at : Bool) (i : ℕ) (first : ArgumentPosition) (passes : Setting)
-    {e : List ℕ} {r : Ran} (o : ArgumentPosition) → OverIn t hand with_at i (OverIs inner first) → o.0 ≡ cond with_at r.next.0 (i + 1)
+    {e : List ℕ} {r : Ran} (o : ArgumentPosition) → OverIn t hand with_at i (Ok (record { hand = inner; first = first })) → o.0 ≡ cond with_at r.next.0 (i + 1)
     → ((ks : List Frame) → f ks ≡ run v left end (iteration p passes (rest_at s q) (innermost (outer (s q))).rest (outside_of with_at hand i) ∷ ks) (hand_at inner first.0))
     → Passes s n v (hand_at inner) level p q first.0 passes left atsign b e r
     → Blocks s n v (hand_at hand) level q f left atsign b e (record { stop = r.stop; next = o; left = r.left; at = r.at; place = r.place })
@@ -179,6 +179,24 @@ over_blocks s n v t level p q f left atsign b hand inner false i first passes {e
     λ ks. h ks ∙ ap (λ (x : ℕ). run v left end (iteration p passes (rest_at s q) (innermost (outer (s q))).rest (other (hand_at hand (i + 1))) ∷ ks) (hand_at inner x)) w.1.0 in
     subst (λ (x : ℕ). Blocks s n v (hand_at hand) level q f left atsign b e (record { stop = r.stop; next = record { 0 = x }; left = r.left; at = r.at; place = r.place })) (sym k)
     (blocks_list s n v hand.first.0 hand.count level q f left atsign b p (i + 1) inner.first.0 inner.count passes h₂ u₂ (omega (arith, w.1.1)))
+
+-- a clause whose sequence ended, after which the text goes on after the block
+pub clause_ended : (s : ℕ → List Level) (n : ℕ) (v : View) (first count level q z i left at : ℕ) (b : List ℕ) {e : List ℕ} {r : Ran}
+    → Runs s n v (hand first count) level z i left at b e r → r.stop ≡ Ended → (place : ℕ) → After s n q place
+    → RunsClause s n v (hand first count) level q z i left at b e (record { stop = r.stop; next = r.next; left = r.left; at = r.at; place = place })
+clause_ended s n v first count level q z i left at b {e} {r} u y place a =
+    subst (λ (x : Stop). RunsClause s n v (hand first count) level q z i left at b e (record { stop = x; next = r.next; left = r.left; at = r.at; place = place })) (sym y)
+    (record { is = λ g h. blocks_clause s n v first count level q g left at b z i h u y place a })
+
+-- and one whose sequence did not end
+pub clause_stopped : (s : ℕ → List Level) (n : ℕ) (v : View) (first count level q z i left at : ℕ) (b : List ℕ) {e : List ℕ} {r : Ran}
+    → Runs s n v (hand first count) level z i left at b e r → (r.stop ≡ Ended → ⊥) → RunsClause s n v (hand first count) level q z i left at b e r
+clause_stopped s n v first count level q z i left at b {e} {r} u f = by r.stop refl
+  where
+    by : (x : Stop) → r.stop ≡ x → RunsClause s n v (hand first count) level q z i left at b e r
+    by Ended y = absurd (f y)
+    by Escaped y = record { is = λ g h. blocks_clause_left s n v first count level q g left at b z i h u y }
+    by (Refused code p) y = record { is = λ g h. blocks_clause_refused s n v first count level q g left at b z i h u code p y }
 
 -- passes by another name of the spot where they begin
 pub passes_from : {s : ℕ → List Level} {n : ℕ} {v : View} {c : ℕ → Context} {level q i : ℕ} {passes : Setting} {b e : List ℕ} {r : Ran} {x y : Spot} → x ≡ y
@@ -212,15 +230,15 @@ module _ (s : ℕ → List Level) (n : ℕ) (v : View) (first count level q i : 
           (subst (λ (ps : Setting). Passes s n v (hand first count) level on.position q r.next.0 ps r.left r.at e e' r') w (passes_from x k))
 
       -- a pass that did not end
-      pub passes_stopped : {o : Ran} → is_ended r.stop ≡ false → LeavesPasses s n q r o → PassesHere e o
-      passes_stopped {o} f w = by r.stop refl f
+      pub passes_stopped : {o : Ran} → (r.stop ≡ Ended → ⊥) → LeavesPasses s n q r o → PassesHere e o
+      passes_stopped {o} f w = by r.stop refl
         where
-          by : (x : Stop) → r.stop ≡ x → is_ended x ≡ false → PassesHere e o
-          by Ended y f = absurd (not_both refl f)
-          by Escaped y f =
+          by : (x : Stop) → r.stop ≡ x → PassesHere e o
+          by Ended y = absurd (f y)
+          by Escaped y =
               let m = w.left y in
               subst (PassesHere e) (sym m.is) (passes_left s n v first count level on.position q i passes on.left on.at b h z pass y o.place m.after)
-          by (Refused code x) y f =
+          by (Refused code x) y =
               subst (PassesHere e) (sym (w.refused code x y)) (passes_refused s n v first count level on.position q i passes on.left on.at b h z pass code x y)
 
 -- which stops are answered as they are

@@ -9,8 +9,10 @@ use Rattle.rules.specs.Table.{View, view_of, table_verdict, argument_count}
 use Rattle.rules.specs.Text.{end, levels_at, sequence_of, text_verdict}
 use Rattle.rules.specs.Run.{run}
 use Rattle.rules.specs.Answer.{Answer, limit, fit, flow_of, unless_refused, answer_of, Answers}
-use Rattle.rules.specs.declared.Verdict.{Verdict}
-use Rattle.rules.specs.declared.Verdict.TheVariants.{Accepted, Refused}
+use Rattle.rules.specs.Verdict.{Verdict, Accepted, Refused, verdict_as}
+use Rattle.rules.specs.Refusals.{code_of as refusal_code}
+use Rattle.rules.specs.declared.refusal.Fault.{Fault}
+use Rattle.std.specs.Prelude.{Result, Ok, Err, ⊤, MatchResult}
 use Rattle.rules.proofs.RunLaws.{run_done}
 use Rattle.rules.proofs.TableLaws.{accepted_sound}
 use Rattle.rules.proofs.ViewLaws.{view_arguments}
@@ -79,7 +81,19 @@ text_refused f t b code p a e =
     (ap (λ (x : Verdict). unless_refused x (λ _. unless_refused (text_verdict f) (λ _. fit (length b) [] (flow_of f (view_of t))))) a
     ∙ ap (λ (x : Verdict). unless_refused x (λ _. fit (length b) [] (flow_of f (view_of t)))) e) refl refl refl refl refl
 
--- the same, with the number of arguments as it is told
+-- the same of the answers of the checks
+pub table_faulty : (f t : List ℕ) (o : Result ⊤ Fault) {fault : Fault} → verdict_as o ≡ table_verdict t → o ≡ Err fault → (b : List ℕ) → Answers f t b b (refusal_code fault.refusal) fault.position 0 0
+table_faulty f t o e q b = table_refused f t b _ _ (sym e ∙ ap verdict_as q)
+
+pub table_right : (t : List ℕ) (o : Result ⊤ Fault) {u : ⊤} → verdict_as o ≡ table_verdict t → o ≡ Ok u → table_verdict t ≡ Accepted
+table_right t o e q = sym e ∙ ap verdict_as q
+
+pub text_checked : (f t : List ℕ) (o : Result ⊤ Fault) → verdict_as o ≡ text_verdict f → table_verdict t ≡ Accepted
+    → MatchResult o (λ _. (table_verdict t ≡ Accepted) × (text_verdict f ≡ Accepted)) (λ fault. (b : List ℕ) → Answers f t b b (refusal_code fault.refusal) fault.position 0 0)
+text_checked f t (Ok u) e a = (a, sym e)
+text_checked f t (Err fault) e a = λ b. text_refused f t b _ _ a (sym e)
+
+-- a run, with the number of arguments as it is told
 pub whole_told : (f t b : List ℕ) (m : ℕ) {e : List ℕ} {r : Ran} (o : Outcome) → m ≡ argument_count t → table_verdict t ≡ Accepted → text_verdict f ≡ Accepted
     → Runs (levels_at f) (length f) (view_of t) (hand 0 m) 8 0 0 limit 0 b e r → o ≡ outcome_of r → Answers f t b e o.code o.position o.steps o.written
 whole_told f t b m {e} {r} o q a c u w =

@@ -12,25 +12,25 @@ ghost use Rattle.running.specs.Runs.{Runs, Steps, Blocks, Passes, RunsClause, En
 ghost use Rattle.blocks.specs.Clauses.{InsideAt};
 ghost use Rattle.blocks.specs.Landmarks.{Landmarks};
 ghost use Rattle.blocks.specs.Parts.{ends_at, opens_block, iterates};
-ghost use Rattle.stepping.specs.Stepping.{is_ended};
 ghost use Rattle.engine.specs.Runners.{ItemAfter, LeavesPasses, spot_at};
 
-use actions::state::{Ran, Spot, Stand, Stop, begin, refuse};
+use actions::state::{Ran, Spot, Stand, Stop};
 use blocks::clauses::{Chosen, block_end, choose_clause};
 use blocks::ends::{element_at, ends_here, is_iteration, opens_block};
+use blocks::landmarks::Landmark;
 use blocks::passes::{Over, go_over, is_over, next_after, one_less};
 use directives::places::is_well_written;
 use parameters::{Hand, SettledOut, settle_directive};
-use rules::codes::{BAD_BLOCK, BAD_PARAMETER, STEP_LIMIT};
+use rules::refusal::Refusal;
 use rules::{ArgumentPosition, Directive, Item, Setting, Settings};
-use stepping::items::{act, is_ended, put_literal};
+use stepping::items::{act, put_literal};
 use stepping::short::run_short;
 
 // The sequence that is read at start, with level levels left for blocks.
 #[cycle(runs)]
 pub fn run_sequence(
     text: &[u8],
-    marks: &[u16],
+    marks: &[Landmark],
     table: &[u8],
     level: usize,
     start: usize,
@@ -59,15 +59,14 @@ pub fn run_sequence(
         if ends_here(item) {
             return s;
         }
-        let after = s.next;
         let met = Stand {
             hand,
-            next: after,
+            next: s.next,
             left: s.left,
             at: s.at,
         };
         let r = run_item(text, marks, table, level, s.place, item, met, out);
-        if !has_ended(r) {
+        if r.stop != Stop::Ended {
             return r;
         }
         next = r.next;
@@ -77,18 +76,11 @@ pub fn run_sequence(
     }
 }
 
-fn has_ended(r: Ran) -> bool
-    ensures { result ≡ is_ended r.stop }
-{
-    let stop = r.stop;
-    is_ended(stop)
-}
-
 // The item at which s ended. It is said to be the end of the text where s did not end.
 fn item_after(text: &[u8], s: Ran) -> Item
     ensures { ItemAfter text.now s result }
 {
-    if !has_ended(s) {
+    if s.stop != Stop::Ended {
         return Item::End;
     }
     element_at(text, s.place)
@@ -110,7 +102,7 @@ fn spot_at(position: usize, place: usize, left: usize, at: usize) -> Spot
 #[cycle(runs)]
 fn run_item(
     text: &[u8],
-    marks: &[u16],
+    marks: &[Landmark],
     table: &[u8],
     level: usize,
     p: usize,
@@ -124,17 +116,15 @@ fn run_item(
     requires item_value { ends_at item ≡ false }
     ensures { Steps (levels_at text.now) (length text.now) (view_of table.now) (hand_at stand.hand) level p stand.next.0 stand.left stand.at out.old out.new result }
 {
-    let next = stand.next;
     match item {
         Item::Literal(byte) => put_literal(p, byte, stand, out),
         Item::Written(d) => {
-            let code = d.code;
-            if opens_block(code) {
+            if opens_block(d.code) {
                 return run_block(text, marks, table, level, p, d, stand, out);
             }
             act(p, d, table, stand, out)
         }
-        _ => refuse(spot_at(p, p, stand.left, stand.at), BAD_BLOCK, next),
+        _ => spot_at(p, p, stand.left, stand.at).refuse(Refusal::BadBlock, stand.next),
     }
 }
 
@@ -142,7 +132,7 @@ fn run_item(
 #[cycle(runs)]
 fn run_block(
     text: &[u8],
-    marks: &[u16],
+    marks: &[Landmark],
     table: &[u8],
     level: usize,
     p: usize,
@@ -156,24 +146,32 @@ fn run_block(
     requires code_value { opens_block d.code ≡ true }
     ensures { Steps (levels_at text.now) (length text.now) (view_of table.now) (hand_at stand.hand) level p stand.next.0 stand.left stand.at out.old out.new result }
 {
-    let hand = stand.hand;
-    let next = stand.next;
     let spot = spot_at(p, d.after, stand.left, stand.at);
     if level == 0 {
-        return refuse(spot, BAD_BLOCK, next);
+        return spot.refuse(Refusal::BadBlock, stand.next);
     }
     if stand.left == 0 {
-        return refuse(spot, STEP_LIMIT, next);
+        return spot.refuse(Refusal::StepLimit, stand.next);
     }
-    let begun = begin(spot);
-    run_opened(text, marks, table, level - 1, begun, d, hand, next, out)
+    let begun = spot.begin();
+    run_opened(
+        text,
+        marks,
+        table,
+        level - 1,
+        begun,
+        d,
+        stand.hand,
+        stand.next,
+        out,
+    )
 }
 
 // The block that d opens, once it is begun: its parameters are worked out, for either bracket.
 #[cycle(runs)]
 fn run_opened(
     text: &[u8],
-    marks: &[u16],
+    marks: &[Landmark],
     table: &[u8],
     level: usize,
     spot: Spot,
@@ -190,14 +188,12 @@ fn run_opened(
     ensures { Blocks (levels_at text.now) (length text.now) (view_of table.now) (hand_at hand) level d.after (opening (iterates d.code) (levels_at text.now) (view_of table.now) (hand_at hand) spot.position d d.after next.0 spot.left) spot.left spot.at out.old out.new result }
 {
     if !is_well_written(d) {
-        return refuse(spot, BAD_PARAMETER, next);
+        return spot.refuse(Refusal::BadParameter, next);
     }
-    let settled = settle_directive(table, hand, d, next);
-    match settled {
-        SettledOut::Wrong(code) => refuse(spot, code, next),
-        SettledOut::Is { settings, next: i } => {
-            let code = d.code;
-            if is_iteration(code) {
+    match settle_directive(table, hand, d, next) {
+        Err(refusal) => spot.refuse(refusal, next),
+        Ok(SettledOut { settings, next: i }) => {
+            if is_iteration(d.code) {
                 return run_iteration(text, marks, table, level, spot, d, settings, hand, i, out);
             }
             run_conditional(text, marks, table, level, spot, d, settings, hand, i, out)
@@ -209,7 +205,7 @@ fn run_opened(
 #[cycle(runs)]
 fn run_conditional(
     text: &[u8],
-    marks: &[u16],
+    marks: &[Landmark],
     table: &[u8],
     level: usize,
     spot: Spot,
@@ -228,7 +224,7 @@ fn run_conditional(
 {
     let chosen = choose_clause(text, marks, table, hand, d, settings, i);
     match chosen {
-        Chosen::At { place, next: j } => {
+        Ok(Chosen::At { place, next: j }) => {
             let stand = Stand {
                 hand,
                 next: j,
@@ -237,15 +233,17 @@ fn run_conditional(
             };
             run_clause(text, marks, table, level, d.after, place, stand, out)
         }
-        Chosen::Nothing { inside, next: j } => end_block(text, marks, spot, d.after, inside, j),
-        Chosen::Wrong(code) => refuse(spot, code, i),
+        Ok(Chosen::Nothing { inside, next: j }) => {
+            end_block(text, marks, spot, d.after, inside, j)
+        }
+        Err(refusal) => spot.refuse(refusal, i),
     }
 }
 
 // On after the block whose inside is at q, in which known stands, with nothing written.
 fn end_block(
     text: &[u8],
-    marks: &[u16],
+    marks: &[Landmark],
     spot: Spot,
     q: usize,
     known: usize,
@@ -255,13 +253,12 @@ fn end_block(
     requires inside_at { InsideAt text.now q known }
     ensures { EndsBlock (levels_at text.now) (length text.now) spot q next.0 result }
 {
-    let place = block_end(text, marks, q, known);
     Ran {
         stop: Stop::Ended,
         next,
         left: spot.left,
         at: spot.at,
-        place,
+        place: block_end(text, marks, q, known),
     }
 }
 
@@ -269,7 +266,7 @@ fn end_block(
 #[cycle(runs)]
 fn run_clause(
     text: &[u8],
-    marks: &[u16],
+    marks: &[Landmark],
     table: &[u8],
     level: usize,
     q: usize,
@@ -283,21 +280,12 @@ fn run_clause(
     ensures { RunsClause (levels_at text.now) (length text.now) (view_of table.now) (hand_at stand.hand) level q z stand.next.0 stand.left stand.at out.old out.new result }
 {
     let r = run_sequence(text, marks, table, level, z, stand, out);
-    let stop = r.stop;
-    let after = r.next;
-    match stop {
-        Stop::Ended => Ran {
-            stop: Stop::Ended,
-            next: after,
-            left: r.left,
-            at: r.at,
-            place: block_end(text, marks, q, r.place),
-        },
-        Stop::Escaped => r,
-        Stop::Refused {
-            code: _,
-            position: _,
-        } => r,
+    if r.stop != Stop::Ended {
+        return r;
+    }
+    Ran {
+        place: block_end(text, marks, q, r.place),
+        ..r
     }
 }
 
@@ -305,7 +293,7 @@ fn run_clause(
 #[cycle(runs)]
 fn run_iteration(
     text: &[u8],
-    marks: &[u16],
+    marks: &[Landmark],
     table: &[u8],
     level: usize,
     spot: Spot,
@@ -322,11 +310,10 @@ fn run_iteration(
     requires at_in_bounds { spot.at ≤ length out.old }
     ensures { (j : ℕ) → Blocks (levels_at text.now) (length text.now) (view_of table.now) (hand_at hand) level d.after (entering (levels_at text.now) (view_of table.now) (hand_at hand) spot.position d d.after j spot.left settings i.0) spot.left spot.at out.old out.new result }
 {
-    let limit = settings.first;
     let over = go_over(table, hand, d.atsign, i);
     match over {
-        Over::Wrong(code) => refuse(spot, code, i),
-        Over::Is { hand: inner, first } => {
+        Err(refusal) => spot.refuse(refusal, i),
+        Ok(Over { hand: inner, first }) => {
             let stand = Stand {
                 hand: inner,
                 next: first,
@@ -341,18 +328,13 @@ fn run_iteration(
                 level,
                 spot.position,
                 d.after,
-                limit,
+                settings.first,
                 stand,
                 out,
             );
-            let stop = r.stop;
-            let last = r.next;
             Ran {
-                stop,
-                next: next_after(d.atsign, last, i),
-                left: r.left,
-                at: r.at,
-                place: r.place,
+                next: next_after(d.atsign, r.next, i),
+                ..r
             }
         }
     }
@@ -363,7 +345,7 @@ fn run_iteration(
 #[cycle(runs)]
 fn run_passes(
     text: &[u8],
-    marks: &[u16],
+    marks: &[Landmark],
     table: &[u8],
     level: usize,
     p: usize,
@@ -386,9 +368,9 @@ fn run_passes(
             return end_block(text, marks, on, q, on.place, next);
         }
         if on.left == 0 {
-            return refuse(on, STEP_LIMIT, next);
+            return on.refuse(Refusal::StepLimit, next);
         }
-        let begun = begin(on);
+        let begun = on.begin();
         let stand = Stand {
             hand,
             next,
@@ -396,7 +378,7 @@ fn run_passes(
             at: begun.at,
         };
         let r = run_sequence(text, marks, table, level, q, stand, out);
-        if !has_ended(r) {
+        if r.stop != Stop::Ended {
             return leave_passes(text, marks, q, on.place, r);
         }
         passes = one_less(passes);
@@ -407,15 +389,13 @@ fn run_passes(
 
 // What the passes of the iteration whose inside is at q answer after one that did not end: an escape leaves them, and the
 // text goes on after the block, in which known stands.
-fn leave_passes(text: &[u8], marks: &[u16], q: usize, known: usize, r: Ran) -> Ran
+fn leave_passes(text: &[u8], marks: &[Landmark], q: usize, known: usize, r: Ran) -> Ran
     requires landmarks { Landmarks text.now marks.now }
     requires inside_at { InsideAt text.now q known }
     ensures { LeavesPasses (levels_at text.now) (length text.now) q r result }
 {
-    let stop = r.stop;
-    let next = r.next;
-    match stop {
-        Stop::Escaped => end_block(text, marks, spot_at(q, q, r.left, r.at), q, known, next),
+    match r.stop {
+        Stop::Escaped => end_block(text, marks, spot_at(q, q, r.left, r.at), q, known, r.next),
         _ => r,
     }
 }

@@ -10,6 +10,7 @@ use native.Mathlib.Omega.{arith}
 use lib.ListN.{length, take}
 use borrow.Author.Tests.{eq-eqb, ne_eqb, le-leb, lt-leb}
 use Rattle.rules.specs.Choice.{choose}
+use Rattle.rules.specs.declared.refusal.Refusal.TheVariants.{StepLimit}
 use Rattle.rules.specs.Flow.{Flow, given_text, Gives}
 use Rattle.rules.specs.Table.{view_of}
 use Rattle.rules.specs.Text.{Level, innermost, levels_at, deepest}
@@ -29,10 +30,9 @@ use Rattle.actions.specs.contracts.state.Stop as stop_declared
 use Rattle.running.specs.Runs.{EscapesAt, rest_at, leaving, Strides}
 use Rattle.running.proofs.Strides.{strides_none}
 use Rattle.stepping.specs.Stepping.{HeldUp}
-use Rattle.nesting.specs.Moves.{here_at, over_at, Told, comes, Sound, weight, Moves}
+use Rattle.nesting.specs.Moves.{here_at, on_at, refused_at, Told, comes, Sound, weight, Moves}
 use Rattle.nesting.specs.Nest.{frames_of}
 use Rattle.nesting.specs.declared.moves.Here.{Here}
-use Rattle.nesting.specs.declared.moves.How.TheVariants.{On as MovesOn}
 use Rattle.nesting.specs.declared.moves.Moved.{Moved}
 use Rattle.nesting.specs.declared.nests.Nest.{Nest}
 use Rattle.nesting.proofs.MoveLaws.{hand_in, lies, moves_on, moves_as, moves_refused}
@@ -185,23 +185,25 @@ module _ (t table : List ℕ) (h : Here) (o : Nest) (q : ℕ) (a : EscapesAt (le
       ap (λ (y : List Level). run (view_of table) h.left (innermost y).rest frames (hand_at h.hand h.next.0)) a.is
       ∙ run_escapes (view_of table) (hand_at h.hand h.next.0) h.place (rest_at (levels_at t) q) frames h.left
 
-  pub escape_none : {r : Moved} → h.left ≡ 0 → r ≡ over_at 9 h.place h o → Moves t table (comes t table h o) h.left (weight h o) r
+  pub escape_none : {r : Moved} → h.left ≡ 0 → r ≡ refused_at StepLimit h.place h o → Moves t table (comes t table h o) h.left (weight h o) r
   escape_none z e = moves_refused t table e (escapes ∙ begin_no h.place h.left _ z) (omega arith)
 
-  module _ (z : h.left ≡ 0 → ⊥) {x : Here} (w : x ≡ here_at q (h.left - 1) h.hand h.next) where
+  module _ (z : h.left ≡ 0 → ⊥) where
+    abbrev x : Here
+    x = here_at q (h.left - 1) h.hand h.next
+
     pub escape_leaves : {r : Moved} → h.hand.count ≤ h.next.0
         → Moves t table (leaving (view_of table) frames (hand_at x.hand) x.left x.next.0) x.left (weight x o + 1) r → Moves t table (comes t table h o) h.left (weight h o) r
     escape_leaves {r} n m =
-        moves_as t table (escapes ∙ begin_yes h.place h.left _ z ∙ choose_yes _ _ (le-leb h.hand.count h.next.0 n)) (omega arith) (omega arith)
-        (subst (λ (k : Here). Moves t table (leaving (view_of table) frames (hand_at k.hand) k.left k.next.0) k.left (weight k o + 1) r) w m)
+        moves_as t table (escapes ∙ begin_yes h.place h.left _ z ∙ choose_yes _ _ (le-leb h.hand.count h.next.0 n)) (omega arith) (omega arith) m
 
     pub escape_sound : Sound (length t) table h o → q ≤ length t → Sound (length t) table x o
-    escape_sound s l = subst (λ (k : Here). Sound (length t) table k o) (sym w) (steps_on q (h.left - 1) h.next s l (omega arith) s.hand)
+    escape_sound s l = steps_on q (h.left - 1) h.next s l (omega arith) s.hand
 
-    pub escape_stays : {r : Moved} → h.next.0 < h.hand.count → Sound (length t) table h o → q ≤ length t → r ≡ record { how = MovesOn; here = x; nest = o }
+    pub escape_stays : {r : Moved} → h.next.0 < h.hand.count → Sound (length t) table h o → q ≤ length t → r ≡ on_at x o
         → Moves t table (comes t table h o) h.left (weight h o) r
     escape_stays {r} n s l e =
-        moves_on t table {h = here_at q (h.left - 1) h.hand h.next} (e ∙ ap (λ (k : Here). record { how = MovesOn; here = k; nest = o }) w)
+        moves_on t table {h = x} e
         (escapes ∙ begin_yes h.place h.left _ z ∙ choose_no _ _ (lt-leb h.hand.count h.next.0 n))
         (omega arith) (steps_on q (h.left - 1) h.next s l (omega arith) s.hand) (omega arith)
 
@@ -220,9 +222,9 @@ is_on_lem (Over code p) q = absurd (false_true q)
 is_on_lem Full q = absurd (false_true q)
 
 pub going_on : {t table : List ℕ} {x : Told} {left heavy from : ℕ} {b₀ : List ℕ} {h : Here} {o : Nest} {given at : ℕ} {b : List ℕ} → Going t table x left heavy from b₀ h o given at b → {e : List ℕ} {r : Step}
-    → Advances t table (to_give given (comes t table h o)) h.left (weight h o) at b e r → is_on r.reach ≡ true → Going t table x left heavy from b₀ r.here r.nest r.given r.at e
+    → Advances t table (to_give given (comes t table h o)) h.left (weight h o) at b e r → is_on r.put.reach ≡ true → Going t table x left heavy from b₀ r.put.progress.here r.nest r.put.progress.given r.put.progress.at e
 going_on {t} {table} {x} {left} {heavy} {from} {b₀} {h} {o} {given} {at} {b} g {e} {r} v k =
-    let z = is_on_lem r.reach k in
+    let z = is_on_lem r.put.reach k in
     record {
       ends = λ e' r' w. g.ends e' r' (advances_join t table _ h.left (weight h o) at b e v z w);
       standing = record { accepted = g.standing.accepted; sound = v.sound (ap goes_on z); room = omega (arith, v.written.most, v.written.size) };

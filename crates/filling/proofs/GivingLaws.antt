@@ -18,7 +18,7 @@ use Rattle.actions.proofs.Buffer.{Put as Placed, lent_between, put_between, lent
 use Rattle.nesting.specs.declared.moves.Here.{Here}
 use Rattle.filling.specs.declared.giving.Reach.TheVariants.{Full}
 use Rattle.filling.specs.declared.giving.Put.{Put}
-use Rattle.filling.specs.Filling.{no_rest, put_on, Given, whole, cut, quoted}
+use Rattle.filling.specs.Filling.{put_on, put_full, Given, whole, cut, quoted}
 
 -- a piece is short, so that no sum with its length is too large
 pub piece_small : (t : List ℕ) (p : Piece) → Good t p → length (bytes_of t p) ≤ 262144
@@ -95,14 +95,14 @@ module _ (w : List ℕ) (before after : Here) (given at : ℕ) (b table : List �
       subst (Given w before after given at b e table) (sym k) (whole (rw none) u)
 
   -- it has not
-  pub given_cut : (y : List ℕ) (rest : QuoteRest) → at ≤ length b → given + (length b - at) < length w → rest ≡ no_rest
+  pub given_cut : {r : Put} (y : List ℕ) → at ≤ length b → given + (length b - at) < length w → r ≡ put_full before (given + (length b - at)) (length b)
       → y ≡ take (length (take (length b - at) (drop at b))) (drop given w)
-      → Given w before after given at b (put_mid at (length b - at) b y) table
-      (record { reach = Full; here = before; given = given + (length b - at); rest = rest; at = length b })
-  given_cut y rest h k q e =
+      → Given w before after given at b (put_mid at (length b - at) b y) table r
+  given_cut {r} y h k q e =
       let n = length b - at in
       let u = appends_cut b at (drop given w) y h (rw (length-drop given w) (omega arith)) e in
-      cut (rw q) k (rw (drop-drop n given w) at u)
+      subst (Given w before after given at b (put_mid at (length b - at) b y) table) (sym q)
+      (cut refl k (rw (drop-drop n given w) at u))
 
 -- a string in quotes lies in the table
 pub quote_in : (t : List ℕ) (p : Piece) {start end : ℕ} {q : QuoteRest} → Good t p → p.body.content ≡ Quoted start end
@@ -116,7 +116,7 @@ quote_in t p {start} {end} {q} g e k =
 pub given_quoted : (t : List ℕ) (p : Piece) {start end : ℕ} {q : QuoteRest} (before after : Here) (at : ℕ) {b e : List ℕ} {v : RestWritten}
     → p.body.content ≡ Quoted start end → q ≡ quote_rest 1 p.before start end p.behind p.pad → at ≤ length b
     → length b - at < length (bytes_of t p) → WritesRest t q at b e v
-    → Given (bytes_of t p) before after 0 at b e t (record { reach = Full; here = after; given = 0; rest = v.rest; at = v.at })
+    → Given (bytes_of t p) before after 0 at b e t (record { reach = Full; progress = record { here = after; given = 0; at = v.at }; rest = v.rest })
 given_quoted t p {start} {end} {q} before after at {b} {e} {v} s k h l u =
     let w = bytes_of t p in
     let is : w ≡ rest_of t q = rest_piece t p start end s ∙ ap (rest_of t) (sym k) in

@@ -21,14 +21,17 @@ use Rattle.rules.specs.declared.Directive.{Directive}
 use Rattle.rules.specs.declared.Form.{Form}
 use Rattle.rules.specs.declared.Item.{Item}
 use Rattle.rules.specs.declared.Item.TheVariants.{Literal, Written}
+use Rattle.rules.specs.Refusals.{code_of}
 use Rattle.rules.specs.declared.Settings.{Settings}
+use Rattle.rules.specs.declared.refusal.Refusal.{Refusal}
 use Rattle.rules.specs.declared.Argument.{Argument}
 use Rattle.rules.specs.contracts.Code as code_declared
 use Rattle.rules.proofs.Tests.{not_both_ways}
 use Rattle.pieces.specs.Rest.{Appends}
 use Rattle.pieces.proofs.Rests.{append_none, append_one}
 use Rattle.parameters.specs.Settling.{InHand, hand_at}
-use Rattle.actions.specs.declared.planning.Planned.TheVariants.{Shows, Wrong}
+use Rattle.std.specs.Prelude.{Ok, Err}
+use Rattle.actions.specs.declared.planning.Plan.{Plan}
 use Rattle.actions.specs.declared.state.Ran.{Ran}
 use Rattle.actions.specs.declared.state.Spot.{Spot}
 use Rattle.actions.specs.declared.state.Stop.{Stop}
@@ -38,7 +41,7 @@ use Rattle.actions.specs.Ran.{onward}
 use Rattle.actions.specs.Acting.{Performed}
 use Rattle.actions.proofs.ActLaws.{performed_stays}
 use Rattle.actions.specs.contracts.state.Stop as stop_declared
-use Rattle.blocks.specs.Parts.{ends_sequence, opens_block}
+use Rattle.blocks.specs.Parts.{ends_sequence}
 use Rattle.running.specs.Runs.{ActsAt, rest_at}
 use Rattle.nesting.specs.Moves.{here_at, told, comes, Sound, weight}
 use Rattle.nesting.specs.Nest.{frames_of, hand_lies}
@@ -46,8 +49,7 @@ use Rattle.nesting.specs.declared.moves.Here.{Here}
 use Rattle.nesting.specs.declared.nests.Nest.{Nest}
 use Rattle.nesting.proofs.MoveLaws.{told_refused, lies}
 use Rattle.filling.specs.declared.giving.Put.{Put}
-use Rattle.filling.specs.declared.giving.Reach.TheVariants.{Full}
-use Rattle.filling.specs.Filling.{no_rest, put_on, put_over, Given, whole, cut, to_give, Advances, step_of, Puts}
+use Rattle.filling.specs.Filling.{put_on, put_over, put_full, Given, whole, cut, to_give, Advances, step_of, Puts}
 use Rattle.filling.specs.declared.steps.Step.{Step}
 use Rattle.filling.proofs.JumpLaws.{silent_jump, silent_is}
 use Rattle.filling.proofs.StepLaws.{advances_given, advances_over, advances_on, acts_on, steps_on}
@@ -57,15 +59,14 @@ module _ (t table : List ℕ) (x : Item) (q : ℕ) (h : Here) (given at : ℕ) (
   does on = item_acts (view_of table) h.place (h.left - 1) x (hand_at h.hand h.next.0) on
 
   -- it puts a piece w, and the next argument is i
-  pub puts_piece : {b e : List ℕ} {r : Put} {after : Here} (w : List ℕ) (i : ArgumentPosition) → ((on : ℕ → Flow) → does on ≡ put h.place (h.left - 1) w (on i.0))
+  pub puts_piece : {b e : List ℕ} {r : Put} (w : List ℕ) (i : ArgumentPosition) → ((on : ℕ → Flow) → does on ≡ put h.place (h.left - 1) w (on i.0))
       → (hand_lies table h.hand h.next.0 ≡ true → hand_lies table h.hand i.0 ≡ true)
-      → after ≡ here_at q (h.left - 1) h.hand i → Given w h after given at b e table r → Puts t table x q h given at b e r
-  puts_piece {b} {e} {r} {after} w i p l y g =
-      let g₂ : Given w h (here_at q (h.left - 1) h.hand i) given at b e table r = subst (λ (k : Here). Given w h k given at b e table r) y g in
+      → Given w h (here_at q (h.left - 1) h.hand i) given at b e table r → Puts t table x q h given at b e r
+  puts_piece {b} {e} {r} w i p l g =
       record {
         is = λ o s a m.
             advances_given t table h (here_at q (h.left - 1) h.hand i) o h.place (h.left - 1) w given at b e
-            (acts_on t table h o x q a z ∙ p _) s (steps_on q (h.left - 1) i s m (omega arith) (l s.hand)) (omega (arith, z)) g₂;
+            (acts_on t table h o x q a z ∙ p _) s (steps_on q (h.left - 1) i s m (omega arith) (l s.hand)) (omega (arith, z)) g;
       }
 
   -- it is refused
@@ -83,9 +84,12 @@ literal_acts : (v : View) (p m byte : ℕ) (c : Context) (on : ℕ → Flow) →
 unfolding act_of
 literal_acts v p m byte c on = refl
 
-module _ (byte : ℕ) (h : Here) (given at : ℕ) (z : h.left ≡ 0 → ⊥) {after : Here} (y : after ≡ here_at (h.place + 1) (h.left - 1) h.hand h.next) where
+module _ (byte : ℕ) (h : Here) (given at : ℕ) (z : h.left ≡ 0 → ⊥) where
+  abbrev after : Here
+  after = here_at (h.place + 1) (h.left - 1) h.hand h.next
+
   byte_puts : (t table : List ℕ) {b e : List ℕ} {r : Put} → Given (byte ∷ []) h after given at b e table r → Puts t table (Literal byte) (h.place + 1) h given at b e r
-  byte_puts t table g = puts_piece t table (Literal byte) (h.place + 1) h given at z (byte ∷ []) h.next (λ on. literal_acts _ _ _ byte _ on) (λ k. k) y g
+  byte_puts t table g = puts_piece t table (Literal byte) (h.place + 1) h given at z (byte ∷ []) h.next (λ on. literal_acts _ _ _ byte _ on) (λ k. k) g
 
   gone : (n : ℕ) → 0 < n → drop n (byte ∷ []) ≡ []
   gone n k = drop_of_length-le (byte ∷ []) {i = n} (omega (arith, k))
@@ -96,13 +100,13 @@ module _ (byte : ℕ) (h : Here) (given at : ℕ) (z : h.left ≡ 0 → ⊥) {af
       (subst (λ (k : Put). Given (byte ∷ []) h after given at b b table k) (sym e)
       (whole refl (subst (λ (k : List ℕ). Appends k at b b at []) (sym (gone given g)) (append_none [] at b l))))
 
-  pub byte_full : (t table : List ℕ) {b : List ℕ} {r : Put} → given ≤ 0 → at ≤ length b → length b ≤ at → r ≡ record { reach = Full; here = h; given = 0; rest = no_rest; at = at }
+  pub byte_full : (t table : List ℕ) {b : List ℕ} {r : Put} → given ≤ 0 → at ≤ length b → length b ≤ at → r ≡ put_full h 0 at
       → Puts t table (Literal byte) (h.place + 1) h given at b b r
   byte_full t table {b} {r} g l f e =
       let n : at ≡ length b = omega arith in
       let k : given ≡ 0 = omega arith in
       byte_puts t table
-      (subst (λ (x : Put). Given (byte ∷ []) h after given at b b table x) (sym (e ∙ ap (λ (i : ℕ). record { reach = Full; here = h; given = 0; rest = no_rest; at = i }) n))
+      (subst (λ (x : Put). Given (byte ∷ []) h after given at b b table x) (sym (e ∙ ap (put_full h 0) n))
       (cut refl (omega arith)
       (subst (λ (i : ℕ). Appends (drop i (byte ∷ [])) at b b (length b) (byte ∷ [])) (sym k) (subst (λ (i : ℕ). Appends (byte ∷ []) at b b i (byte ∷ [])) n (append_none (byte ∷ []) at b l)))))
 
@@ -119,17 +123,17 @@ module _ (byte : ℕ) (h : Here) (given at : ℕ) (z : h.left ≡ 0 → ⊥) {af
 
 -- a directive of a form
 module _ (t table : List ℕ) (form : Form) (d : Directive) (h : Here) (given at : ℕ) (z : h.left ≡ 0 → ⊥) where
-  pub form_refused : {b : List ℕ} {r : Put} {code : ℕ} {after : Here} → Plans table form d h.hand h.next.0 (Wrong code) → after ≡ here_at d.after (h.left - 1) h.hand h.next
-      → r ≡ put_over code h.place after at → at ≤ length b → Puts t table (Written d) d.after h given at b b r
-  form_refused {code = code} p y e l =
-      puts_refused t table (Written d) d.after h given at z code (λ on. p.as_defined h.place (h.left - 1) on) (ap (λ (k : Here). k.left) y) e l
+  pub form_refused : {b : List ℕ} {r : Put} {refusal : Refusal} → Plans table form d h.hand h.next.0 (Err refusal)
+      → r ≡ put_over (code_of refusal) h.place (here_at d.after (h.left - 1) h.hand h.next) at → at ≤ length b → Puts t table (Written d) d.after h given at b b r
+  form_refused {refusal = refusal} p e l =
+      puts_refused t table (Written d) d.after h given at z (code_of refusal) (λ on. p.as_defined h.place (h.left - 1) on) refl e l
 
-  pub form_shows : {b e : List ℕ} {r : Put} {s : Settings} {a : Argument} {i : ArgumentPosition} {after : Here} {w : List ℕ} → InHand table h.hand → Plans table form d h.hand h.next.0 (Shows s a i)
-      → w ≡ text_of form d.colon d.atsign s (meant table a) → after ≡ here_at d.after (h.left - 1) h.hand i → Given w h after given at b e table r → Puts t table (Written d) d.after h given at b e r
-  form_shows {s = s} {a = a} {i = i} {w = w} n p q y g =
-      puts_piece t table (Written d) d.after h given at z w i
-      (λ on. p.as_defined h.place (h.left - 1) on ∙ ap (λ (x : List ℕ). put h.place (h.left - 1) x (on i.0)) (sym q))
-      (λ _. lies table h.hand i.0 n p.reaches.1.1) y g
+  pub form_shows : {b e : List ℕ} {r : Put} {x : Plan} {w : List ℕ} → InHand table h.hand → Plans table form d h.hand h.next.0 (Ok x)
+      → w ≡ text_of form d.colon d.atsign x.settings (meant table x.argument) → Given w h (here_at d.after (h.left - 1) h.hand x.next) given at b e table r → Puts t table (Written d) d.after h given at b e r
+  form_shows {x = x} {w = w} n p q g =
+      puts_piece t table (Written d) d.after h given at z w x.next
+      (λ on. p.as_defined h.place (h.left - 1) on ∙ ap (λ (y : List ℕ). put h.place (h.left - 1) y (on x.next.0)) (sym q))
+      (λ _. lies table h.hand x.next.0 n p.reaches.1.1) g
 
 -- a jump
 module _ (t table : List ℕ) (d : Directive) (h : Here) (given at : ℕ) (z : h.left ≡ 0 → ⊥) (c : d.code ≡ Jump) (n : InHand table h.hand) where
@@ -180,14 +184,14 @@ puts_step {t} {table} {x} {q} {h} {o} {given} {at} {b} {e} p k s a l =
     subst (Advances t table (to_give given (comes t table h o)) h.left (weight h o) at b e) (sym k) (p.is o s a l)
 
 -- which arms there are
-pub escape_code : (keys : List ℕ) (c : Code) → keys ≡ 2 ∷ 3 ∷ 4 ∷ 5 ∷ 6 ∷ [] → opens_block c ≡ false → ends_sequence c ≡ false → OneOf keys (tag_of code_declared.the_type c) → c ≡ Escape
-escape_code keys (Writes f) q o e w = absurd (miss (2 ∷ 3 ∷ 4 ∷ 5 ∷ 6 ∷ []) 0 tt (subst (λ (k : List ℕ). OneOf k 0) q w))
-escape_code keys Jump q o e w = absurd (miss (2 ∷ 3 ∷ 4 ∷ 5 ∷ 6 ∷ []) 1 tt (subst (λ (k : List ℕ). OneOf k 1) q w))
-escape_code keys Escape q o e w = refl
-escape_code keys (Opens b) q o e w = absurd (not_both_ways refl o)
-escape_code keys Separator q o e w = absurd (not_both_ways refl e)
-escape_code keys (Closes b) q o e w = absurd (not_both_ways refl e)
-escape_code keys Unknown q o e w = absurd (not_both_ways refl e)
+pub escape_code : (keys : List ℕ) (c : Code) → keys ≡ 2 ∷ 4 ∷ 5 ∷ 6 ∷ [] → ends_sequence c ≡ false → OneOf keys (tag_of code_declared.the_type c) → c ≡ Escape
+escape_code keys (Writes f) q e w = absurd (miss (2 ∷ 4 ∷ 5 ∷ 6 ∷ []) 0 tt (subst (λ (k : List ℕ). OneOf k 0) q w))
+escape_code keys Jump q e w = absurd (miss (2 ∷ 4 ∷ 5 ∷ 6 ∷ []) 1 tt (subst (λ (k : List ℕ). OneOf k 1) q w))
+escape_code keys Escape q e w = refl
+escape_code keys (Opens b) q e w = absurd (miss (2 ∷ 4 ∷ 5 ∷ 6 ∷ []) 3 tt (subst (λ (k : List ℕ). OneOf k 3) q w))
+escape_code keys Separator q e w = absurd (not_both_ways refl e)
+escape_code keys (Closes b) q e w = absurd (not_both_ways refl e)
+escape_code keys Unknown q e w = absurd (not_both_ways refl e)
 
 pub ended_stop : (keys : List ℕ) (x : Stop) → keys ≡ 0 ∷ 1 ∷ [] → (x ≡ Escaped → ⊥) → OneOf keys (tag_of stop_declared.the_type x) → x ≡ Ended
 ended_stop keys Ended q n o = refl

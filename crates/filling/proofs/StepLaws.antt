@@ -3,6 +3,7 @@ use Prim.Native.Nat.{ℕ, ◌+◌, ◌-◌, ◌<◌, ◌≤◌}
 use mathlib.Core.Path.{◌≡◌, refl, sym, ap, subst, ◌∙◌}
 use mathlib.Core.Bool.{true, false}
 use mathlib.Core.List.{List, [], ◌++◌}
+use Rattle.std.specs.Prelude.{Option, None, Some, Result, Ok, Err, ⊤}
 use native.Mathlib.Decide.{dec_lt}
 use native.Mathlib.Omega.{arith}
 use lib.ListN.{length, take, drop, length-append, length-drop, drop_of_length-le}
@@ -12,7 +13,9 @@ use Rattle.rules.specs.Table.{view_of}
 use Rattle.rules.specs.Text.{Level, innermost, levels_at}
 use Rattle.rules.specs.Run.{begin, item_acts, run}
 use Rattle.rules.specs.declared.ArgumentPosition.{ArgumentPosition}
+use Rattle.rules.specs.Refusals.{code_of}
 use Rattle.rules.specs.declared.Item.{Item}
+use Rattle.rules.specs.declared.refusal.Fault.{Fault}
 use Rattle.rules.proofs.RunLaws.{begin_yes, begin_no, run_acts}
 use Rattle.pieces.specs.Rest.{rest_of, RestIn, Appends}
 use Rattle.pieces.specs.declared.resuming.QuoteRest.{QuoteRest}
@@ -23,8 +26,6 @@ use Rattle.nesting.specs.Moves.{here_at, Told, told, told_over, comes, Sound, we
 use Rattle.nesting.specs.Moves.{told_by as reached_by}
 use Rattle.nesting.specs.Nest.{frames_of, hand_lies}
 use Rattle.nesting.specs.declared.moves.Here.{Here}
-use Rattle.nesting.specs.declared.moves.How.{How}
-use Rattle.nesting.specs.declared.moves.How.TheVariants.{On as MovesOn, Over as MovesOver}
 use Rattle.nesting.specs.declared.moves.Moved.{Moved}
 use Rattle.nesting.specs.declared.nests.Nest.{Nest}
 use Rattle.nesting.proofs.MoveLaws.{told_refused}
@@ -32,8 +33,8 @@ use Rattle.filling.specs.declared.giving.Reach.{Reach}
 use Rattle.filling.specs.declared.giving.Reach.TheVariants.{On, Over, Full}
 use Rattle.filling.specs.declared.giving.Put.{Put}
 use Rattle.filling.specs.declared.steps.Step.{Step}
-use Rattle.filling.specs.Filling.{no_rest, put_on, put_over, Given, whole, cut, quoted, to_give, told_by, over_by, remaining, Advances, step_of, Puts}
-use Rattle.filling.specs.Steps.{reach_of, moved_step}
+use Rattle.filling.specs.Filling.{no_rest, put_at, put_on, put_over, put_full, Given, whole, cut, quoted, to_give, told_by, over_by, remaining, Advances, step_of, Puts}
+use Rattle.filling.specs.Steps.{reach_of, moved_step, StepsFrom}
 
 -- how a step came is one way
 pub over_on : {code p : ℕ} → ◌≡◌ {A = Reach} (Over code p) On → ⊥
@@ -74,7 +75,7 @@ to_give_lem f g given e = ap (λ (x : Told). record { bytes = drop given x.bytes
 
 -- a run that is over
 abbrev pub over_step : ℕ → ℕ → Here → Nest → ℕ → ℕ → Step
-over_step code p h o given at = record { reach = Over code p; here = h; nest = o; given = given; rest = no_rest; at = at }
+over_step code p h o given at = step_of o (put_at (Over code p) h given at)
 
 module _ (t table : List ℕ) (f : Flow) (given left heavy at : ℕ) (b : List ℕ) where
   pub advances_over : {code p g : ℕ} {h : Here} {o : Nest} {r : Step} → r ≡ over_step code p h o g at → told f ≡ told_over code p h.left → h.left ≤ left → at ≤ length b
@@ -108,22 +109,21 @@ module _ (t table : List ℕ) (f : Flow) (given left heavy at : ℕ) (b : List �
 
   -- a move
   pub advances_moved : {m : Moved} {r : Step} → r ≡ moved_step m given at → Moves t table f left heavy m → at ≤ length b → Advances t table (to_give given f) left heavy at b b r
-  advances_moved {m} {r} q v l = by m.how refl
+  advances_moved {m} {r} q v l = by m.over refl
     where
-      step : How → Step
-      step w = record { reach = reach_of w; here = m.here; nest = m.nest; given = given; rest = no_rest; at = at }
+      step : Option (Result ⊤ Fault) → Step
+      step w = step_of m.nest (put_at (reach_of w) m.here given at)
 
-      by : (w : How) → m.how ≡ w → Advances t table (to_give given f) left heavy at b b r
-      by MovesOn z =
-          advances_on {h = m.here} {o = m.nest} {r = r} (q ∙ ap step z)
-          (v.same ∙ ap (λ (w : How). reached_by w (told (comes t table m.here m.nest)) m.here.left) z) v.steps (v.sound z) (v.falls z) l
-      by (MovesOver code p) z =
-          advances_over {code = code} {p = p} {g = given} {h = m.here} {o = m.nest} {r = r} (q ∙ ap step z)
-          (v.same ∙ ap (λ (w : How). reached_by w (told (comes t table m.here m.nest)) m.here.left) z) v.steps l
+      reached_as : Option (Result ⊤ Fault) → Told
+      reached_as w = reached_by w (told (comes t table m.here m.nest)) m.here.left
 
-pub moved_is : (m : Moved) (given at : ℕ) {reach : Reach} {rest : QuoteRest} → reach ≡ reach_of m.how → rest ≡ no_rest
-    → ◌≡◌ {A = Step} (record { reach = reach; here = m.here; nest = m.nest; given = given; rest = rest; at = at }) (moved_step m given at)
-moved_is m given at p q = rw (p, q) refl
+      by : (w : Option (Result ⊤ Fault)) → m.over ≡ w → Advances t table (to_give given f) left heavy at b b r
+      by None z =
+          advances_on {h = m.here} {o = m.nest} {r = r} (q ∙ ap step z) (v.same ∙ ap reached_as z) v.steps (v.sound z) (v.falls z) l
+      by (Some (Ok u)) z =
+          advances_over {code = 0} {p = 0} {g = given} {h = m.here} {o = m.nest} {r = r} (q ∙ ap step z) (v.same ∙ ap reached_as z) v.steps l
+      by (Some (Err x)) z =
+          advances_over {code = code_of x.refusal} {p = x.position} {g = given} {h = m.here} {o = m.nest} {r = r} (q ∙ ap step z) (v.same ∙ ap reached_as z) v.steps l
 
 -- a piece w, after which the run stands at `after`
 module _ (t table : List ℕ) (h after : Here) (o : Nest) (p m : ℕ) (w : List ℕ) (given at : ℕ) (b e : List ℕ) where
@@ -174,7 +174,7 @@ module _ (t table : List ℕ) (h after : Here) (o : Nest) (p m : ℕ) (w : List 
         ]
 
     gives_cut : (g : ℕ) → g < length w → Appends (drop given w) at b e (length b) (drop g w)
-        → Advances t table (to_give given (comes t table h o)) h.left (weight h o) at b e (step_of o (record { reach = Full; here = h; given = g; rest = no_rest; at = length b }))
+        → Advances t table (to_give given (comes t table h o)) h.left (weight h o) at b e (step_of o (put_full h g (length b)))
     gives_cut g k a =
         let z : given - length w ≡ 0 = let i = begun g k a in omega (arith, i) in
         let left : rest_of table no_rest ++ drop g (given_text (comes t table h o)) ≡ drop g w ++ rest =
@@ -191,7 +191,7 @@ module _ (t table : List ℕ) (h after : Here) (o : Nest) (p m : ℕ) (w : List 
         }
 
     gives_quoted : (q' : QuoteRest) → given ≡ 0 → RestIn table q' → 0 < length (rest_of table q') → Appends w at b e (length b) (rest_of table q')
-        → Advances t table (to_give given (comes t table h o)) h.left (weight h o) at b e (step_of o (record { reach = Full; here = after; given = 0; rest = q'; at = length b }))
+        → Advances t table (to_give given (comes t table h o)) h.left (weight h o) at b e (step_of o (record { reach = Full; progress = record { here = after; given = 0; at = length b }; rest = q' }))
     gives_quoted q' z i l a =
         record {
           written =
@@ -204,8 +204,8 @@ module _ (t table : List ℕ) (h after : Here) (o : Nest) (p m : ℕ) (w : List 
         }
 
     pub advances_given : {r : Put} → Given w h after given at b e table r → Advances t table (to_give given (comes t table h o)) h.left (weight h o) at b e (step_of o r)
-    advances_given {r} (whole z a) = subst (λ (x : Put). Advances t table (to_give given (comes t table h o)) h.left (weight h o) at b e (step_of o x)) (sym z) (gives_whole r.at a)
-    advances_given {r} (cut z k a) = subst (λ (x : Put). Advances t table (to_give given (comes t table h o)) h.left (weight h o) at b e (step_of o x)) (sym z) (gives_cut r.given k a)
+    advances_given {r} (whole z a) = subst (λ (x : Put). Advances t table (to_give given (comes t table h o)) h.left (weight h o) at b e (step_of o x)) (sym z) (gives_whole r.progress.at a)
+    advances_given {r} (cut z k a) = subst (λ (x : Put). Advances t table (to_give given (comes t table h o)) h.left (weight h o) at b e (step_of o x)) (sym z) (gives_cut r.progress.given k a)
     advances_given {r} (quoted y z i l a) = subst (λ (x : Put). Advances t table (to_give given (comes t table h o)) h.left (weight h o) at b e (step_of o x)) (sym z) (gives_quoted r.rest y i l a)
 
 -- an item that acts
@@ -239,13 +239,14 @@ steps_on place left next s p l y = record { short = s.short; depth = s.depth; le
 
 -- one step after another
 module _ (t table : List ℕ) (x : Told) (left heavy at : ℕ) (b e : List ℕ) {r : Step} where
-  pub advances_join : Advances t table x left heavy at b e r → r.reach ≡ On → {e' : List ℕ} {r' : Step}
-      → Advances t table (to_give r.given (comes t table r.here r.nest)) r.here.left (weight r.here r.nest) r.at e e' r' → Advances t table x left heavy at b e' r'
+  pub advances_join : Advances t table x left heavy at b e r → r.put.reach ≡ On → {e' : List ℕ} {r' : Step}
+      → StepsFrom t table r.put.progress r.nest e e' r' → Advances t table x left heavy at b e' r'
   advances_join v z {e'} {r'} u =
-      let y : remaining t table r ≡ to_give r.given (comes t table r.here r.nest) =
-      ap (λ (k : Reach). told_by k (rest_of table r.rest) (to_give r.given (comes t table r.here r.nest)) (over_by k r.here.left)) z in
+      let p = r.put.progress in
+      let y : remaining t table r ≡ to_give p.given (comes t table p.here r.nest) =
+      ap (λ (k : Reach). told_by k (rest_of table r.put.rest) (to_give p.given (comes t table p.here r.nest)) (over_by k p.here.left)) z in
       record {
-        written = append_more v.written (subst (λ (k : Told). Appends k.bytes r.at e e' r'.at (remaining t table r').bytes) (sym y) u.written);
+        written = append_more v.written (subst (λ (k : Told). Appends k.bytes p.at e e' r'.put.progress.at (remaining t table r').bytes) (sym y) u.written);
         finish = v.finish ∙ ap (λ (k : Told). k.finish) y ∙ u.finish;
         steps = omega (arith, v.steps, u.steps);
         sound = u.sound;

@@ -18,22 +18,29 @@ use Rattle.filling.specs.declared.steps.Step.{Step}
 abbrev pub no_rest : QuoteRest
 no_rest = record { stage = 0; before = 0; start = 0; end = 0; behind = 0; pad = 0 }
 
+-- how a step leaves a run where nothing is left of a string: it goes on, is over, or has no room
+abbrev pub put_at : Reach → Here → ℕ → ℕ → Put
+put_at reach h given at = record { reach = reach; progress = record { here = h; given = given; at = at }; rest = no_rest }
+
 abbrev pub put_on : Here → ℕ → ℕ → Put
-put_on h given at = record { reach = On; here = h; given = given; rest = no_rest; at = at }
+put_on h given at = put_at On h given at
 
 abbrev pub put_over : ℕ → ℕ → Here → ℕ → Put
-put_over code p h at = record { reach = Over code p; here = h; given = 0; rest = no_rest; at = at }
+put_over code p h at = put_at (Over code p) h 0 at
+
+abbrev pub put_full : Here → ℕ → ℕ → Put
+put_full h given at = put_at Full h given at
 
 -- What giving a piece w promises, of which so many bytes are given already, where the run stands at `before` and, once all
 -- of it is given, at `after`
 pub data Given (w : List ℕ) (before after : Here) (given at : ℕ) (b e table : List ℕ) (r : Put) : Type 0 where
   -- all of it is given
-  whole : r ≡ put_on after (given - length w) r.at → Appends (drop given w) at b e r.at [] → Given w before after given at b e table r
+  whole : r ≡ put_on after (given - length w) r.progress.at → Appends (drop given w) at b e r.progress.at [] → Given w before after given at b e table r
   -- a byte of it has no room: the run stays, and remembers how many are given
-  cut : r ≡ record { reach = Full; here = before; given = r.given; rest = no_rest; at = length b } → r.given < length w
-      → Appends (drop given w) at b e (length b) (drop r.given w) → Given w before after given at b e table r
+  cut : r ≡ put_full before r.progress.given (length b) → r.progress.given < length w
+      → Appends (drop given w) at b e (length b) (drop r.progress.given w) → Given w before after given at b e table r
   -- or it is behind the piece, with what is left of a string in quotes
-  quoted : given ≡ 0 → r ≡ record { reach = Full; here = after; given = 0; rest = r.rest; at = length b } → RestIn table r.rest → 0 < length (rest_of table r.rest)
+  quoted : given ≡ 0 → r ≡ record { reach = Full; progress = record { here = after; given = 0; at = length b }; rest = r.rest } → RestIn table r.rest → 0 < length (rest_of table r.rest)
       → Appends w at b e (length b) (rest_of table r.rest) → Given w before after given at b e table r
 
 -- what is to come of a run, of which so many bytes are given already
@@ -53,7 +60,9 @@ over_by Full left = told_over 0 0 left
 
 abbrev pub remaining : List ℕ → List ℕ → Step → Told
 remaining t table r =
-    told_by r.reach (rest_of table r.rest) (to_give r.given (comes t table r.here r.nest)) (over_by r.reach r.here.left)
+    told_by r.put.reach (rest_of table r.put.rest)
+    (to_give r.put.progress.given (comes t table r.put.progress.here r.nest))
+    (over_by r.put.reach r.put.progress.here.left)
 
 -- the run is not over
 abbrev pub goes_on : Reach → Bool
@@ -64,16 +73,16 @@ goes_on Full = true
 -- r is a step from where x is to come, with so many steps left and so much weight; the window, in which so much is
 -- written, was b and is e
 pub record Advances (t table : List ℕ) (x : Told) (left heavy at : ℕ) (b e : List ℕ) (r : Step) : Type 0 where
-  pub written : Appends x.bytes at b e r.at (remaining t table r).bytes
+  pub written : Appends x.bytes at b e r.put.progress.at (remaining t table r).bytes
   pub finish : x.finish ≡ (remaining t table r).finish
-  pub steps : r.here.left ≤ left
-  pub sound : goes_on r.reach ≡ true → Sound (length t) table r.here r.nest
-  pub falls : r.reach ≡ On → weight r.here r.nest < heavy
+  pub steps : r.put.progress.here.left ≤ left
+  pub sound : goes_on r.put.reach ≡ true → Sound (length t) table r.put.progress.here r.nest
+  pub falls : r.put.reach ≡ On → weight r.put.progress.here r.nest < heavy
   -- "where the next byte has no room"
-  pub full : r.reach ≡ Full → (r.at ≡ length b) × ((0 < length (remaining t table r).bytes) × RestIn table r.rest)
+  pub full : r.put.reach ≡ Full → (r.put.progress.at ≡ length b) × ((0 < length (remaining t table r).bytes) × RestIn table r.put.rest)
 
 abbrev pub step_of : Nest → Put → Step
-step_of o r = record { reach = r.reach; here = r.here; nest = o; given = r.given; rest = r.rest; at = r.at }
+step_of o r = record { put = r; nest = o }
 
 -- what the item x does at the place where the run stands, after which the text goes on at q: whatever blocks are open
 pub record Puts (t table : List ℕ) (x : Item) (q : ℕ) (h : Here) (given at : ℕ) (b e : List ℕ) (r : Put) : Type 0 where

@@ -1,31 +1,33 @@
 -- What the parts of a step answer. Assumes nothing: these are definitions.
-use Rattle.std.specs.Prelude.{ℕ, ◌+◌, ◌≤◌, ◌≡◌, Bool, true, false, cond, List, eqb, length}
+use Rattle.std.specs.Prelude.{ℕ, ◌+◌, ◌≤◌, ◌≡◌, Bool, true, false, cond, List, eqb, Option, None, Some, Result, Ok, Err, ⊤, length}
+use Rattle.rules.specs.Refusals.{code_of}
 use Rattle.rules.specs.Table.{view_of, table_verdict}
 use Rattle.rules.specs.Text.{levels_at}
-use Rattle.rules.specs.declared.Verdict.TheVariants.{Accepted}
+use Rattle.rules.specs.declared.refusal.Fault.{Fault}
+use Rattle.rules.specs.Verdict.{Accepted}
 use Rattle.parameters.specs.Settling.{hand_at}
 use Rattle.actions.specs.declared.state.Ran.{Ran}
 use Rattle.actions.specs.declared.state.Stop.{Stop}
 use Rattle.actions.specs.declared.state.Stop.TheVariants.{Ended, Escaped, Refused}
 use Rattle.actions.specs.Ran.{ended_ran}
 use Rattle.running.specs.Runs.{Strides}
-use Rattle.nesting.specs.Moves.{Sound}
+use Rattle.nesting.specs.Moves.{comes, Sound, weight}
 use Rattle.nesting.specs.declared.moves.Here.{Here}
-use Rattle.nesting.specs.declared.moves.How.{How}
-use Rattle.nesting.specs.declared.moves.How.TheVariants.{On as MovesOn, Over as MovesOver}
 use Rattle.nesting.specs.declared.moves.Moved.{Moved}
 use Rattle.nesting.specs.declared.nests.Nest.{Nest}
+use Rattle.filling.specs.declared.giving.Progress.{Progress}
 use Rattle.filling.specs.declared.giving.Reach.{Reach}
 use Rattle.filling.specs.declared.giving.Reach.TheVariants.{On, Over, Full}
 use Rattle.filling.specs.declared.steps.Step.{Step}
-use Rattle.filling.specs.Filling.{no_rest}
+use Rattle.filling.specs.Filling.{put_at, to_give, Advances, step_of}
 
-abbrev pub reach_of : How → Reach
-reach_of MovesOn = On
-reach_of (MovesOver code p) = Over code p
+abbrev pub reach_of : Option (Result ⊤ Fault) → Reach
+reach_of None = On
+reach_of (Some (Ok u)) = Over 0 0
+reach_of (Some (Err f)) = Over (code_of f.refusal) f.position
 
 abbrev pub moved_step : Moved → ℕ → ℕ → Step
-moved_step r given at = record { reach = reach_of r.how; here = r.here; nest = r.nest; given = given; rest = no_rest; at = at }
+moved_step r given at = step_of r.nest (put_at (reach_of r.over) r.here given at)
 
 abbrev pub is_on : Reach → Bool
 is_on On = true
@@ -46,6 +48,11 @@ pub record Standing (t table : List ℕ) (h : Here) (o : Nest) (at : ℕ) (b : L
   pub accepted : table_verdict table ≡ Accepted
   pub sound : Sound (length t) table h o
   pub room : at ≤ length b
+
+-- r is a step from where the run stands
+abbrev pub StepsFrom : List ℕ → List ℕ → Progress → Nest → List ℕ → List ℕ → Step → Type 0
+StepsFrom t table p o b e r =
+    Advances t table (to_give p.given (comes t table p.here o)) p.here.left (weight p.here o) p.at b e r
 
 -- literal bytes and short directives from where the run stands, none where bytes are given already: refused for another
 -- reason than room, or up to what is not short or has no room

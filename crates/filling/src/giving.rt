@@ -1,23 +1,24 @@
 // A piece that goes into the window, or as much of it as there is room for.
 ghost use Rattle.std.specs.Prelude.{◌≡◌, List, ℕ, ◌+◌, ◌-◌, ◌≤◌, ◌<◌, length};
 ghost use Rattle.rules.specs.Directive.{FormRight};
+ghost use Rattle.rules.specs.Refusals.{code_of};
 ghost use Rattle.rules.specs.declared.Item.TheVariants.{Literal, Written};
 ghost use Rattle.pieces.specs.Bytes.{Good, bytes_of};
 ghost use Rattle.pieces.specs.declared.Content.TheVariants.{Quoted};
 ghost use Rattle.parameters.specs.Settling.{InHand};
-ghost use Rattle.nesting.specs.Moves.{here_at};
-ghost use Rattle.filling.specs.Filling.{no_rest, put_on, put_over, Puts, Given};
+ghost use Rattle.filling.specs.Filling.{put_at, put_on, put_over, put_full, Puts, Given};
 
-use actions::planning::{Planned, plan_form};
+use actions::planning::{Plan, plan_form};
 use making::making::make_piece;
 use nesting::moves::Here;
-use parameters::Hand;
 use pieces::resuming::{QuoteRest, quote_rest, write_rest};
 use pieces::writing::{piece_length, write_part, write_whole};
 use pieces::{Content, Piece};
-use rules::{ArgumentPosition, Code, Directive, Form};
+use rules::refusal::Refusal;
+use rules::{Code, Directive, Form};
 
-// How far a step came: the run goes on, it is over with this code and position, or the next byte has no room.
+// How far a step came: the run goes on, it is over with this code and position, or the next byte has no room. The code
+// is a number as in `actions::Stop`, which has some of them, and 0 at the end of the text.
 #[derive(Clone, Copy)]
 pub enum Reach {
     On,
@@ -25,92 +26,80 @@ pub enum Reach {
     Full,
 }
 
-// Where the run stands after a step: the bytes of what comes from there that are given already, what is left of a
-// string in quotes that comes before it, and the end of what is written.
+// How far a run has come: where it stands, the bytes of what comes from there that are given already, and the end of what
+// is written.
 #[derive(Clone, Copy)]
-pub struct Put {
-    pub reach: Reach,
+pub struct Progress {
     pub here: Here,
     pub given: usize,
-    pub rest: QuoteRest,
     pub at: usize,
 }
 
+// How a step leaves a run, and what is left of a string in quotes, which comes before all else.
+#[derive(Clone, Copy)]
+pub struct Put {
+    pub reach: Reach,
+    pub progress: Progress,
+    pub rest: QuoteRest,
+}
+
 // Nothing is left of a string.
-pub fn no_rest() -> QuoteRest
-    ensures { result ≡ no_rest }
-{
-    QuoteRest {
-        stage: 0,
-        before: 0,
-        start: 0,
-        end: 0,
-        behind: 0,
-        pad: 0,
-    }
-}
+pub const NO_REST: QuoteRest = QuoteRest {
+    stage: 0,
+    before: 0,
+    start: 0,
+    end: 0,
+    behind: 0,
+    pad: 0,
+};
 
-pub fn on(here: Here, given: usize, at: usize) -> Put
-    ensures { result ≡ put_on here given at }
-{
-    Put {
-        reach: Reach::On,
-        here,
-        given,
-        rest: no_rest(),
-        at,
+impl Put {
+    fn at(reach: Reach, here: Here, given: usize, at: usize) -> Put
+        ensures { result ≡ put_at reach here given at }
+    {
+        Put {
+            reach,
+            progress: Progress { here, given, at },
+            rest: NO_REST,
+        }
     }
-}
 
-pub fn over(code: u32, position: usize, here: Here, at: usize) -> Put
-    ensures { result ≡ put_over code position here at }
-{
-    Put {
-        reach: Reach::Over { code, position },
-        here,
-        given: 0,
-        rest: no_rest(),
-        at,
+    pub fn on(here: Here, given: usize, at: usize) -> Put
+        ensures { result ≡ put_on here given at }
+    {
+        Put::at(Reach::On, here, given, at)
     }
-}
 
-// On to a place, with a step less.
-pub fn stepped(here: Here, place: usize, next: ArgumentPosition) -> Here
-    requires { 0 < here.left }
-    ensures { result ≡ here_at place (here.left - 1) here.hand next }
-{
-    let hand = here.hand;
-    Here {
-        place,
-        left: here.left - 1,
-        hand,
-        next,
+    fn full(here: Here, given: usize, at: usize) -> Put
+        ensures { result ≡ put_full here given at }
+    {
+        Put::at(Reach::Full, here, given, at)
+    }
+
+    pub fn over(code: u32, position: usize, here: Here, at: usize) -> Put
+        ensures { result ≡ put_over code position here at }
+    {
+        Put::at(Reach::Over { code, position }, here, 0, at)
+    }
+
+    pub fn refused(refusal: Refusal, position: usize, here: Here, at: usize) -> Put
+        ensures { result ≡ put_over (code_of refusal) position here at }
+    {
+        Put::over(refusal.code(), position, here, at)
     }
 }
 
 // The part of a piece that has room, which is not all of it. The run stays before the directive.
-fn cut_part(
-    piece: Piece,
-    table: &[u8],
-    here: Here,
-    given: usize,
-    window: &mut [u8],
-    at: usize,
-) -> Put
+fn cut_part(piece: Piece, table: &[u8], progress: Progress, window: &mut [u8]) -> Put
     requires good { Good table.now piece }
-    requires at_in_bounds { at ≤ length window.old }
-    requires at_in_bounds_2 { given + (length window.old - at) < length (bytes_of table.now piece) }
-    ensures { (after : Here) → Given (bytes_of table.now piece) here after given at window.old window.new table.now result }
+    requires at_in_bounds { progress.at ≤ length window.old }
+    requires no_room { progress.given + (length window.old - progress.at) < length (bytes_of table.now piece) }
+    ensures { (after : Here) → Given (bytes_of table.now piece) progress.here after progress.given progress.at window.old window.new table.now result }
 {
+    let Progress { here, given, at } = progress;
     let end = window.len();
     write_part(piece, table, given, &mut window[at..end]);
-    Put {
-        reach: Reach::Full,
-        here,
-        given: given + (end - at),
-        rest: no_rest(),
-        at: end,
-    }
+    Put::full(here, given + (end - at), end)
 }
 
 // The same of a string in quotes, none of which is given. The run goes on behind its directive, with what is left of it.
@@ -126,70 +115,52 @@ fn cut_quote(
     requires good { Good table.now piece }
     requires content_value { piece.body.content ≡ Quoted start end }
     requires at_in_bounds { at ≤ length window.old }
-    requires at_in_bounds_2 { length window.old - at < length (bytes_of table.now piece) }
+    requires no_room { length window.old - at < length (bytes_of table.now piece) }
     ensures { (here : Here) → Given (bytes_of table.now piece) here after 0 at window.old window.new table.now result }
 {
     let q = quote_rest(piece.before, piece.behind, piece.pad, start, end);
     let w = write_rest(q, table, window, at);
-    let rest = w.rest;
     Put {
-        reach: Reach::Full,
-        here: after,
-        given: 0,
-        rest,
-        at: w.at,
+        rest: w.rest,
+        ..Put::full(after, 0, w.at)
     }
 }
 
 // A piece that has no room for all that is to be given of it.
-fn cut_piece(
-    piece: Piece,
-    table: &[u8],
-    here: Here,
-    after: Here,
-    given: usize,
-    window: &mut [u8],
-    at: usize,
-) -> Put
+fn cut_piece(piece: Piece, table: &[u8], progress: Progress, after: Here, window: &mut [u8]) -> Put
     requires good { Good table.now piece }
-    requires at_in_bounds { at ≤ length window.old }
-    requires at_in_bounds_2 { given + (length window.old - at) < length (bytes_of table.now piece) }
-    ensures { Given (bytes_of table.now piece) here after given at window.old window.new table.now result }
+    requires at_in_bounds { progress.at ≤ length window.old }
+    requires no_room { progress.given + (length window.old - progress.at) < length (bytes_of table.now piece) }
+    ensures { Given (bytes_of table.now piece) progress.here after progress.given progress.at window.old window.new table.now result }
 {
-    let body = piece.body;
-    let content = body.content;
-    match content {
-        Content::Quoted { start, end } => {
-            if given == 0 {
-                return cut_quote(piece, start, end, table, after, window, at);
-            }
-            cut_part(piece, table, here, given, window, at)
+    match piece.body.content {
+        Content::Quoted { start, end } if progress.given == 0 => {
+            cut_quote(piece, start, end, table, after, window, progress.at)
         }
-        _ => cut_part(piece, table, here, given, window, at),
+        _ => cut_part(piece, table, progress, window),
     }
 }
 
-// A piece of which so many bytes are given already; after it the run stands at after.
+// A piece of which some bytes may be given already; after it the run stands at after.
 pub fn give_piece(
     piece: Piece,
     table: &[u8],
-    here: Here,
+    progress: Progress,
     after: Here,
-    given: usize,
     window: &mut [u8],
-    at: usize,
 ) -> Put
     requires good { Good table.now piece }
-    requires at_in_bounds { at ≤ length window.old }
-    ensures { Given (bytes_of table.now piece) here after given at window.old window.new table.now result }
+    requires at_in_bounds { progress.at ≤ length window.old }
+    ensures { Given (bytes_of table.now piece) progress.here after progress.given progress.at window.old window.new table.now result }
 {
+    let Progress { here: _, given, at } = progress;
     let n = piece_length(piece);
     if n <= given {
-        return on(after, given - n, at);
+        return Put::on(after, given - n, at);
     }
     let left = n - given;
     if window.len() - at < left {
-        return cut_piece(piece, table, here, after, given, window, at);
+        return cut_piece(piece, table, progress, after, window);
     }
     let end = at + left;
     if given == 0 {
@@ -197,34 +168,32 @@ pub fn give_piece(
     } else {
         write_part(piece, table, given, &mut window[at..end]);
     }
-    on(after, 0, end)
+    Put::on(after, 0, end)
 }
 
 // A literal byte at the place where the run stands.
-pub fn give_byte(byte: u8, here: Here, given: usize, window: &mut [u8], at: usize) -> Put
-    requires at_in_bounds { at ≤ length window.old }
-    requires place_bound { here.place < 4096 }
-    ensures { (t table : List ℕ) → Puts t table (Literal byte) (here.place + 1) here given at window.old window.new result }
+pub fn give_byte(byte: u8, progress: Progress, window: &mut [u8]) -> Put
+    requires at_in_bounds { progress.at ≤ length window.old }
+    requires place_bound { progress.here.place < 4096 }
+    ensures { (t table : List ℕ) → Puts t table (Literal byte) (progress.here.place + 1) progress.here progress.given progress.at window.old window.new result }
 {
+    let Progress { here, given, at } = progress;
     if here.left == 0 {
-        return over(9, here.place, here, at);
+        return Put::refused(Refusal::StepLimit, here.place, here, at);
     }
-    let next = here.next;
-    let after = stepped(here, here.place + 1, next);
+    let after = Here {
+        place: here.place + 1,
+        left: here.left - 1,
+        ..here
+    };
     if 0 < given {
-        return on(after, given - 1, at);
+        return Put::on(after, given - 1, at);
     }
     if window.len() <= at {
-        return Put {
-            reach: Reach::Full,
-            here,
-            given: 0,
-            rest: no_rest(),
-            at,
-        };
+        return Put::full(here, 0, at);
     }
     window[at] = byte;
-    on(after, 0, at + 1)
+    Put::on(after, 0, at + 1)
 }
 
 // What the directive d of a form gives, at the place where the run stands.
@@ -232,41 +201,37 @@ pub fn give_form(
     form: Form,
     d: Directive,
     table: &[u8],
-    here: Here,
-    given: usize,
+    progress: Progress,
     window: &mut [u8],
-    at: usize,
 ) -> Put
     requires code_value { d.code ≡ Code.Writes form }
     requires form_right { FormRight form }
-    requires in_hand { InHand table.now here.hand }
-    requires next_le_count { here.next.0 ≤ here.hand.count }
-    requires at_in_bounds { at ≤ length window.old }
-    ensures { (t : List ℕ) → Puts t table.now (Written d) d.after here given at window.old window.new result }
+    requires in_hand { InHand table.now progress.here.hand }
+    requires next_le_count { progress.here.next.0 ≤ progress.here.hand.count }
+    requires at_in_bounds { progress.at ≤ length window.old }
+    ensures { (t : List ℕ) → Puts t table.now (Written d) d.after progress.here progress.given progress.at window.old window.new result }
 {
+    let here = progress.here;
     if here.left == 0 {
-        return over(9, here.place, here, at);
+        return Put::refused(Refusal::StepLimit, here.place, here, progress.at);
     }
-    let hand = here.hand;
-    let next = here.next;
-    let planned = plan_form(form, d, table, hand, next);
-    match planned {
-        Planned::Shows {
-            settings,
-            argument,
-            next: i,
-        } => {
+    let begun = Here {
+        place: d.after,
+        left: here.left - 1,
+        ..here
+    };
+    match plan_form(form, d, table, here.hand, here.next) {
+        Ok(
+            Plan {
+                settings,
+                argument,
+                next,
+            },
+        ) => {
             let piece = make_piece(form, d.colon, d.atsign, settings, argument, table);
-            give_piece(
-                piece,
-                table,
-                here,
-                stepped(here, d.after, i),
-                given,
-                window,
-                at,
-            )
+            let after = Here { next, ..begun };
+            give_piece(piece, table, progress, after, window)
         }
-        Planned::Wrong(code) => over(code, here.place, stepped(here, d.after, next), at),
+        Err(refusal) => Put::refused(refusal, here.place, begun, progress.at),
     }
 }

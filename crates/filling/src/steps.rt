@@ -1,78 +1,64 @@
 // What stands at a place of the text: literal bytes and short directives as far as there is room, and then one item.
 ghost use Rattle.std.specs.Prelude.{◌≡◌, false, List, ℕ, ◌≤◌, ◌<◌, length};
 ghost use Rattle.rules.specs.Directive.{item_at};
-ghost use Rattle.rules.specs.Table.{table_verdict};
 ghost use Rattle.rules.specs.declared.Item.TheVariants.{Written};
-ghost use Rattle.rules.specs.declared.Verdict.TheVariants.{Accepted};
 ghost use Rattle.parameters.specs.Settling.{InHand};
 ghost use Rattle.blocks.specs.Landmarks.{Landmarks, Marks};
 ghost use Rattle.blocks.specs.Parts.{ends_sequence};
-ghost use Rattle.nesting.specs.Moves.{Sound, comes, weight, Moves};
-ghost use Rattle.filling.specs.Filling.{step_of, to_give, Puts, Advances};
-ghost use Rattle.filling.specs.Steps.{Standing, reach_of, moved_step, unheld, RunsAhead, is_on};
+ghost use Rattle.nesting.specs.Moves.{Sound, MovesHere};
+ghost use Rattle.filling.specs.Filling.{Puts};
+ghost use Rattle.filling.specs.Steps.{Standing, StepsFrom, reach_of, moved_step, unheld, RunsAhead, is_on};
 
-use crate::giving::{Put, Reach, give_byte, give_form, no_rest, on, over, stepped};
+use crate::giving::{NO_REST, Progress, Put, Reach, give_byte, give_form};
 use actions::acting::act_jump;
 use actions::state::{Ran, Spot, Stand, Stop};
-use blocks::ends::{element_at, ends_here, opens_block};
-use blocks::landmarks::mark_text;
-use nesting::moves::{Here, How, Moved, end_sequence, leave, open_block};
+use blocks::ends::{element_at, ends_here};
+use blocks::landmarks::{Landmark, mark_text};
+use nesting::inputs::Inputs;
+use nesting::moves::{Here, Moved, end_sequence, leave, open_block};
 use nesting::nests::Nest;
-use pieces::resuming::QuoteRest;
-use rules::codes::{NO_ROOM, STEP_LIMIT};
+use rules::codes::NO_ROOM;
+use rules::refusal::{Fault, Refusal};
 use rules::{Code, Directive, Item};
 use stepping::short::run_short;
 
-// Where a step left the run and its open blocks.
+// How a step leaves a run and its open blocks.
 #[derive(Clone, Copy)]
 pub struct Step {
-    pub reach: Reach,
-    pub here: Here,
+    pub put: Put,
     pub nest: Nest,
-    pub given: usize,
-    pub rest: QuoteRest,
-    pub at: usize,
 }
 
-fn put_step(r: Put, nest: Nest) -> Step
-    ensures { result ≡ step_of nest r }
+fn reach_of(over: Option<Result<(), Fault>>) -> Reach
+    ensures { result ≡ reach_of over }
 {
-    let reach = r.reach;
-    let here = r.here;
-    let rest = r.rest;
-    Step {
-        reach,
-        here,
-        nest,
-        given: r.given,
-        rest,
-        at: r.at,
-    }
-}
-
-fn reach_of(how: How) -> Reach
-    ensures { result ≡ reach_of how }
-{
-    match how {
-        How::On => Reach::On,
-        How::Over { code, position } => Reach::Over { code, position },
+    match over {
+        None => Reach::On,
+        Some(Ok(())) => Reach::Over {
+            code: 0,
+            position: 0,
+        },
+        Some(Err(fault)) => Reach::Over {
+            code: fault.refusal.code(),
+            position: fault.position,
+        },
     }
 }
 
 // A move, which writes nothing.
-fn moved_step(r: Moved, given: usize, at: usize) -> Step
-    ensures { result ≡ moved_step r given at }
+fn moved_step(r: Moved, progress: Progress) -> Step
+    ensures { result ≡ moved_step r progress.given progress.at }
 {
-    let how = r.how;
-    let here = r.here;
-    let nest = r.nest;
     Step {
-        reach: reach_of(how),
-        here,
-        nest,
-        given,
-        rest: no_rest(),
-        at,
+        put: Put {
+            reach: reach_of(r.over),
+            progress: Progress {
+                here: r.here,
+                ..progress
+            },
+            rest: NO_REST,
+        },
+        nest: r.nest,
     }
 }
 
@@ -81,230 +67,195 @@ fn unhold(r: Ran) -> Ran
     requires { r.left ≤ 65536 }
     ensures { result ≡ unheld r }
 {
-    let stop = r.stop;
-    let next = r.next;
-    match stop {
-        Stop::Refused { code, position } => {
-            if code == NO_ROOM {
-                return Ran {
-                    stop: Stop::Ended,
-                    next,
-                    left: r.left + 1,
-                    at: r.at,
-                    place: position,
-                };
-            }
-            r
-        }
+    match r.stop {
+        Stop::Refused { code, position } if code == NO_ROOM => Ran {
+            stop: Stop::Ended,
+            left: r.left + 1,
+            place: position,
+            ..r
+        },
         _ => r,
     }
 }
 
 // The literal bytes and short directives for which there is room, unless bytes of what comes are given already.
-fn run_ahead(
-    text: &[u8],
-    table: &[u8],
-    here: Here,
-    given: usize,
-    window: &mut [u8],
-    at: usize,
-) -> Ran
-    requires in_hand { InHand table.now here.hand }
-    requires next_le_count { here.next.0 ≤ here.hand.count }
-    requires place_in_bounds { here.place ≤ length text.now }
-    requires left_bound { here.left ≤ 65536 }
-    requires at_in_bounds { at ≤ length window.old }
-    ensures { RunsAhead text.now table.now here given at window.old window.new result }
+fn run_ahead(text: &[u8], table: &[u8], progress: Progress, window: &mut [u8]) -> Ran
+    requires in_hand { InHand table.now progress.here.hand }
+    requires next_le_count { progress.here.next.0 ≤ progress.here.hand.count }
+    requires place_in_bounds { progress.here.place ≤ length text.now }
+    requires left_bound { progress.here.left ≤ 65536 }
+    requires at_in_bounds { progress.at ≤ length window.old }
+    ensures { RunsAhead text.now table.now progress.here progress.given progress.at window.old window.new result }
 {
-    let hand = here.hand;
-    let next = here.next;
+    let Progress { here, given, at } = progress;
+    let Here {
+        place,
+        left,
+        hand,
+        next,
+    } = here;
     if given == 0 {
         let stand = Stand {
             hand,
             next,
-            left: here.left,
+            left,
             at,
         };
-        return unhold(run_short(text, table, here.place, stand, window));
+        return unhold(run_short(text, table, place, stand, window));
     }
     Ran {
         stop: Stop::Ended,
         next,
-        left: here.left,
+        left,
         at,
-        place: here.place,
+        place,
     }
 }
 
 // A jump at the place where the run stands.
-fn jump(d: Directive, table: &[u8], here: Here, given: usize, at: usize) -> Put
+fn jump(d: Directive, table: &[u8], progress: Progress) -> Put
     requires code_value { d.code ≡ Code.Jump }
-    requires in_hand { InHand table.now here.hand }
-    requires next_le_count { here.next.0 ≤ here.hand.count }
-    ensures { (t b : List ℕ) → at ≤ length b → Puts t table.now (Written d) d.after here given at b b result }
+    requires in_hand { InHand table.now progress.here.hand }
+    requires next_le_count { progress.here.next.0 ≤ progress.here.hand.count }
+    ensures { (t b : List ℕ) → progress.at ≤ length b → Puts t table.now (Written d) d.after progress.here progress.given progress.at b b result }
 {
+    let Progress { here, given, at } = progress;
     if here.left == 0 {
-        return over(9, here.place, here, at);
+        return Put::refused(Refusal::StepLimit, here.place, here, at);
     }
-    let hand = here.hand;
-    let next = here.next;
     let spot = Spot {
         position: here.place,
         place: d.after,
         left: here.left - 1,
         at: 0,
     };
-    let r = act_jump(spot, d, table, hand, next);
-    let stop = r.stop;
-    let after = r.next;
+    let r = act_jump(spot, d, table, here.hand, here.next);
     let there = Here {
         place: d.after,
         left: r.left,
-        hand,
-        next: after,
+        hand: here.hand,
+        next: r.next,
     };
-    match stop {
-        Stop::Refused { code, position } => over(code, position, there, at),
-        _ => on(there, given, at),
+    match r.stop {
+        Stop::Refused { code, position } => Put::over(code, position, there, at),
+        _ => Put::on(there, given, at),
     }
 }
 
 // An escape at the place where the run stands.
-fn escape(text: &[u8], marks: &[u16], table: &[u8], here: Here, nest: Nest, d: Directive) -> Moved
-    requires landmarks { Landmarks text.now marks.now }
-    requires table_value { table_verdict table.now ≡ Accepted }
-    requires sound { Sound (length text.now) table.now here nest }
-    requires place_value { item_at text.now here.place ≡ Written d }
+fn escape(inputs: Inputs<'_>, here: Here, nest: Nest, d: Directive) -> Moved
+    requires landmarks { Landmarks inputs.text.now inputs.marks.now }
+    requires sound { Sound (length inputs.text.now) inputs.table.now here nest }
+    requires place_value { item_at inputs.text.now here.place ≡ Written d }
     requires code_value { d.code ≡ Code.Escape }
-    ensures { Moves text.now table.now (comes text.now table.now here nest) here.left (weight here nest) result }
+    ensures { MovesHere inputs.entry.text.now inputs.entry.table.now here nest result }
 {
     if here.left == 0 {
-        return Moved {
-            how: How::Over {
-                code: STEP_LIMIT,
-                position: here.place,
-            },
-            here,
-            nest,
-        };
+        return Moved::refused(Refusal::StepLimit, here.place, here, nest);
     }
-    let hand = here.hand;
-    let next = here.next;
-    let begun = stepped(here, d.after, next);
-    if hand.count <= next.0 {
-        return leave(text, marks, table, begun, nest);
+    let begun = Here {
+        place: d.after,
+        left: here.left - 1,
+        ..here
+    };
+    if here.hand.count <= here.next.0 {
+        return leave(inputs, begun, nest);
     }
-    Moved {
-        how: How::On,
-        here: begun,
-        nest,
-    }
+    Moved::on(begun, nest)
 }
 
 // The directive d at the place where the run stands.
 fn step_directive(
-    text: &[u8],
-    marks: &[u16],
-    table: &[u8],
-    here: Here,
+    inputs: Inputs<'_>,
+    progress: Progress,
     nest: Nest,
     d: Directive,
-    given: usize,
     window: &mut [u8],
-    at: usize,
 ) -> Step
-    requires landmarks { Landmarks text.now marks.now }
-    requires standing { Standing text.now table.now here nest at window.old }
-    requires place_value { item_at text.now here.place ≡ Written d }
+    requires landmarks { Landmarks inputs.text.now inputs.marks.now }
+    requires standing { Standing inputs.text.now inputs.table.now progress.here nest progress.at window.old }
+    requires place_value { item_at inputs.text.now progress.here.place ≡ Written d }
     requires code_value { ends_sequence d.code ≡ false }
-    ensures { Advances text.now table.now (to_give given (comes text.now table.now here nest)) here.left (weight here nest) at window.old window.new result }
+    ensures { StepsFrom inputs.entry.text.now inputs.entry.table.now progress nest window.old window.new result }
 {
-    let code = d.code;
-    if opens_block(code) {
-        return moved_step(open_block(text, marks, table, here, nest, d), given, at);
-    }
-    match code {
-        Code::Writes(form) => put_step(give_form(form, d, table, here, given, window, at), nest),
-        Code::Jump => put_step(jump(d, table, here, given, at), nest),
-        _ => moved_step(escape(text, marks, table, here, nest, d), given, at),
+    match d.code {
+        Code::Writes(form) => Step {
+            put: give_form(form, d, inputs.table, progress, window),
+            nest,
+        },
+        Code::Jump => Step {
+            put: jump(d, inputs.table, progress),
+            nest,
+        },
+        Code::Opens(_) => moved_step(open_block(inputs, progress.here, nest, d), progress),
+        _ => moved_step(escape(inputs, progress.here, nest, d), progress),
     }
 }
 
 // The item at the place where the run stands.
-fn step_item(
-    text: &[u8],
-    marks: &[u16],
-    table: &[u8],
-    here: Here,
-    nest: Nest,
-    given: usize,
-    window: &mut [u8],
-    at: usize,
-) -> Step
-    requires landmarks { Landmarks text.now marks.now }
-    requires standing { Standing text.now table.now here nest at window.old }
-    ensures { Advances text.now table.now (to_give given (comes text.now table.now here nest)) here.left (weight here nest) at window.old window.new result }
+fn step_item(inputs: Inputs<'_>, progress: Progress, nest: Nest, window: &mut [u8]) -> Step
+    requires landmarks { Landmarks inputs.text.now inputs.marks.now }
+    requires standing { Standing inputs.text.now inputs.table.now progress.here nest progress.at window.old }
+    ensures { StepsFrom inputs.entry.text.now inputs.entry.table.now progress nest window.old window.new result }
 {
-    let item = element_at(text, here.place);
+    let here = progress.here;
+    let item = element_at(inputs.text, here.place);
     if ends_here(item) {
-        return moved_step(end_sequence(text, marks, table, here, nest), given, at);
+        return moved_step(end_sequence(inputs, here, nest), progress);
     }
     match item {
-        Item::Literal(byte) => put_step(give_byte(byte, here, given, window, at), nest),
-        Item::Written(d) => step_directive(text, marks, table, here, nest, d, given, window, at),
-        _ => put_step(over(4, here.place, here, at), nest),
+        Item::Literal(byte) => Step {
+            put: give_byte(byte, progress, window),
+            nest,
+        },
+        Item::Written(d) => step_directive(inputs, progress, nest, d, window),
+        _ => Step {
+            put: Put::refused(Refusal::BadBlock, here.place, here, progress.at),
+            nest,
+        },
     }
 }
 
 // One step: what is short, and then one item.
-fn advance(
-    text: &[u8],
-    marks: &[u16],
-    table: &[u8],
-    here: Here,
-    nest: Nest,
-    given: usize,
-    window: &mut [u8],
-    at: usize,
-) -> Step
-    requires landmarks { Landmarks text.now marks.now }
-    requires standing { Standing text.now table.now here nest at window.old }
-    ensures { Advances text.now table.now (to_give given (comes text.now table.now here nest)) here.left (weight here nest) at window.old window.new result }
+fn advance(inputs: Inputs<'_>, progress: Progress, nest: Nest, window: &mut [u8]) -> Step
+    requires landmarks { Landmarks inputs.text.now inputs.marks.now }
+    requires standing { Standing inputs.text.now inputs.table.now progress.here nest progress.at window.old }
+    ensures { StepsFrom inputs.entry.text.now inputs.entry.table.now progress nest window.old window.new result }
 {
-    let s = run_ahead(text, table, here, given, window, at);
-    let stop = s.stop;
-    let hand = here.hand;
-    let next = s.next;
-    let ahead = Here {
-        place: s.place,
-        left: s.left,
-        hand,
-        next,
+    let r = run_ahead(inputs.text, inputs.table, progress, window);
+    let here = Here {
+        place: r.place,
+        left: r.left,
+        hand: progress.here.hand,
+        next: r.next,
     };
-    match stop {
-        Stop::Refused { code, position } => put_step(over(code, position, ahead, s.at), nest),
-        _ => step_item(text, marks, table, ahead, nest, given, window, s.at),
+    match r.stop {
+        Stop::Refused { code, position } => Step {
+            put: Put::over(code, position, here, r.at),
+            nest,
+        },
+        _ => {
+            let ahead = Progress {
+                here,
+                at: r.at,
+                ..progress
+            };
+            step_item(inputs, ahead, nest, window)
+        }
     }
 }
 
 fn is_on(reach: Reach) -> bool
     ensures { result ≡ is_on reach }
 {
-    match reach {
-        Reach::On => true,
-        Reach::Over {
-            code: _,
-            position: _,
-        } => false,
-        Reach::Full => false,
-    }
+    matches!(reach, Reach::On)
 }
 
 // In which turn the landmarks of a long text begin to pay.
 const MANY: usize = 64;
 
 // Lays the landmarks in that turn, and counts it.
-fn lay_in_time(text: &[u8], marks: &mut [u16], turns: usize) -> usize
+fn lay_in_time(text: &[u8], marks: &mut [Landmark], turns: usize) -> usize
     requires { Landmarks text.now marks.old }
     ensures { Marks text.now marks.old marks.new }
 {
@@ -320,34 +271,28 @@ fn lay_in_time(text: &[u8], marks: &mut [u16], turns: usize) -> usize
 // Steps until the run is over or the next byte has no room.
 pub fn fill_window(
     text: &[u8],
-    marks: &mut [u16],
+    marks: &mut [Landmark],
     table: &[u8],
-    first: Here,
+    start: Progress,
     blocks: Nest,
-    skip: usize,
     window: &mut [u8],
-    from: usize,
 ) -> Step
     requires landmarks { Landmarks text.now marks.old }
-    requires standing { Standing text.now table.now first blocks from window.old }
-    ensures fills { Advances text.now table.now (to_give skip (comes text.now table.now first blocks)) first.left (weight first blocks) from window.old window.new result }
-    ensures stops { is_on result.reach ≡ false }
+    requires standing { Standing text.now table.now start.here blocks start.at window.old }
+    ensures fills { StepsFrom text.now table.now start blocks window.old window.new result }
+    ensures stops { is_on result.put.reach ≡ false }
 {
-    let mut here = first;
+    let mut progress = start;
     let mut nest = blocks;
-    let mut given = skip;
-    let mut at = from;
     let mut turns: usize = 0;
     loop {
-        let r = advance(text, marks, table, here, nest, given, window, at);
-        let reach = r.reach;
-        if !is_on(reach) {
-            return r;
+        let inputs = Inputs { text, marks, table };
+        let step = advance(inputs, progress, nest, window);
+        if !is_on(step.put.reach) {
+            return step;
         }
-        here = r.here;
-        nest = r.nest;
-        given = r.given;
-        at = r.at;
+        progress = step.put.progress;
+        nest = step.nest;
         turns = lay_in_time(text, marks, turns);
     }
 }

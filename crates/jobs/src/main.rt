@@ -1,20 +1,13 @@
 // Runs jobs: answers each line of standard input on standard output, in order, until the input ends.
 #![tactic(auto)]
 
-ghost use Rattle.std.specs.Prelude.{◌≡◌, false, ◌≤◌, length, take};
+ghost use Rattle.std.specs.Prelude.{◌≡◌, ◌≤◌, length, take, IfSome};
 ghost use Rattle.chunks.specs.Cutting.{begun_line};
 ghost use Rattle.chunks.specs.Feeding.{Holds};
 
 use chunks::{answer_last, feed};
 use std::io;
 use std::io::{ErrorKind, Read};
-
-// How much of a line is held that its chunk cut off, and whether the input has ended.
-#[derive(Drop)]
-pub struct Stand {
-    pub held: usize,
-    pub ended: bool,
-}
 
 // Whether a call moved nothing because a signal came first: it is made again.
 fn is_interrupted(failure: &io::Error) -> bool {
@@ -40,15 +33,15 @@ fn without_number(said: &str) -> &str {
     }
 }
 
-// Writes the answers, and answers whether all of them are written. It tells if they are not.
-fn write_answers(rt: &HostRuntime, answers: &[u8]) -> bool {
+// Writes the answers. Where they are not all written, it tells so, and the answer is None.
+fn write_answers(rt: &HostRuntime, answers: &[u8]) -> Option<()> {
     let mut output = rt.stdout();
     // `write_all` of `Print` gives up after some writes that are interrupted
     match io::Write::write_all(&mut output, answers) {
-        Ok(()) => true,
+        Ok(()) => Some(()),
         Err(failure) => {
             tell(rt, "answers are lost, writing", &failure);
-            false
+            None
         }
     }
 }
@@ -63,7 +56,8 @@ fn tell_unread(rt: &HostRuntime, failure: &io::Error, held: usize) {
     let _ = eprintln!(rt; "tilde-jobs: bytes of an unfinished line that are dropped: {held}{more}");
 }
 
-// Answers the lines that end in a chunk. Where a write fails nothing more is done, and nothing is held.
+// Answers the lines that end in a chunk, and says how much is held of the line that it cuts off: None where a write
+// fails, and nothing more is to be done.
 fn answer_chunk(
     rt: &HostRuntime,
     chunk: &[u8],
@@ -72,35 +66,27 @@ fn answer_chunk(
     frame: &mut [u8],
     text: &mut [u8],
     out: &mut [u8],
-) -> Stand
+) -> Option<usize>
     requires line_len { (length line.old ≡ 65536) × (held ≤ 65536) }
     requires frame_len { (length frame.old ≡ 32768) × (length text.old ≡ 16384) }
     requires out_len { length out.old ≡ 131072 }
-    ensures held_bound { result.held ≤ 65536 }
-    ensures holds { result.ended ≡ false → Holds line.new (begun_line (take held line.old) chunk.now) result.held }
+    ensures held_bound { IfSome result (λ kept. kept ≤ 65536) }
+    ensures holds { IfSome result (λ kept. Holds line.new (begun_line (take held line.old) chunk.now) kept) }
 {
     let mut kept = held;
     let mut from = 0;
     while from < chunk.len() {
         let fed = feed(&chunk[from..], line, kept, frame, text, out);
-        let filled = fed.filled;
-        if !write_answers(rt, &out[0..filled]) {
-            return Stand {
-                held: 0,
-                ended: true,
-            };
-        }
+        write_answers(rt, &out[..fed.filled])?;
         kept = fed.held;
         from += fed.taken;
     }
-    Stand {
-        held: kept,
-        ended: false,
-    }
+    Some(kept)
 }
 
-// What a read that brought nothing means for the line that is held. Interrupted, it is made again; where it failed, the
-// line is cut off and is not answered; at the end of the input it is the last line, which may lack its newline.
+// What a read that brought nothing means for the line that is held, and how much is held then: None at the end.
+// Interrupted, it is made again; where it failed, the line is cut off and is not answered; at the end of the input it is
+// the last line, which may lack its newline.
 fn read_nothing(
     rt: &HostRuntime,
     failure: Option<io::Error>,
@@ -108,31 +94,25 @@ fn read_nothing(
     frame: &mut [u8],
     text: &mut [u8],
     out: &mut [u8],
-) -> Stand
+) -> Option<usize>
     requires line_len_bound { length line.now ≤ 65536 }
     requires frame_len { (length frame.old ≡ 32768) × (length text.old ≡ 16384) }
     requires out_len { length out.old ≡ 131072 }
-    ensures { result.held ≤ 65536 }
+    ensures { IfSome result (λ kept. kept ≤ 65536) }
 {
-    if let Some(failure) = failure {
-        if is_interrupted(&failure) {
-            return Stand {
-                held: line.len(),
-                ended: false,
-            };
-        }
-        tell_unread(rt, &failure, line.len());
-    } else {
+    let Some(failure) = failure else {
         let filled = answer_last(line, frame, text, out);
-        write_answers(rt, &out[0..filled]);
+        write_answers(rt, &out[..filled])?;
+        return None;
+    };
+    if is_interrupted(&failure) {
+        return Some(line.len());
     }
-    Stand {
-        held: 0,
-        ended: true,
-    }
+    tell_unread(rt, &failure, line.len());
+    None
 }
 
-// One read of the input.
+// One read of the input, and how much is held after it: None at the end.
 fn turn(
     rt: &HostRuntime,
     line: &mut [u8],
@@ -140,11 +120,11 @@ fn turn(
     frame: &mut [u8],
     text: &mut [u8],
     out: &mut [u8],
-) -> Stand
+) -> Option<usize>
     requires line_len { (length line.old ≡ 65536) × (held ≤ 65536) }
     requires frame_len { (length frame.old ≡ 32768) × (length text.old ≡ 16384) }
     requires out_len { length out.old ≡ 131072 }
-    ensures { result.held ≤ 65536 }
+    ensures { IfSome result (λ kept. kept ≤ 65536) }
 {
     let mut chunk = [0u8; 65536];
     match rt.stdin().read(&mut chunk) {
@@ -161,10 +141,9 @@ fn main(rt: HostRuntime) {
     let mut out = [0u8; 131072];
     let mut held = 0;
     for _ in 0..u64::MAX {
-        let stand = turn(&rt, &mut line, held, &mut frame, &mut text, &mut out);
-        if stand.ended {
+        let Some(kept) = turn(&rt, &mut line, held, &mut frame, &mut text, &mut out) else {
             return;
-        }
-        held = stand.held;
+        };
+        held = kept;
     }
 }

@@ -1,8 +1,9 @@
 -- From what is written to the answer that the definition gives: of numbers and text, of a frame, of a line.
 -- Assumes nothing.
 use Prim.Native.Nat.{ℕ, ◌+◌, ◌-◌, ◌*◌, ◌/◌, ◌≤◌, ◌<◌}
-use mathlib.Core.Path.{◌≡◌, sym, ap, ◌∙◌}
-use mathlib.Core.Bool.{Bool, true, false}
+use mathlib.Core.Path.{◌≡◌, refl, sym, ap, ◌∙◌}
+use mathlib.Core.Bool.{Bool, true, false, cond}
+use Rattle.std.specs.Prelude.{Option, None, Some}
 use mathlib.Core.List.{List, ◌++◌}
 use native.Mathlib.Omega.{arith}
 use lib.ListN.{length, get_or, take, drop, length-drop}
@@ -66,7 +67,7 @@ module _ (frame : List ℕ) {b a : List ℕ} {n : ℕ} where
         (take (length frame - (2 + x * 256 + y)) (drop (2 + x * 256 + y) frame))
         before after code position steps count
         → length before ≡ 16384
-        → AtFront b a (hex_of (numbers_of code position steps count ++ take (count - 0) after)) n
+        → AtFront b a (hex_of (numbers_of code position steps count ++ take count after)) n
         → FrameAnswered frame before after b a n
     unfolding answer_frame frame_text is_whole answer_bytes
     frame_answered {before} {after} {code} {position} {steps} {count} h answers room w =
@@ -81,14 +82,13 @@ module _ (frame : List ℕ) {b a : List ℕ} {n : ℕ} where
         let r : Answer = answer_of (format_in frame) (table_in frame) 16384 in
         let same : answer_of (format_in frame) (table_in frame) (length before) ≡ r =
         ap (answer_of (format_in frame) (table_in frame)) room in
-        let here : count - 0 ≡ count = omega arith in
         let counted : count ≡ length r.text = given.written_is ∙ ap (λ (z : Answer). length z.text) same in
         let left : after ≡ over r.text before =
         given.buffer_is ∙ ap (λ (z : Answer). z.text ++ drop count before) same
         ∙ ap (λ (i : ℕ). r.text ++ drop i before) counted
         in
-        let text : take (count - 0) after ≡ r.text =
-        rw (here, left) (take_at r.text (drop (length r.text) before) count (sym counted))
+        let text : take count after ≡ r.text =
+        rw left (take_at r.text (drop (length r.text) before) count (sym counted))
         in
         let c : code ≡ r.code = given.code_is ∙ ap (λ (z : Answer). z.code) same in
         let p : position ≡ r.position = given.position_is ∙ ap (λ (z : Answer). z.position) same in
@@ -100,6 +100,15 @@ module _ (frame : List ℕ) {b a : List ℕ} {n : ℕ} where
           text_is = rw (begun, all) left;
         }
 
+-- what reading the digits answers
+paired : (b : Bool) {k m : ℕ} → Some k ≡ cond b (Some m) None → (b ≡ true) × (k ≡ m)
+paired true e = (refl, cc)
+paired false e = cc
+
+unpaired : (b : Bool) (m : ℕ) → None ≡ cond b (Some m) None → b ≡ false
+unpaired true m e = cc
+unpaired false m e = refl
+
 module _ (line : List ℕ) {b a : List ℕ} {n : ℕ} where
   pub too_long : {frame text : List ℕ} → 65535 < length line → AtFront b a no_frame n
       → LineAnswered line frame frame text text b a n
@@ -108,26 +117,26 @@ module _ (line : List ℕ) {b a : List ℕ} {n : ℕ} where
       let long = lt-leb (length line) 65535 h in
       record { answer = rw long w; frame_is = rw long; text_is = rw long }
 
-  module _ {before frame : List ℕ} {r : Bool} (h : length line ≤ 65535) (d : Decoded line before frame r) where
-    pub not_digits : {text : List ℕ} → r ≡ false → AtFront b a no_frame n
+  module _ {before frame : List ℕ} {r : Option ℕ} (h : length line ≤ 65535) (d : Decoded line before frame r) where
+    pub not_digits : {text : List ℕ} → r ≡ None → AtFront b a no_frame n
         → LineAnswered line before frame text text b a n
     unfolding answer_line frame_bytes line_text
     not_digits e w =
         let fits = le-leb (length line) 65535 h in
-        let f : in_pairs line ≡ false = sym d.paired_is ∙ e in
+        let f : in_pairs line ≡ false = unpaired (in_pairs line) _ (sym e ∙ d.paired_is) in
         record { answer = rw (fits, f) w; frame_is = rw fits d.frame_is; text_is = rw (fits, f) }
 
-    pub line_answered : {text₀ text₁ : List ℕ} → r ≡ true
-        → FrameAnswered (take (length line / 2 - 0) frame) text₀ text₁ b a n
+    pub line_answered : {text₀ text₁ : List ℕ} {k : ℕ} → r ≡ Some k
+        → FrameAnswered (take k frame) text₀ text₁ b a n
         → LineAnswered line before frame text₀ text₁ b a n
     unfolding answer_line frame_bytes line_text
-    line_answered {text₀} {text₁} e w =
+    line_answered {text₀} {text₁} {k} e w =
         let fits = le-leb (length line) 65535 h in
-        let t : in_pairs line ≡ true = sym d.paired_is ∙ e in
+        let p = paired (in_pairs line) (sym e ∙ d.paired_is) in
+        let t : in_pairs line ≡ true = p.0 in
         let read : read_bytes line ≡ frame_of line = all_read line t in
-        let here : length line / 2 - 0 ≡ length line / 2 = omega arith in
-        let bytes : take (length line / 2 - 0) frame ≡ frame_of line =
-        rw (here, d.frame_is, read)
+        let bytes : take k frame ≡ frame_of line =
+        rw (p.1, d.frame_is, read)
         (take_at (frame_of line) (drop (length (frame_of line)) before) (length line / 2) (frame_length line t))
         in
         let v : FrameAnswered (frame_of line) text₀ text₁ b a n = rw bytes at w in

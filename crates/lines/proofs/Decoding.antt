@@ -1,13 +1,14 @@
 -- Reading the digits of a line, two to a byte. Assumes nothing.
 use Prim.Native.Nat.{ℕ, suc, ◌+◌, ◌*◌, ◌/◌, ◌%◌, ◌≤◌, ◌<◌}
 use mathlib.Core.Path.{◌≡◌, refl, sym, ap, ◌∙◌}
-use mathlib.Core.Bool.{true, false}
+use mathlib.Core.Bool.{true, false, cond}
 use mathlib.Core.List.{List, [], ◌∷◌, ◌++◌, append-nil}
 use native.Mathlib.Numerals.{add-one}
 use native.Mathlib.Omega.{arith}
 use lib.ListN.{length, get_or, take, drop, set, length-set, length-drop, take-append-drop, drop_of_length-le}
 use lib.Seq.{drop-cons, drop-drop, drop-set-lt, take-suc-set, length-take-le, append_snoc}
 use borrow.Author.Tests.{lt-ltb, le-ltb}
+use Rattle.std.specs.Prelude.{None, Some}
 use Rattle.rules.specs.Choice.{both}
 use Rattle.rules.specs.Job.{digit_value, is_hex_digit, in_pairs, frame_of}
 use Rattle.rules.proofs.JobLaws.{odd_pairs, first_other, second_other}
@@ -47,6 +48,10 @@ short_none [] h = refl
 short_none (x ∷ []) h = refl
 short_none (x ∷ y ∷ more) h = absurd (omega arith)
 
+-- no answer where the line is not digits in pairs
+none_of : (line : List ℕ) → in_pairs line ≡ false → None ≡ cond (in_pairs line) (Some (length line / 2)) None
+none_of line e = rw e
+
 -- k pairs are read: what stands in the frame, with what the rest gives, is the whole
 pub record Decoding (line before frame : List ℕ) (k : ℕ) : Type 0 where
   pub pairs : in_pairs line ≡ in_pairs (drop (2 * k) line)
@@ -77,18 +82,18 @@ module _ {line before frame : List ℕ} {k : ℕ} (room : length line / 2 ≤ le
         let e : suc (suc (2 * k)) ≡ 2 * (k + 1) = omega arith in
         rw (drop-cons line (2 * k) 0 p, drop-cons line (suc (2 * k)) 0 q, e, ← add-one (2 * k))
 
-    pub first_refused : 16 ≤ digit_value (get_or line (2 * k) 0) → Decoded line before frame false
+    pub first_refused : 16 ≤ digit_value (get_or line (2 * k) 0) → Decoded line before frame None
     first_refused o =
         record {
-          paired_is = sym (d.pairs ∙ ap in_pairs pair_at_lem ∙ first_other _ _ _ o);
+          paired_is = none_of line (d.pairs ∙ ap in_pairs pair_at_lem ∙ first_other _ _ _ o);
           frame_is = stopped (ap read_bytes pair_at_lem ∙ first_none _ _ _ o);
         }
 
     pub second_refused : digit_value (get_or line (2 * k) 0) < 16 → 16 ≤ digit_value (get_or line (2 * k + 1) 0)
-        → Decoded line before frame false
+        → Decoded line before frame None
     second_refused g o =
         record {
-          paired_is = sym (d.pairs ∙ ap in_pairs pair_at_lem ∙ second_other _ _ _ o);
+          paired_is = none_of line (d.pairs ∙ ap in_pairs pair_at_lem ∙ second_other _ _ _ o);
           frame_is = stopped (ap read_bytes pair_at_lem ∙ second_none _ _ _ g o);
         }
 
@@ -122,12 +127,12 @@ module _ {line before frame : List ℕ} {k : ℕ} (room : length line / 2 ≤ le
     read_all : frame ≡ over (read_bytes line) before
     read_all = stopped (short_none (drop (2 * k) line) (simp length-drop (omega arith)))
 
-    pub decode_odd : (length line % 2 ≡ 0 → ⊥) → Decoded line before frame false
-    decode_odd odd = record { paired_is = sym (odd_pairs line odd); frame_is = read_all }
+    pub decode_odd : (length line % 2 ≡ 0 → ⊥) → Decoded line before frame None
+    decode_odd odd = record { paired_is = none_of line (odd_pairs line odd); frame_is = read_all }
 
-    pub decode_all : length line % 2 ≡ 0 → Decoded line before frame true
+    pub decode_all : length line % 2 ≡ 0 → Decoded line before frame (Some (length line / 2))
     unfolding in_pairs
     decode_all even =
         let z : k ≡ length line / 2 = omega (arith, d.within) in
         let e : drop (2 * k) line ≡ [] = drop_of_length-le line {i = 2 * k} (omega arith) in
-        record { paired_is = sym (d.pairs ∙ ap in_pairs e); frame_is = read_all }
+        record { paired_is = rw (d.pairs ∙ ap in_pairs e); frame_is = read_all }

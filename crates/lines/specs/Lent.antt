@@ -1,5 +1,5 @@
 -- What the buffers that are lent for a line hold after it. Assumes nothing: these are definitions.
-use Rattle.std.specs.Prelude.{ℕ, ◌+◌, ◌*◌, Bool, cond, ◌≡◌, List, [], ◌∷◌, leb, length}
+use Rattle.std.specs.Prelude.{ℕ, ◌+◌, ◌*◌, ◌/◌, cond, Option, None, Some, ◌≡◌, List, [], ◌∷◌, leb, length}
 use Rattle.rules.specs.Answer.{answer_of}
 use Rattle.rules.specs.Choice.{both}
 use Rattle.rules.specs.Job.{digit_value, is_hex_digit, in_pairs, frame_of, format_in, table_in, is_whole, job_room, answer_frame, answer_line}
@@ -12,10 +12,10 @@ read_bytes (x ∷ []) = []
 read_bytes (x ∷ y ∷ more) =
     cond (both (is_hex_digit x) (is_hex_digit y)) ((digit_value x * 16 + digit_value y) ∷ read_bytes more) []
 
--- what reading the digits of a line promises: the answer is whether they are digits in pairs, and the frame begins with
--- the bytes that were read
-pub record Decoded (line before after : List ℕ) (answer : Bool) : Type 0 where
-  pub paired_is : answer ≡ in_pairs line
+-- what reading the digits of a line promises: the answer is how many bytes they are, if they are digits in pairs, and
+-- the frame begins with the bytes that were read
+pub record Decoded (line before after : List ℕ) (answer : Option ℕ) : Type 0 where
+  pub paired_is : answer ≡ cond (in_pairs line) (Some (length line / 2)) None
   pub frame_is : after ≡ over (read_bytes line) before
 
 -- what a line leaves in the frame: nothing is read of one that is too long

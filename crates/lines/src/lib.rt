@@ -1,62 +1,44 @@
 // Job lines: a frame in hexadecimal to the answer of its format, in hexadecimal.
 #![tactic(auto)]
 
-ghost use Rattle.std.specs.Prelude.{◌≡◌, ◌++◌, ◌+◌, ◌*◌, ◌/◌, ◌%◌, ◌≤◌, ◌<◌, length, take};
-ghost use Rattle.rules.specs.Job.{digit_value, hex_of, numbers_of, no_frame, answer_line};
+ghost use Rattle.std.specs.Prelude.{◌≡◌, ◌++◌, ◌+◌, ◌*◌, ◌/◌, ◌%◌, ◌≤◌, ◌<◌, length, take, SomeIff};
+ghost use Rattle.rules.specs.Job.{digit_value, hex_of, four_bytes, numbers_of, no_frame, answer_line};
 ghost use Rattle.lines.specs.Front.{AtFront};
 ghost use Rattle.lines.specs.Lent.{Decoded, FrameAnswered, LineAnswered};
 
 use engine::formatting::{Outcome, format_text};
-use rules::scalars::{hex_digit, wide};
+use rules::scalars::hex_digit;
 
-// The value of a hexadecimal digit of either case, and 16 where the byte is none.
-fn digit_value(b: u8) -> u8
-    ensures { result ≡ digit_value b }
+// The value of a hexadecimal digit of either case.
+#[tactic(auto, unfolding(rules::specs::Job::digit_value))]
+fn digit_value(b: u8) -> Option<u8>
+    ensures { SomeIff result (digit_value b < 16) (digit_value b) }
 {
-    if b < b'0' {
-        return 16;
+    match b {
+        b'0'..=b'9' => Some(b - b'0'),
+        b'A'..=b'F' => Some(b - b'A' + 10),
+        b'a'..=b'f' => Some(b - b'a' + 10),
+        _ => None,
     }
-    if b <= b'9' {
-        return b - b'0';
-    }
-    if b < b'A' {
-        return 16;
-    }
-    if b <= b'F' {
-        return b - 55;
-    }
-    if b < b'a' {
-        return 16;
-    }
-    if b <= b'f' {
-        return b - 87;
-    }
-    16
 }
 
-// Reads the digits of a line, two to a byte, into the front of frame, and answers whether they are digits in pairs.
-fn decode(line: &[u8], frame: &mut [u8]) -> bool
+// Reads the digits of a line, two to a byte, into the front of frame, and answers how many bytes these are, if they are
+// digits in pairs.
+fn decode(line: &[u8], frame: &mut [u8]) -> Option<usize>
     requires { length line.now / 2 ≤ length frame.old }
     ensures { Decoded line.now frame.old frame.new result }
 {
     let count = line.len() / 2;
-    let mut k = 0;
-    while k < count {
-        let high = digit_value(line[2 * k]);
-        let low = digit_value(line[2 * k + 1]);
-        if 16 <= high {
-            return false;
-        }
-        if 16 <= low {
-            return false;
-        }
+    for k in 0..count {
+        let high = digit_value(line[2 * k])?;
+        let low = digit_value(line[2 * k + 1])?;
         frame[k] = high * 16 + low;
-        k += 1;
     }
-    if line.len() % 2 != 0 {
-        return false;
+    if line.len() % 2 == 0 {
+        Some(count)
+    } else {
+        None
     }
-    true
 }
 
 // Writes bytes in hexadecimal from at on, and answers where they end.
@@ -65,42 +47,30 @@ fn write_hex(bytes: &[u8], out: &mut [u8], at: usize) -> usize
     ensures { AtFront out.old out.new (take at out.old ++ hex_of bytes.now) result }
 {
     let mut to = at;
-    let mut k = 0;
-    while k < bytes.len() {
-        let b = bytes[k];
-        out[to] = hex_digit(b / 16);
-        out[to + 1] = hex_digit(b % 16);
+    for byte in bytes {
+        out[to] = hex_digit(*byte / 16);
+        out[to + 1] = hex_digit(*byte % 16);
         to += 2;
-        k += 1;
     }
     to
 }
 
-fn low_byte(n: usize) -> u8
-    ensures { result ≡ n % 256 }
+// The last four bytes of a number, big-endian.
+fn four_bytes(n: usize) -> [u8; 4]
+    ensures { result ≡ four_bytes n }
 {
-    (n % 256) as u8
+    let [_, _, _, _, a, b, c, d] = n.to_be_bytes();
+    [a, b, c, d]
 }
 
-// The numbers of an answer as bytes: the code, and four for each of the others, big-endian.
+// The numbers of an answer as bytes: the code, and four for each of the others.
 fn numbers_of(code: u32, position: usize, steps: usize, written: usize) -> [u8; 13]
     ensures { result ≡ numbers_of code position steps written }
 {
-    [
-        low_byte(code as usize),
-        low_byte(position / 16777216),
-        low_byte(position / 65536),
-        low_byte(position / 256),
-        low_byte(position),
-        low_byte(steps / 16777216),
-        low_byte(steps / 65536),
-        low_byte(steps / 256),
-        low_byte(steps),
-        low_byte(written / 16777216),
-        low_byte(written / 65536),
-        low_byte(written / 256),
-        low_byte(written),
-    ]
+    let [p, q, r, s] = four_bytes(position);
+    let [t, u, v, w] = four_bytes(steps);
+    let [x, y, z, last] = four_bytes(written);
+    [(code % 256) as u8, p, q, r, s, t, u, v, w, x, y, z, last]
 }
 
 // Writes an answer, whose text is lent beside it.
@@ -118,8 +88,7 @@ fn refuse(out: &mut [u8]) -> usize
     requires { 2 ≤ length out.old }
     ensures { AtFront out.old out.new no_frame result }
 {
-    out[0] = b'f';
-    out[1] = b'f';
+    out[..2].copy_from_slice(b"ff");
     2
 }
 
@@ -129,16 +98,16 @@ fn answer_frame(frame: &[u8], text: &mut [u8], out: &mut [u8]) -> usize
     requires in_bounds { 32794 ≤ length out.old }
     ensures { FrameAnswered frame.now text.old text.new out.old out.new result }
 {
-    if frame.len() < 2 {
+    let [high, low, ..] = frame else {
         return refuse(out);
-    }
-    let end = 2 + wide(frame[0]) * 256 + wide(frame[1]);
+    };
+    let end = 2 + usize::from(*high) * 256 + usize::from(*low);
     if frame.len() < end {
         return refuse(out);
     }
     let o = format_text(&frame[2..end], &frame[end..], text);
     let written = o.written;
-    write_answer(o, &text[0..written], out)
+    write_answer(o, &text[..written], out)
 }
 
 // Answers a line, without its newline. The longest answer has 13 bytes of numbers and a text of 16,384, two digits to
@@ -152,11 +121,10 @@ pub fn answer_with(line: &[u8], frame: &mut [u8], text: &mut [u8], out: &mut [u8
     if 65535 < line.len() {
         return refuse(out);
     }
-    if !decode(line, frame) {
-        return refuse(out);
+    match decode(line, frame) {
+        Some(count) => answer_frame(&frame[..count], text, out),
+        None => refuse(out),
     }
-    let count = line.len() / 2;
-    answer_frame(&frame[0..count], text, out)
 }
 
 // The same, with a frame and a text of its own.

@@ -3,8 +3,8 @@ use mathlib.Core.Path.{◌≡◌, refl, sym, ap, ◌∙◌}
 use mathlib.Core.List.{List, ◌++◌}
 use Prim.Native.Nat.{ℕ, ◌+◌, ◌-◌, ◌≤◌}
 use native.Mathlib.Omega.{arith}
-use lib.ListN.{length, take, replicate, length-replicate}
-use lib.Seq.{length-take-le}
+use lib.ListN.{length, replicate, length-append, length-replicate}
+use lib.Seq.{take-append_seam}
 use Rattle.pieces.specs.Bytes.{part, quoted_of, figure_of, content_of, bytes_of, Inside, GoodFigure, Makes, Gives}
 use Rattle.pieces.specs.Given.{StringIn}
 use Rattle.pieces.specs.declared.Content.TheVariants.{Run, Copied, Quoted, Figures, Word}
@@ -27,10 +27,17 @@ lent_length : {start end : ℕ} (t : List ℕ) → start ≤ end → end ≤ len
     → length (part start (end - start) t) ≡ end - start
 lent_length {start} {end} t h k = length_part start (end - start) t (omega arith)
 
--- the part that is lent of a string is short
-pub lent_short : {t : List ℕ} {start end : ℕ} {p : List ℕ} → StringIn t start end → p ≡ part start (end - start) t
-    → length p ≤ 65536
-lent_short {t} s l = omega (arith, ap length l, lent_length t s.order s.inside, s.short)
+pub made_word : (t text rest : List ℕ) → length text ≤ 12
+    → Makes t (record { size = length text; word = text ++ rest; content = Word (length text) }) text
+unfolding content_of Inside
+made_word t text rest h = record {
+  good = record {
+    size = sym (ap length (take-append_seam text rest));
+    small = omega arith;
+    inside = omega (arith, length-append text rest);
+  };
+  is = take-append_seam text rest;
+}
 
 module _ (t word : List ℕ) where
   pub made_run : (byte n : ℕ) → n ≤ 4096
@@ -38,14 +45,6 @@ module _ (t word : List ℕ) where
   unfolding content_of Inside
   made_run byte n h = record {
     good = record { size = sym (length-replicate n byte); small = omega arith; inside = omega arith };
-    is = refl;
-  }
-
-  pub made_word : (n : ℕ) → n ≤ 12 → n ≤ length word
-      → Makes t (record { size = n; word = word; content = Word n }) (take n word)
-  unfolding content_of Inside
-  made_word n h k = record {
-    good = record { size = sym (length-take-le n word k); small = omega arith; inside = k };
     is = refl;
   }
 

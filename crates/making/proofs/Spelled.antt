@@ -3,33 +3,36 @@ use mathlib.Core.Path.{◌≡◌, refl, sym, ap, ◌∙◌}
 use mathlib.Core.Logic.{◌≢◌}
 use mathlib.Core.Bool.{Bool, true, false, cond}
 use mathlib.Core.List.{List, [], ◌∷◌, ◌++◌, append-nil}
-use Prim.Native.Nat.{ℕ, suc, ◌+◌, ◌-◌, ◌/◌, ◌%◌, ◌^◌, ◌≤◌, ◌<◌}
+use Prim.Native.Nat.{ℕ, ◌+◌, ◌-◌, ◌/◌, ◌%◌, ◌≤◌, ◌<◌}
 use native.Mathlib.Omega.{arith}
 use borrow.Author.Tests.{lt-ltb, ne_eqb}
-use lib.Dec.{eqb}
-use lib.IntN.{ℤ, pos, negsuc}
+use lib.IntN.{ℤ}
 use lib.ListN.{length, replicate}
-use mir.Syntax.{w64}
-use mir.Val.{SFits, of_z}
 use Rattle.rules.specs.declared.Place.TheVariants.{Number as NumberPlace}
 use Rattle.rules.specs.Number.{digit_byte, digits_of, magnitude_of, sign_of, pad_left}
-use Rattle.rules.specs.Piece.{or_else, name_of, written_of, bare_of, padding_of, around, digits_in, is_one, text_of}
+use Rattle.rules.specs.Piece.{or_else, name_of, written_of, bare_of, padding_of, around, digits_in, text_of}
 use Rattle.rules.specs.Table.{Value, boolean, integer, character, string, list, meant}
 use Rattle.rules.specs.declared.Argument.{Argument}
 use Rattle.rules.specs.declared.Form.{Form}
-use Rattle.rules.specs.declared.Setting.{Setting}
-use Rattle.rules.specs.declared.Setting.TheVariants.{Absent, Is}
+use Rattle.rules.specs.Setting.{Setting}
+use Rattle.std.specs.Option.{unwrap_or}
+use Rattle.std.specs.Prelude.{None, Some}
 use Rattle.rules.specs.declared.Settings.{Settings}
 use Rattle.rules.proofs.Digits.{digits_one, digits_more}
 use Rattle.pieces.specs.Bytes.{quoted_of, signed, figure_of, digits_in as figure_digits}
 use Rattle.rules.specs.Working.{InPlace}
 use Rattle.making.specs.Texts.{number_of, unnamed_of}
 
--- a parameter with its default, in the range of its place
+-- a parameter with its default, as the library has it
+pub or_else_is : (s : Setting) (d : ℕ) → unwrap_or s d ≡ or_else s d
+or_else_is None d = refl
+or_else_is (Some n) d = refl
+
+-- and in the range of its place
 pub in_range_lem : {least most : ℕ} (s : Setting) (d : ℕ) → InPlace (NumberPlace least most) s → least ≤ d → d ≤ most
     → (least ≤ or_else s d) × (or_else s d ≤ most)
-in_range_lem Absent d a h k = (h, k)
-in_range_lem (Is n) d a h k = a
+in_range_lem None d a h k = (h, k)
+in_range_lem (Some n) d a h k = a
 
 -- the hex digits of a code below 32
 pub hex_one : (c low : ℕ) → c / 16 ≡ 0 → low ≡ digit_byte (c % 16) → low ∷ [] ≡ digits_of 16 c
@@ -84,13 +87,6 @@ module _ (base : ℕ) (colon plus : Bool) (s : Settings) (z : ℤ) (w c : ℕ) w
 
 abbrev pub unpadded : ℕ → Bool → Bool → Settings → ℤ → List ℕ
 unpadded base colon plus s z = sign_of plus z ++ digits_in colon s (digits_of base (magnitude_of z))
-
--- a machine number is 1 where its bits are
-pub one_is : (z : ℤ) → SFits w64 z → eqb (of_z w64 z) 1 ≡ is_one (integer z)
-one_is (pos n) f = refl
-one_is (negsuc n) f =
-    let h : n < 2 ^ 63 = f.sfits in
-    ne_eqb (2 ^ 64 - suc n) 1 (λ e. omega arith)
 
 -- padding
 pub left_is : {w p n size w' p' : ℕ} (text : List ℕ) → n ≡ w - size → w ≡ w' → p ≡ p' → size ≡ length text

@@ -4,7 +4,7 @@ ghost use Rattle.rules.specs.Number.{sign_of};
 ghost use Rattle.pieces.specs.Bytes.{signed, Makes};
 ghost use Rattle.making.specs.Texts.{number_of};
 
-use numbers::{is_negative, magnitude};
+use numbers::magnitude;
 use pieces::figuring::figure_size;
 use pieces::{Body, Content, Figure};
 
@@ -12,13 +12,13 @@ use pieces::{Body, Content, Figure};
 fn sign_byte(plus: bool, x: i64) -> u8
     ensures { signed result ≡ sign_of plus x }
 {
-    if is_negative(x) {
-        return b'-';
+    if x < 0 {
+        b'-'
+    } else if plus && x != 0 {
+        b'+'
+    } else {
+        0
     }
-    if magnitude(x) == 0 {
-        return 0;
-    }
-    if plus { b'+' } else { 0 }
 }
 
 // A number, with + before a positive one or not, in groups of a width that is not 0.
@@ -34,11 +34,9 @@ pub fn figure_body(base: u64, plus: bool, width: usize, comma: u8, x: i64) -> Bo
         width,
         comma,
     };
-    let size = figure_size(figure);
-    let word = [0; 12];
     Body {
-        size,
-        word,
+        size: figure_size(figure),
+        word: [0; 12],
         content: Content::Figures(figure),
     }
 }

@@ -7,20 +7,17 @@ ghost use Rattle.pieces.specs.Bytes.{beside, Makes, Gives};
 ghost use Rattle.rules.specs.Working.{InPlace, InPlaces};
 
 use pieces::{Body, Piece};
-use rules::scalars::number_or;
 use rules::{Setting, Settings};
 
 pub fn byte_or(setting: Setting, default: u8) -> u8
     requires { InPlace CharacterPlace setting }
     ensures { result ≡ or_else setting default }
 {
-    match setting {
-        Setting::Absent => default,
-        Setting::Is(n) => n as u8,
-    }
+    setting.map_or(default, |n| n as u8)
 }
 
-// The padding of ~a and ~s: minpad, and the least multiple of padinc that brings the total to minwidth.
+// The padding of ~a and ~s: minpad, and the least multiple of padinc that brings the total to minwidth. A text that is
+// wide enough, as most are, divides nothing.
 fn padding(minwidth: usize, padinc: usize, minpad: usize, size: usize) -> usize
     requires minwidth_bound { (minwidth ≤ 4096) × (minpad ≤ 4096) }
     requires le_padinc { (1 ≤ padinc) × (padinc ≤ 4096) }
@@ -35,6 +32,13 @@ fn padding(minwidth: usize, padinc: usize, minpad: usize, size: usize) -> usize
     let shortfall = minwidth - least;
     let times = (shortfall + (padinc - 1)) / padinc;
     minpad + times * padinc
+}
+
+// A text with no padding.
+pub fn bare_piece(body: Body) -> Piece
+    ensures { (t text : List ℕ) → Makes t body text → Gives t result text }
+{
+    padded_piece(body, 0, 0, b' ')
 }
 
 // A text with padding on its two sides.
@@ -56,17 +60,14 @@ pub fn around(atsign: bool, settings: Settings, body: Body) -> Piece
     requires size_bound { body.size ≤ 131074 }
     ensures { (t text : List ℕ) → Makes t body text → Gives t result (around_of atsign settings text) }
 {
-    let first = settings.first;
-    let second = settings.second;
-    let third = settings.third;
-    let fourth = settings.fourth;
-    let minwidth = number_or(first, 0);
-    let padinc = number_or(second, 1);
-    let minpad = number_or(third, 0);
-    let pad = byte_or(fourth, b' ');
+    let minwidth = settings.first.unwrap_or(0);
+    let padinc = settings.second.unwrap_or(1);
+    let minpad = settings.third.unwrap_or(0);
+    let pad = byte_or(settings.fourth, b' ');
     let count = padding(minwidth, padinc, minpad, body.size);
     if atsign {
-        return padded_piece(body, count, 0, pad);
+        padded_piece(body, count, 0, pad)
+    } else {
+        padded_piece(body, 0, count, pad)
     }
-    padded_piece(body, 0, count, pad)
 }

@@ -1,12 +1,12 @@
 -- Moves: one that is over, one that goes on, and what each block makes of them. Assumes nothing.
-use Prim.Native.Nat.{ℕ, zero, suc, ◌+◌, ◌-◌, ◌<◌, ◌≤◌}
+use Prim.Native.Nat.{ℕ, ◌+◌, ◌-◌, ◌<◌, ◌≤◌}
 use mathlib.Core.Path.{◌≡◌, refl, sym, ap, subst, ◌∙◌}
 use mathlib.Core.Bool.{Bool, true, false}
 use mathlib.Core.List.{List, ◌∷◌}
 use native.Mathlib.Omega.{arith}
 use lib.Dec.{leb}
 use lib.ListN.{length}
-use borrow.Author.Tests.{le-leb, leb-true, eq-eqb, ne_eqb}
+use borrow.Author.Tests.{le-leb, leb-true}
 use Rattle.rules.specs.Flow.{Flow, done, refused, given_text}
 use Rattle.rules.specs.Table.{view_of, table_verdict, entry_count}
 use Rattle.rules.specs.Text.{Level, Sequence, end, innermost, outer, levels_at}
@@ -14,9 +14,13 @@ use Rattle.rules.specs.Working.{Context, none_remain}
 use Rattle.rules.specs.Choice.{either}
 use Rattle.rules.specs.Run.{Frame, iteration, conditional, afterwards, used_up, one_less, begin, run}
 use Rattle.rules.specs.declared.ArgumentPosition.{ArgumentPosition}
-use Rattle.rules.specs.declared.Setting.{Setting}
-use Rattle.rules.specs.declared.Setting.TheVariants.{Absent, Is}
-use Rattle.rules.specs.declared.Verdict.TheVariants.{Accepted}
+use Rattle.rules.specs.Setting.{Setting}
+use Rattle.std.specs.Prelude.{Option, None, Some, Result, ⊤}
+use Rattle.rules.specs.Refusals.{code_of}
+use Rattle.rules.specs.declared.refusal.Fault.{Fault}
+use Rattle.rules.specs.declared.refusal.Refusal.{Refusal}
+use Rattle.rules.specs.declared.refusal.Refusal.TheVariants.{StepLimit}
+use Rattle.rules.specs.Verdict.{Accepted}
 use Rattle.rules.proofs.Reading.{item_end}
 use Rattle.rules.proofs.RunLaws.{begin_yes, begin_no, run_done, run_clause_end, run_passes_over, run_pass}
 use Rattle.syntax.specs.Ends.{AfterBlock}
@@ -27,16 +31,16 @@ use Rattle.parameters.proofs.WorkLaws.{hand_small}
 use Rattle.running.specs.Runs.{rest_at}
 use Rattle.running.proofs.Places.{end_at}
 use Rattle.nesting.specs.declared.moves.Here.{Here}
-use Rattle.nesting.specs.declared.moves.How.{How}
-use Rattle.nesting.specs.declared.moves.How.TheVariants.{On, Over}
 use Rattle.nesting.specs.declared.moves.Moved.{Moved}
 use Rattle.nesting.specs.declared.nests.Block.{Block}
+use Rattle.nesting.specs.declared.nests.Kind.{Kind}
+use Rattle.nesting.specs.declared.nests.Kind.TheVariants.{Conditional, OverList, OverArguments}
 use Rattle.nesting.specs.declared.nests.Nest.{Nest}
 use Rattle.nesting.specs.Nest.{block_at, frame_of, frames_of, hand_lies, block_lies, Pushes, Fits, FitsPasses}
-use Rattle.nesting.specs.Moves.{here_at, over_at, told, told_over, comes, Sound, weight, Moves, Closes, Passing, outside_by, ends_block, after_block}
+use Rattle.nesting.specs.Moves.{here_at, on_at, over_at, ended_at, refused_at, told, told_over, told_end, comes, Sound, weight, Moves, Closes, Passing, outside_by, ends_block, after_block}
 use Rattle.nesting.proofs.NestLaws.{fewer, frames_pushed, lie_pushed, frames_top, lie_top}
 
-over_on : {code p : ℕ} → ◌≡◌ {A = How} (Over code p) On → ⊥
+over_on : {out : Result ⊤ Fault} → ◌≡◌ {A = Option (Result ⊤ Fault)} (Some out) None → ⊥
 over_on e = let z : ◌≡◌ {A = ℕ} 0 1 = cc in omega arith
 
 -- arguments that lie in an accepted table
@@ -60,15 +64,15 @@ unfolding given_text
 told_done left over = refl
 
 module _ (t table : List ℕ) {f : Flow} {left heavy : ℕ} where
-  pub moves_over : {code p : ℕ} {h : Here} {o : Nest} {r : Moved} → r ≡ over_at code p h o → told f ≡ told_over code p h.left → h.left ≤ left → Moves t table f left heavy r
-  moves_over {code} {p} {h} {o} {r} q e l =
+  pub moves_over : {out : Result ⊤ Fault} {h : Here} {o : Nest} {r : Moved} → r ≡ over_at out h o → told f ≡ told_end out h.left → h.left ≤ left → Moves t table f left heavy r
+  moves_over {out} {h} {o} {r} q e l =
       subst (Moves t table f left heavy) (sym q)
       (record { same = e; steps = l; sound = λ z. absurd (over_on z); falls = λ z. absurd (over_on z) })
 
-  pub moves_refused : {code p : ℕ} {h : Here} {o : Nest} {r : Moved} → r ≡ over_at code p h o → f ≡ refused code p h.left → h.left ≤ left → Moves t table f left heavy r
-  moves_refused {code} {p} {h} q e l = moves_over q (ap told e ∙ told_refused code p h.left) l
+  pub moves_refused : {refusal : Refusal} {p : ℕ} {h : Here} {o : Nest} {r : Moved} → r ≡ refused_at refusal p h o → f ≡ refused (code_of refusal) p h.left → h.left ≤ left → Moves t table f left heavy r
+  moves_refused {refusal} {p} {h} q e l = moves_over q (ap told e ∙ told_refused (code_of refusal) p h.left) l
 
-  pub moves_on : {h : Here} {o : Nest} {r : Moved} → r ≡ record { how = On; here = h; nest = o } → f ≡ comes t table h o → h.left ≤ left → Sound (length t) table h o
+  pub moves_on : {h : Here} {o : Nest} {r : Moved} → r ≡ on_at h o → f ≡ comes t table h o → h.left ≤ left → Sound (length t) table h o
       → weight h o < heavy → Moves t table f left heavy r
   moves_on {h} {o} q e l s w =
       subst (Moves t table f left heavy) (sym q) (record { same = ap told e; steps = l; sound = λ _. s; falls = λ _. w })
@@ -82,21 +86,21 @@ pub end_rest : (t : List ℕ) → rest_at (levels_at t) (length t) ≡ end
 end_rest t = end_at t (length t) (item_end t (length t) (omega arith))
 
 -- the frame of a block by its kind
-pub clause_frame : (s : ℕ → List Level) (b : Block) → b.kind ≡ 0 → frame_of s b ≡ conditional (innermost (outer (s b.inside))).rest
+pub clause_frame : (s : ℕ → List Level) (b : Block) → b.kind ≡ Conditional → frame_of s b ≡ conditional (innermost (outer (s b.inside))).rest
 clause_frame s b q = rw q refl
 
-pub loop_frame : (s : ℕ → List Level) (b : Block) → 0 < b.kind
+pub loop_frame : (s : ℕ → List Level) (b : Block) → (b.kind ≡ Conditional → ⊥)
     → frame_of s b ≡ iteration b.place b.passes (rest_at s b.inside) (innermost (outer (s b.inside))).rest (outside_by b.kind b)
 loop_frame s b h = by b.kind refl
   where
-    by : (k : ℕ) → b.kind ≡ k → frame_of s b ≡ iteration b.place b.passes (rest_at s b.inside) (innermost (outer (s b.inside))).rest (outside_by b.kind b)
-    by zero q = absurd (omega arith)
-    by (suc zero) q = rw q refl
-    by (suc (suc k)) q = rw (q, ne_eqb (suc (suc k)) 1 (λ e. omega (arith, e))) refl
+    by : (k : Kind) → b.kind ≡ k → frame_of s b ≡ iteration b.place b.passes (rest_at s b.inside) (innermost (outer (s b.inside))).rest (outside_by b.kind b)
+    by Conditional q = absurd (h q)
+    by OverList q = rw q refl
+    by OverArguments q = rw q refl
 
 -- a block is opened
 module _ (t table : List ℕ) {f : Flow} {left heavy : ℕ} {h : Here} {o o' : Nest} {b : Block} {r : Moved} where
-  pub moves_in : r ≡ record { how = On; here = h; nest = o' } → Pushes o b o'
+  pub moves_in : r ≡ on_at h o' → Pushes o b o'
       → f ≡ run (view_of table) h.left (rest_at (levels_at t) h.place) (frame_of (levels_at t) b ∷ frames_of (levels_at t) o o.depth) (hand_at h.hand h.next.0)
       → h.left ≤ left → Sound (length t) table h o → o.depth < 8 → block_lies (length t) table b ≡ true → weight h o + 1 < heavy → Moves t table f left heavy r
   moves_in q p e l s d y w =
@@ -127,14 +131,13 @@ module _ (t table : List ℕ) {f : Flow} {left heavy inside : ℕ} {h : Here} {h
 
 -- the numbers of a block that is written down
 module _ (t table : List ℕ) (b : Block) where
-  pub fits : table_verdict table ≡ Accepted → length t ≤ 4096 → block_lies (length t) table b ≡ true → b.kind ≤ 65535 → b.place ≤ 65535 → FitsPasses b.passes → Fits b
-  fits a n l k p q =
+  pub fits : table_verdict table ≡ Accepted → length t ≤ 4096 → block_lies (length t) table b ≡ true → b.place ≤ 65535 → FitsPasses b.passes → Fits b
+  fits a n l p q =
       let y = both_true (leb b.inside (length t)) (hand_lies table b.hand b.next.0) l in
       let i = leb-true b.inside (length t) y.0 in
       let c = next_in table b.hand b.next.0 y.1 in
       let z = hand_small (hand_in table b.hand b.next.0 a y.1) in
       record {
-        kind = k;
         place = p;
         inside = omega (arith, i, n);
         passes = q;
@@ -144,25 +147,22 @@ module _ (t table : List ℕ) (b : Block) where
       }
 
 -- after a block
-pub closes_is : {t : List ℕ} {inside left place : ℕ} {hand : Hand} {next : ArgumentPosition} {o : Nest} (h : Here) → h ≡ here_at place left hand next → AfterBlock t inside place
-    → Closes t inside left hand next o (record { how = On; here = h; nest = o })
-closes_is {t} {inside} {left} {place} {hand} {next} {o} h q a =
-    let p : h.place ≡ place = ap (λ (x : Here). x.place) q in
-    record {
-      is = ap (λ (x : Here). ◌is x) (q ∙ ap (λ (x : ℕ). here_at x left hand next) (sym p));
-      after = rw p a.is;
-      most = rw p a.most;
-    }
-  where
-    ◌is : Here → Moved
-    ◌is x = record { how = On; here = x; nest = o }
+pub closes_is : {t : List ℕ} {inside left place : ℕ} {hand : Hand} {next : ArgumentPosition} {o : Nest} {r : Moved} → r ≡ on_at (here_at place left hand next) o → AfterBlock t inside place
+    → Closes t inside left hand next o r
+closes_is {t} {inside} {left} {place} {hand} {next} {o} q a =
+    subst (Closes t inside left hand next o) (sym q) (record { is = refl; after = a.is; most = a.most })
 
 -- an iteration that is over: the arguments in hand after it
-after_list : (b : Block) (c : Context) → b.kind ≡ 1 → afterwards (outside_by b.kind b) c ≡ hand_at b.hand b.next.0
-after_list b c q = rw (eq-eqb b.kind 1 q) refl
+after_list : (b : Block) (c : Context) → b.kind ≡ OverList → afterwards (outside_by b.kind b) c ≡ hand_at b.hand b.next.0
+after_list b c q = rw q refl
 
-after_same : (b : Block) (c : Context) → (b.kind ≡ 1 → ⊥) → afterwards (outside_by b.kind b) c ≡ c
-after_same b c q = rw (ne_eqb b.kind 1 q) refl
+after_same : (b : Block) (c : Context) → (b.kind ≡ OverList → ⊥) → afterwards (outside_by b.kind b) c ≡ c
+after_same b c h = by b.kind refl
+  where
+    by : (k : Kind) → b.kind ≡ k → afterwards (outside_by b.kind b) c ≡ c
+    by OverList q = absurd (h q)
+    by Conditional q = rw q refl
+    by OverArguments q = rw q refl
 
 module _ (t table : List ℕ) (h : Here) (b : Block) (o : Nest) (p : Passing t table h b o) where
   block_hand : hand_lies table b.hand b.next.0 ≡ true
@@ -171,13 +171,13 @@ module _ (t table : List ℕ) (h : Here) (b : Block) (o : Nest) (p : Passing t t
   pub block_inside : b.inside ≤ length t
   block_inside = leb-true b.inside (length t) (both_true (leb b.inside (length t)) (hand_lies table b.hand b.next.0) p.lies).0
 
-  pub closes_list : {r : Moved} → b.kind ≡ 1 → Closes t b.inside h.left b.hand b.next o r → Moves t table (after_block t table h b o) h.left (weight h o + 1) r
+  pub closes_list : {r : Moved} → b.kind ≡ OverList → Closes t b.inside h.left b.hand b.next o r → Moves t table (after_block t table h b o) h.left (weight h o + 1) r
   closes_list q c =
       moves_out t table {h = h} c
       (ap (λ (x : Context). run (view_of table) h.left (innermost (outer (levels_at t b.inside))).rest (frames_of (levels_at t) o o.depth) x) (after_list b _ q))
       (omega arith) p.sound block_hand (omega arith)
 
-  pub closes_same : {r : Moved} → (b.kind ≡ 1 → ⊥) → Closes t b.inside h.left h.hand h.next o r → Moves t table (after_block t table h b o) h.left (weight h o + 1) r
+  pub closes_same : {r : Moved} → (b.kind ≡ OverList → ⊥) → Closes t b.inside h.left h.hand h.next o r → Moves t table (after_block t table h b o) h.left (weight h o + 1) r
   closes_same q c =
       moves_out t table {h = h} c
       (ap (λ (x : Context). run (view_of table) h.left (innermost (outer (levels_at t b.inside))).rest (frames_of (levels_at t) o o.depth) x) (after_same b _ q))
@@ -202,7 +202,7 @@ module _ (t table : List ℕ) (h : Here) (b : Block) (o : Nest) (p : Passing t t
     begins : ends ≡ begin b.place h.left (λ m. run (view_of table) m (rest_at (levels_at t) b.inside) (iteration b.place (one_less b.passes) (rest_at (levels_at t) b.inside) (innermost (outer (levels_at t b.inside))).rest (outside_by b.kind b) ∷ frames_of (levels_at t) o o.depth) (hand_at h.hand h.next.0))
     begins = looped ∙ run_pass (view_of table) (hand_at h.hand h.next.0) b.place b.passes _ _ (outside_by b.kind b) _ h.left q
 
-    pub pass_none : {r : Moved} → h.left ≡ 0 → r ≡ over_at 9 b.place h o → Moves t table ends h.left (weight h o + 1) r
+    pub pass_none : {r : Moved} → h.left ≡ 0 → r ≡ refused_at StepLimit b.place h o → Moves t table ends h.left (weight h o + 1) r
     pass_none z e = moves_refused t table e (begins ∙ begin_no b.place h.left _ z) (omega arith)
 
     abbrev again : Setting → Block
@@ -211,17 +211,16 @@ module _ (t table : List ℕ) (h : Here) (b : Block) (o : Nest) (p : Passing t t
     pub again_fits : (passes : Setting) → passes ≡ one_less b.passes → Fits (again passes)
     again_fits passes y =
         let f = p.fits in
-        record { kind = f.kind; place = f.place; inside = f.inside; passes = rw y (fewer_passes b.passes f.passes); first = f.first; count = f.count; next = f.next }
+        record { place = f.place; inside = f.inside; passes = rw y (fewer_passes b.passes f.passes); first = f.first; count = f.count; next = f.next }
       where
         fewer_passes : (x : Setting) → FitsPasses x → FitsPasses (one_less x)
-        fewer_passes Absent z = tt
-        fewer_passes (Is n) z = omega (arith, z)
+        fewer_passes None z = tt
+        fewer_passes (Some n) z = omega (arith, z)
 
-    pub pass_again : (h.left ≡ 0 → ⊥) → {r : Moved} {passes : Setting} {x : Here} {o' : Nest} → passes ≡ one_less b.passes → x ≡ here_at b.inside (h.left - 1) h.hand h.next → Pushes o (again passes) o'
-        → r ≡ record { how = On; here = x; nest = o' } → Moves t table ends h.left (weight h o + 1) r
-    pass_again z {r} {passes} {x} {o'} y w u e =
-        moves_in t table {h = here_at b.inside (h.left - 1) h.hand h.next}
-        (e ∙ ap (λ (k : Here). record { how = On; here = k; nest = o' }) w) u
+    pub pass_again : (h.left ≡ 0 → ⊥) → {r : Moved} {passes : Setting} {o' : Nest} → passes ≡ one_less b.passes → Pushes o (again passes) o'
+        → r ≡ on_at (here_at b.inside (h.left - 1) h.hand h.next) o' → Moves t table ends h.left (weight h o + 1) r
+    pass_again z {r} {passes} {o'} y u e =
+        moves_in t table {h = here_at b.inside (h.left - 1) h.hand h.next} e u
         (begins ∙ begin_yes b.place h.left _ z
         ∙ ap (λ (k : Setting). run (view_of table) (h.left - 1) (rest_at (levels_at t) b.inside) (iteration b.place k (rest_at (levels_at t) b.inside) (innermost (outer (levels_at t b.inside))).rest (outside_by b.kind b) ∷ frames_of (levels_at t) o o.depth) (hand_at h.hand h.next.0)) (sym y)
         ∙ ap (λ (k : Frame). run (view_of table) (h.left - 1) (rest_at (levels_at t) b.inside) (k ∷ frames_of (levels_at t) o o.depth) (hand_at h.hand h.next.0)) (sym (loop_frame (levels_at t) (again passes) p.loops)))
@@ -234,7 +233,7 @@ module _ (t table : List ℕ) (h : Here) (o : Nest) where
   abbrev here : ℕ → Sequence → List Frame → Flow
   here left x ks = run (view_of table) left x ks (hand_at h.hand h.next.0)
 
-  pub ends_run : {r : Moved} → rest_at (levels_at t) h.place ≡ end → o.depth ≡ 0 → r ≡ over_at 0 0 h o → Moves t table (comes t table h o) h.left (weight h o) r
+  pub ends_run : {r : Moved} → rest_at (levels_at t) h.place ≡ end → o.depth ≡ 0 → r ≡ ended_at h o → Moves t table (comes t table h o) h.left (weight h o) r
   unfolding frames_of
   ends_run e z q =
       moves_over t table q
@@ -248,7 +247,7 @@ module _ (t table : List ℕ) (h : Here) (o : Nest) where
         leb-true b.inside (length t)
         (both_true (leb b.inside (length t)) (hand_lies table b.hand b.next.0) (ap (block_lies (length t) table) q ∙ (lie_top o z (length t) table s.blocks).0)).0
 
-    pub passing : {b : Block} {k : Nest} → table_verdict table ≡ Accepted → b ≡ block_at o (o.depth - 1) → Fits b → k ≡ fewer o → 0 < b.kind → Passing t table h b k
+    pub passing : {b : Block} {k : Nest} → table_verdict table ≡ Accepted → b ≡ block_at o (o.depth - 1) → Fits b → k ≡ fewer o → (b.kind ≡ Conditional → ⊥) → Passing t table h b k
     passing {b} {k} a q f u l =
         subst (Passing t table h b) (sym u)
         (record {
@@ -274,7 +273,7 @@ module _ (t table : List ℕ) (h : Here) (o : Nest) where
       pub ends_pass : {r : Moved} → Moves t table (ends_block t table h b k) h.left (weight h k + 1) r → Moves t table (comes t table h o) h.left (weight h o) r
       ends_pass m = moves_as t table inside_top (omega arith) (omega (arith, lighter)) m
 
-      pub ends_clause : {r : Moved} → b.kind ≡ 0 → Closes t b.inside h.left h.hand h.next k r → Moves t table (comes t table h o) h.left (weight h o) r
+      pub ends_clause : {r : Moved} → b.kind ≡ Conditional → Closes t b.inside h.left h.hand h.next k r → Moves t table (comes t table h o) h.left (weight h o) r
       ends_clause y c =
           moves_out t table {h = h} c
           (inside_top ∙ ap (λ (x : Frame). here h.left end (x ∷ frames_of (levels_at t) k k.depth)) (clause_frame (levels_at t) b y)

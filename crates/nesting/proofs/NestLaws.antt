@@ -5,39 +5,32 @@ use mathlib.Core.Bool.{Bool, true}
 use mathlib.Core.List.{List, ◌∷◌}
 use native.Mathlib.Numerals.{add-one}
 use native.Mathlib.Omega.{arith}
-use lib.ListN.{length, get_or, set}
+use lib.ListN.{length, set}
 use lib.Seq.{get_or-set_same, get_or-set_other}
 use borrow.Author.Tests.{ne_eqb}
 use Rattle.rules.specs.Choice.{both}
 use Rattle.rules.specs.Text.{Level}
 use Rattle.rules.specs.Run.{Frame}
-use Rattle.rules.specs.declared.Setting.{Setting}
-use Rattle.rules.specs.declared.Setting.TheVariants.{Is}
+use Rattle.std.specs.Prelude.{Some}
 use Rattle.nesting.specs.declared.nests.Block.{Block}
 use Rattle.nesting.specs.declared.nests.Nest.{Nest}
 use Rattle.rules.proofs.Tests.{both_true, true_both}
-use Rattle.nesting.specs.Nest.{passes_of, block_at, frame_of, frames_of, block_lies, all_lie, Pushes}
+use Rattle.nesting.specs.Nest.{kind_by, passes_of, block_at, cut, frame_of, frames_of, block_lies, all_lie, Pushes}
 
 -- a number of passes that is limited
-pub limits : (n : ℕ) → (n ≡ 65535 → ⊥) → passes_of n ≡ Is n
+pub limits : (n : ℕ) → (n ≡ 65535 → ⊥) → passes_of n ≡ Some n
 limits n h = rw (ne_eqb n 65535 h)
 
-pub limited : (n : ℕ) → n < 65535 → passes_of n ≡ Is n
+pub limited : (n : ℕ) → n < 65535 → passes_of n ≡ Some n
 limited n h = limits n (λ q. omega (arith, q))
 
--- a block by its numbers
-pub block_is : (o : Nest) (i : ℕ) {kind place inside first count next : ℕ} {passes : Setting} → kind ≡ get_or o.kinds i 0 → place ≡ get_or o.places i 0 → inside ≡ get_or o.insides i 0
-    → passes ≡ passes_of (get_or o.passes i 0) → first ≡ get_or o.starts i 0 → count ≡ get_or o.counts i 0 → next ≡ get_or o.positions i 0
-    → ◌≡◌ {A = Block} (record { kind = kind; place = place; inside = inside; passes = passes; hand = record { first = record { 0 = first }; count = count }; next = record { 0 = next } }) (block_at o i)
-block_is o i k p s n f c j = rw (k, p, s, n, f, c, j) refl
-
 -- the block is written behind the open ones
-module _ (o : Nest) (b : Block) (passes : ℕ) where
+module _ (o : Nest) (b : Block) (kind passes : ℕ) where
   abbrev more : Nest
   more =
       record {
         depth = o.depth + 1;
-        kinds = set o.kinds o.depth b.kind;
+        kinds = set o.kinds o.depth kind;
         places = set o.places o.depth b.place;
         insides = set o.insides o.depth b.inside;
         passes = set o.passes o.depth passes;
@@ -46,25 +39,26 @@ module _ (o : Nest) (b : Block) (passes : ℕ) where
         positions = set o.positions o.depth b.next.0;
       }
 
-  pub pushes : passes_of passes ≡ b.passes → o.depth < 8 → length o.kinds ≡ 8 → length o.places ≡ 8 → length o.insides ≡ 8 → length o.passes ≡ 8
+  pub pushes : kind_by kind ≡ b.kind → passes_of passes ≡ b.passes → o.depth < 8 → length o.kinds ≡ 8 → length o.places ≡ 8 → length o.insides ≡ 8 → length o.passes ≡ 8
       → length o.starts ≡ 8 → length o.counts ≡ 8 → length o.positions ≡ 8 → Pushes o b more
-  pushes q r k p i n s c j =
+  pushes w q r k p i n s c j =
       record {
         depth = refl;
         block =
             rw (
-              get_or-set_same o.kinds o.depth b.kind 0 (omega (arith, r, k)),
+              get_or-set_same o.kinds o.depth kind 0 (omega (arith, r, k)),
               get_or-set_same o.places o.depth b.place 0 (omega (arith, r, p)),
               get_or-set_same o.insides o.depth b.inside 0 (omega (arith, r, i)),
               get_or-set_same o.passes o.depth passes 0 (omega (arith, r, n)),
               get_or-set_same o.starts o.depth b.hand.first.0 0 (omega (arith, r, s)),
               get_or-set_same o.counts o.depth b.hand.count 0 (omega (arith, r, c)),
               get_or-set_same o.positions o.depth b.next.0 0 (omega (arith, r, j)),
+              w,
               q,
             ) refl;
         others = λ x h.
             rw (
-              get_or-set_other o.kinds o.depth x b.kind 0 (λ e. omega (arith, e)),
+              get_or-set_other o.kinds o.depth x kind 0 (λ e. omega (arith, e)),
               get_or-set_other o.places o.depth x b.place 0 (λ e. omega (arith, e)),
               get_or-set_other o.insides o.depth x b.inside 0 (λ e. omega (arith, e)),
               get_or-set_other o.passes o.depth x passes 0 (λ e. omega (arith, e)),
@@ -110,7 +104,7 @@ module _ {o r : Nest} {b : Block} (p : Pushes o b r) where
 
 -- the open blocks without the innermost
 abbrev pub fewer : Nest → Nest
-fewer o = record { depth = o.depth - 1; kinds = o.kinds; places = o.places; insides = o.insides; passes = o.passes; starts = o.starts; counts = o.counts; positions = o.positions }
+fewer o = cut o (o.depth - 1)
 
 module _ (o : Nest) (h : (o.depth ≡ 0 → ⊥)) where
   depth_is : o.depth ≡ suc (o.depth - 1)

@@ -1,33 +1,46 @@
 -- Where a run stands among its open blocks, what comes from there, and what a move promises. Assumes nothing: these are
 -- definitions.
-use Rattle.std.specs.Prelude.{ℕ, ◌+◌, ◌-◌, ◌≤◌, ◌<◌, ◌≡◌, Bool, true, cond, List, [], ◌∷◌, eqb, length}
+use Rattle.std.specs.Prelude.{ℕ, ◌+◌, ◌-◌, ◌≤◌, ◌<◌, ◌≡◌, Bool, true, cond, List, [], ◌∷◌, Option, None, Some, Result, Ok, Err, ⊤, length}
+use Rattle.rules.specs.Refusals.{code_of}
 use Rattle.rules.specs.Flow.{Flow, limit, given_text, Finish, finish_of}
 use Rattle.rules.specs.Table.{view_of, table_verdict}
 use Rattle.rules.specs.Text.{end, levels_at, innermost, outer}
 use Rattle.rules.specs.Run.{run, Outside, same_arguments, other, afterwards}
 use Rattle.rules.specs.declared.ArgumentPosition.{ArgumentPosition}
 use Rattle.rules.specs.declared.Directive.{Directive}
-use Rattle.rules.specs.declared.Verdict.TheVariants.{Accepted}
+use Rattle.rules.specs.declared.refusal.Fault.{Fault}
+use Rattle.rules.specs.declared.refusal.Refusal.{Refusal}
+use Rattle.rules.specs.Verdict.{Accepted}
 use Rattle.parameters.specs.Settling.{hand_at}
 use Rattle.parameters.specs.declared.arguments.Hand.{Hand}
 use Rattle.running.specs.Runs.{rest_at}
 use Rattle.nesting.specs.declared.moves.Here.{Here}
-use Rattle.nesting.specs.declared.moves.How.{How}
-use Rattle.nesting.specs.declared.moves.How.TheVariants.{On, Over}
 use Rattle.nesting.specs.declared.moves.Moved.{Moved}
 use Rattle.nesting.specs.declared.nests.Block.{Block}
+use Rattle.nesting.specs.declared.nests.Kind.{Kind}
+use Rattle.nesting.specs.declared.nests.Kind.TheVariants.{Conditional, OverList, OverArguments}
 use Rattle.nesting.specs.declared.nests.Nest.{Nest}
 use Rattle.nesting.specs.Nest.{frame_of, frames_of, Fits, hand_lies, block_lies, all_lie}
 
 abbrev pub here_at : ℕ → ℕ → Hand → ArgumentPosition → Here
 here_at place left hand next = record { place = place; left = left; hand = hand; next = next }
 
-abbrev pub over_at : ℕ → ℕ → Here → Nest → Moved
-over_at code p h o = record { how = Over code p; here = h; nest = o }
+-- a run that goes on, and one that is over: at its end, or refused
+abbrev pub on_at : Here → Nest → Moved
+on_at h o = record { over = None; here = h; nest = o }
+
+abbrev pub over_at : Result ⊤ Fault → Here → Nest → Moved
+over_at out h o = record { over = Some out; here = h; nest = o }
+
+abbrev pub ended_at : Here → Nest → Moved
+ended_at h o = over_at (Ok tt) h o
+
+abbrev pub refused_at : Refusal → ℕ → Here → Nest → Moved
+refused_at refusal p h o = over_at (Err (record { refusal = refusal; position = p })) h o
 
 -- the kind of an iteration, with `@` or not
-abbrev pub kind_of : Bool → ℕ
-kind_of atsign = cond atsign 2 1
+abbrev pub kind_of : Bool → Kind
+kind_of atsign = cond atsign OverArguments OverList
 
 -- what a flow gives, and how it ends
 pub record Told : Type 0 where
@@ -41,18 +54,22 @@ told f = record { bytes = given_text f; finish = finish_of f }
 abbrev pub told_over : ℕ → ℕ → ℕ → Told
 told_over code p left = record { bytes = []; finish = record { code = code; position = p; steps = limit - left } }
 
+abbrev pub told_end : Result ⊤ Fault → ℕ → Told
+told_end (Ok u) left = told_over 0 0 left
+told_end (Err f) left = told_over (code_of f.refusal) f.position left
+
 -- what comes from a place of the text t, over the table, inside the open blocks
 abbrev pub comes : List ℕ → List ℕ → Here → Nest → Flow
 comes t table h o =
     run (view_of table) h.left (rest_at (levels_at t) h.place) (frames_of (levels_at t) o o.depth) (hand_at h.hand h.next.0)
 
 -- what comes after a move
-abbrev pub told_by : How → Told → ℕ → Told
-told_by On x left = x
-told_by (Over code p) x left = told_over code p left
+abbrev pub told_by : Option (Result ⊤ Fault) → Told → ℕ → Told
+told_by None x left = x
+told_by (Some out) x left = told_end out left
 
 abbrev pub reached : List ℕ → List ℕ → Moved → Told
-reached t table r = told_by r.how (told (comes t table r.here r.nest)) r.here.left
+reached t table r = told_by r.over (told (comes t table r.here r.nest)) r.here.left
 
 -- all numbers are in range: of a text of n bytes that is not too long, of the table, of steps and of levels
 pub record Sound (n : ℕ) (table : List ℕ) (h : Here) (o : Nest) : Type 0 where
@@ -71,8 +88,12 @@ weight h o = h.left + h.left + o.depth
 pub record Moves (t table : List ℕ) (f : Flow) (left heavy : ℕ) (r : Moved) : Type 0 where
   pub same : told f ≡ reached t table r
   pub steps : r.here.left ≤ left
-  pub sound : r.how ≡ On → Sound (length t) table r.here r.nest
-  pub falls : r.how ≡ On → weight r.here r.nest < heavy
+  pub sound : r.over ≡ None → Sound (length t) table r.here r.nest
+  pub falls : r.over ≡ None → weight r.here r.nest < heavy
+
+-- and from where the run stands
+abbrev pub MovesHere : List ℕ → List ℕ → Here → Nest → Moved → Type 0
+MovesHere t table h o r = Moves t table (comes t table h o) h.left (weight h o) r
 
 -- a block may be opened by d
 pub record Ready (t table : List ℕ) (h : Here) (o : Nest) (d : Directive) : Type 0 where
@@ -83,7 +104,7 @@ pub record Ready (t table : List ℕ) (h : Here) (o : Nest) (d : Directive) : Ty
 
 -- the run goes on after the block whose inside is at a place
 pub record Closes (t : List ℕ) (inside left : ℕ) (hand : Hand) (next : ArgumentPosition) (o : Nest) (r : Moved) : Type 0 where
-  pub is : r ≡ record { how = On; here = here_at r.here.place left hand next; nest = o }
+  pub is : r ≡ on_at (here_at r.here.place left hand next) o
   pub after : levels_at t r.here.place ≡ outer (levels_at t inside)
   pub most : r.here.place ≤ length t
 
@@ -92,7 +113,7 @@ pub record Passing (t table : List ℕ) (h : Here) (b : Block) (o : Nest) : Type
   pub accepted : table_verdict table ≡ Accepted
   pub sound : Sound (length t) table h o
   pub level : o.depth < 8
-  pub loops : 0 < b.kind
+  pub loops : b.kind ≡ Conditional → ⊥
   pub lies : block_lies (length t) table b ≡ true
   pub fits : Fits b
 
@@ -102,8 +123,13 @@ ends_block t table h b o =
     run (view_of table) h.left end (frame_of (levels_at t) b ∷ frames_of (levels_at t) o o.depth) (hand_at h.hand h.next.0)
 
 -- the arguments in hand outside it
-abbrev pub outside_by : ℕ → Block → Outside
-outside_by kind b = cond (eqb kind 1) (other (hand_at b.hand b.next.0)) same_arguments
+abbrev pub after_kind : Kind → Outside → Outside
+after_kind Conditional x = same_arguments
+after_kind OverList x = x
+after_kind OverArguments x = same_arguments
+
+abbrev pub outside_by : Kind → Block → Outside
+outside_by kind b = after_kind kind (other (hand_at b.hand b.next.0))
 
 -- and what comes after it
 abbrev pub after_block : List ℕ → List ℕ → Here → Block → Nest → Flow

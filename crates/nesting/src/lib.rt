@@ -2,5 +2,6 @@
 // escape leaves it. Nothing is written here.
 #![tactic(auto)]
 
+pub mod inputs;
 pub mod moves;
 pub mod nests;

@@ -2,25 +2,26 @@
 // says where the run goes on or how it is over.
 ghost use Rattle.std.specs.Prelude.{◌≡◌, true, ℕ, ◌+◌, ◌≤◌, ◌<◌, length};
 ghost use Rattle.rules.specs.Directive.{item_at};
-ghost use Rattle.rules.specs.Table.{view_of, table_verdict};
+ghost use Rattle.rules.specs.Table.{view_of};
 ghost use Rattle.rules.specs.Text.{end, levels_at};
 ghost use Rattle.rules.specs.declared.Item.TheVariants.{Written};
-ghost use Rattle.rules.specs.declared.Verdict.TheVariants.{Accepted};
 ghost use Rattle.parameters.specs.Settling.{hand_at};
 ghost use Rattle.running.specs.Runs.{rest_at, leaving, picking, entering, opening};
 ghost use Rattle.blocks.specs.Landmarks.{Landmarks};
 ghost use Rattle.blocks.specs.Parts.{opens_block, iterates};
 ghost use Rattle.nesting.specs.Nest.{frames_of, FitsPasses};
-ghost use Rattle.nesting.specs.Moves.{kind_of, here_at, over_at, Sound, Ready, comes, weight, Moves, Closes, Passing, ends_block, after_block};
+ghost use Rattle.nesting.specs.Moves.{kind_of, on_at, ended_at, refused_at, Sound, Ready, weight, Moves, MovesHere, Closes, Passing, ends_block, after_block};
 
-use crate::nests::{Block, CONDITIONAL, Nest, OVER_ARGUMENTS, OVER_LIST, block_at, popped, pushed};
+use crate::inputs::Inputs;
+use crate::nests::{Block, Kind, Nest};
 use blocks::clauses::{Chosen, block_end, choose_clause};
 use blocks::ends::is_iteration;
 use blocks::passes::{Over, go_over, is_over, next_after, one_less};
 use directives::places::is_well_written;
 use parameters::{Hand, SettledOut, settle_directive};
 use rules::limits::DEEPEST;
-use rules::{ArgumentPosition, Directive, Setting, Settings};
+use rules::refusal::{Fault, Refusal};
+use rules::{ArgumentPosition, Directive};
 
 // Where a run stands: the place of the text where it goes on, the steps that are left, and the arguments in hand with
 // the next of them.
@@ -32,311 +33,265 @@ pub struct Here {
     pub next: ArgumentPosition,
 }
 
-// Whether a run goes on, or is over with this code and position; 0 and 0 is its end.
-#[derive(Clone, Copy)]
-pub enum How {
-    On,
-    Over { code: u32, position: usize },
-}
-
+// Where a move leaves a run, which goes on from there or is over: at its end, or refused.
 #[derive(Clone, Copy)]
 pub struct Moved {
-    pub how: How,
+    pub over: Option<Result<(), Fault>>,
     pub here: Here,
     pub nest: Nest,
 }
 
-fn stand(place: usize, left: usize, hand: Hand, next: ArgumentPosition) -> Here
-    ensures { result ≡ here_at place left hand next }
-{
-    Here {
-        place,
-        left,
-        hand,
-        next,
+impl Moved {
+    pub fn on(here: Here, nest: Nest) -> Moved
+        ensures { result ≡ on_at here nest }
+    {
+        Moved {
+            over: None,
+            here,
+            nest,
+        }
+    }
+
+    fn ended(here: Here, nest: Nest) -> Moved
+        ensures { result ≡ ended_at here nest }
+    {
+        Moved {
+            over: Some(Ok(())),
+            here,
+            nest,
+        }
+    }
+
+    pub fn refused(refusal: Refusal, position: usize, here: Here, nest: Nest) -> Moved
+        ensures { result ≡ refused_at refusal position here nest }
+    {
+        Moved {
+            over: Some(Err(Fault { refusal, position })),
+            here,
+            nest,
+        }
     }
 }
 
-// The run is over.
-fn over(code: u32, position: usize, here: Here, nest: Nest) -> Moved
-    ensures { result ≡ over_at code position here nest }
-{
-    Moved {
-        how: How::Over { code, position },
-        here,
-        nest,
-    }
-}
-
-fn iteration_kind(atsign: bool) -> usize
+fn iteration_kind(atsign: bool) -> Kind
     ensures { result ≡ kind_of atsign }
 {
-    if atsign { OVER_ARGUMENTS } else { OVER_LIST }
+    if atsign {
+        Kind::OverArguments
+    } else {
+        Kind::OverList
+    }
 }
 
 // The iteration that d opens, whose parameters are worked out: it stands before its first pass.
 fn open_iteration(
-    text: &[u8],
-    table: &[u8],
+    inputs: Inputs<'_>,
     here: Here,
     nest: Nest,
     d: Directive,
-    settings: Settings,
-    i: ArgumentPosition,
+    settled: SettledOut,
 ) -> Moved
-    requires ready { Ready text.now table.now here nest d }
-    requires i_le_count { i.0 ≤ here.hand.count }
-    requires fits_passes { FitsPasses settings.first }
-    ensures { (j : ℕ) → Moves text.now table.now (entering (levels_at text.now) (view_of table.now) (hand_at here.hand) here.place d d.after j here.left settings i.0 (frames_of (levels_at text.now) nest nest.depth)) here.left (weight here nest + 2) result }
+    requires ready { Ready inputs.text.now inputs.table.now here nest d }
+    requires next_le_count { settled.next.0 ≤ here.hand.count }
+    requires fits_passes { FitsPasses settled.settings.first }
+    ensures { (j : ℕ) → Moves inputs.entry.text.now inputs.entry.table.now (entering (levels_at inputs.entry.text.now) (view_of inputs.entry.table.now) (hand_at here.hand) here.place d d.after j here.left settled.settings settled.next.0 (frames_of (levels_at inputs.entry.text.now) nest nest.depth)) here.left (weight here nest + 2) result }
 {
-    let hand = here.hand;
-    let limit = settings.first;
-    let entries = go_over(table, hand, d.atsign, i);
-    match entries {
-        Over::Wrong(code) => over(code, here.place, here, nest),
-        Over::Is { hand: inner, first } => {
+    let i = settled.next;
+    match go_over(inputs.table, here.hand, d.atsign, i) {
+        Err(refusal) => Moved::refused(refusal, here.place, here, nest),
+        Ok(Over { hand, first }) => {
             let block = Block {
                 kind: iteration_kind(d.atsign),
                 place: here.place,
                 inside: d.after,
-                passes: limit,
-                hand,
+                passes: settled.settings.first,
+                hand: here.hand,
                 next: next_after(d.atsign, i, i),
             };
-            Moved {
-                how: How::On,
-                here: stand(text.len(), here.left, inner, first),
-                nest: pushed(nest, block),
-            }
+            let before = Here {
+                place: inputs.text.len(),
+                hand,
+                next: first,
+                ..here
+            };
+            Moved::on(before, nest.pushed(block))
         }
     }
 }
 
 // The conditional that d opens, whose parameters are worked out: it stands at the clause that runs, or after the block.
 fn open_conditional(
-    text: &[u8],
-    marks: &[u16],
-    table: &[u8],
+    inputs: Inputs<'_>,
     here: Here,
     nest: Nest,
     d: Directive,
-    settings: Settings,
-    i: ArgumentPosition,
+    settled: SettledOut,
 ) -> Moved
-    requires landmarks { Landmarks text.now marks.now }
-    requires ready { Ready text.now table.now here nest d }
-    requires i_le_count { i.0 ≤ here.hand.count }
-    ensures { (j : ℕ) → Moves text.now table.now (picking (levels_at text.now) (view_of table.now) (hand_at here.hand) here.place d d.after j here.left settings i.0 (frames_of (levels_at text.now) nest nest.depth)) here.left (weight here nest + 2) result }
+    requires landmarks { Landmarks inputs.text.now inputs.marks.now }
+    requires ready { Ready inputs.text.now inputs.table.now here nest d }
+    requires next_le_count { settled.next.0 ≤ here.hand.count }
+    ensures { (j : ℕ) → Moves inputs.entry.text.now inputs.entry.table.now (picking (levels_at inputs.entry.text.now) (view_of inputs.entry.table.now) (hand_at here.hand) here.place d d.after j here.left settled.settings settled.next.0 (frames_of (levels_at inputs.entry.text.now) nest nest.depth)) here.left (weight here nest + 2) result }
 {
-    let hand = here.hand;
-    let chosen = choose_clause(text, marks, table, hand, d, settings, i);
-    match chosen {
-        Chosen::At { place, next } => {
+    let Inputs { text, marks, table } = inputs;
+    match choose_clause(
+        text,
+        marks,
+        table,
+        here.hand,
+        d,
+        settled.settings,
+        settled.next,
+    ) {
+        Ok(Chosen::At { place, next }) => {
             let block = Block {
-                kind: CONDITIONAL,
+                kind: Kind::Conditional,
                 place: here.place,
                 inside: d.after,
-                passes: Setting::Absent,
-                hand,
+                passes: None,
+                hand: here.hand,
                 next,
             };
-            Moved {
-                how: How::On,
-                here: stand(place, here.left, hand, next),
-                nest: pushed(nest, block),
-            }
-        }
-        Chosen::Nothing { inside, next } => Moved {
-            how: How::On,
-            here: stand(
-                block_end(text, marks, d.after, inside),
-                here.left,
-                hand,
+            let clause = Here {
+                place,
                 next,
-            ),
-            nest,
-        },
-        Chosen::Wrong(code) => over(code, here.place, here, nest),
+                ..here
+            };
+            Moved::on(clause, nest.pushed(block))
+        }
+        Ok(Chosen::Nothing { inside, next }) => {
+            let place = block_end(text, marks, d.after, inside);
+            let after = Here {
+                place,
+                next,
+                ..here
+            };
+            Moved::on(after, nest)
+        }
+        Err(refusal) => Moved::refused(refusal, here.place, here, nest),
     }
 }
 
 // The block that d opens at the place where the run stands, once a step is begun for it.
-fn open_begun(
-    text: &[u8],
-    marks: &[u16],
-    table: &[u8],
-    here: Here,
-    nest: Nest,
-    d: Directive,
-) -> Moved
-    requires landmarks { Landmarks text.now marks.now }
-    requires ready { Ready text.now table.now here nest d }
-    ensures { Moves text.now table.now (opening (iterates d.code) (levels_at text.now) (view_of table.now) (hand_at here.hand) here.place d d.after here.next.0 here.left (frames_of (levels_at text.now) nest nest.depth)) here.left (weight here nest + 2) result }
+fn open_begun(inputs: Inputs<'_>, here: Here, nest: Nest, d: Directive) -> Moved
+    requires landmarks { Landmarks inputs.text.now inputs.marks.now }
+    requires ready { Ready inputs.text.now inputs.table.now here nest d }
+    ensures { Moves inputs.entry.text.now inputs.entry.table.now (opening (iterates d.code) (levels_at inputs.entry.text.now) (view_of inputs.entry.table.now) (hand_at here.hand) here.place d d.after here.next.0 here.left (frames_of (levels_at inputs.entry.text.now) nest nest.depth)) here.left (weight here nest + 2) result }
 {
-    let hand = here.hand;
-    let next = here.next;
     if !is_well_written(d) {
-        return over(5, here.place, here, nest);
+        return Moved::refused(Refusal::BadParameter, here.place, here, nest);
     }
-    let settled = settle_directive(table, hand, d, next);
-    match settled {
-        SettledOut::Wrong(code) => over(code, here.place, here, nest),
-        SettledOut::Is { settings, next: i } => {
-            let code = d.code;
-            if is_iteration(code) {
-                return open_iteration(text, table, here, nest, d, settings, i);
+    match settle_directive(inputs.table, here.hand, d, here.next) {
+        Err(refusal) => Moved::refused(refusal, here.place, here, nest),
+        Ok(settled) => {
+            if is_iteration(d.code) {
+                return open_iteration(inputs, here, nest, d, settled);
             }
-            open_conditional(text, marks, table, here, nest, d, settings, i)
+            open_conditional(inputs, here, nest, d, settled)
         }
     }
 }
 
 // The block that d opens at the place where the run stands.
-pub fn open_block(
-    text: &[u8],
-    marks: &[u16],
-    table: &[u8],
-    here: Here,
-    nest: Nest,
-    d: Directive,
-) -> Moved
-    requires landmarks { Landmarks text.now marks.now }
-    requires table_value { table_verdict table.now ≡ Accepted }
-    requires sound { Sound (length text.now) table.now here nest }
-    requires place_value { item_at text.now here.place ≡ Written d }
+pub fn open_block(inputs: Inputs<'_>, here: Here, nest: Nest, d: Directive) -> Moved
+    requires landmarks { Landmarks inputs.text.now inputs.marks.now }
+    requires sound { Sound (length inputs.text.now) inputs.table.now here nest }
+    requires place_value { item_at inputs.text.now here.place ≡ Written d }
     requires code_value { opens_block d.code ≡ true }
-    ensures { Moves text.now table.now (comes text.now table.now here nest) here.left (weight here nest) result }
+    ensures { MovesHere inputs.entry.text.now inputs.entry.table.now here nest result }
 {
     if DEEPEST <= nest.depth {
-        return over(4, here.place, here, nest);
+        return Moved::refused(Refusal::BadBlock, here.place, here, nest);
     }
     if here.left == 0 {
-        return over(9, here.place, here, nest);
+        return Moved::refused(Refusal::StepLimit, here.place, here, nest);
     }
-    let hand = here.hand;
-    let next = here.next;
-    let begun = stand(here.place, here.left - 1, hand, next);
-    open_begun(text, marks, table, begun, nest, d)
+    let begun = Here {
+        left: here.left - 1,
+        ..here
+    };
+    open_begun(inputs, begun, nest, d)
 }
 
 // On after the block whose inside is at inside.
-fn close(
-    text: &[u8],
-    marks: &[u16],
-    inside: usize,
-    left: usize,
-    hand: Hand,
-    next: ArgumentPosition,
-    nest: Nest,
-) -> Moved
-    requires landmarks { Landmarks text.now marks.now }
-    requires inside_in_bounds { inside ≤ length text.now }
-    ensures { Closes text.now inside left hand next nest result }
+fn close(inputs: Inputs<'_>, inside: usize, here: Here, nest: Nest) -> Moved
+    requires landmarks { Landmarks inputs.text.now inputs.marks.now }
+    requires inside_in_bounds { inside ≤ length inputs.text.now }
+    ensures { Closes inputs.entry.text.now inside here.left here.hand here.next nest result }
 {
-    Moved {
-        how: How::On,
-        here: stand(block_end(text, marks, inside, inside), left, hand, next),
-        nest,
-    }
+    let place = block_end(inputs.text, inputs.marks, inside, inside);
+    Moved::on(Here { place, ..here }, nest)
 }
 
 // On after an iteration. The arguments in hand are those outside it again.
-fn close_iteration(
-    text: &[u8],
-    marks: &[u16],
-    table: &[u8],
-    here: Here,
-    block: Block,
-    outside: Nest,
-) -> Moved
-    requires landmarks { Landmarks text.now marks.now }
-    requires passing { Passing text.now table.now here block outside }
-    ensures { Moves text.now table.now (after_block text.now table.now here block outside) here.left (weight here outside + 1) result }
+fn close_iteration(inputs: Inputs<'_>, here: Here, block: Block, outside: Nest) -> Moved
+    requires landmarks { Landmarks inputs.text.now inputs.marks.now }
+    requires passing { Passing inputs.text.now inputs.table.now here block outside }
+    ensures { Moves inputs.entry.text.now inputs.entry.table.now (after_block inputs.entry.text.now inputs.entry.table.now here block outside) here.left (weight here outside + 1) result }
 {
-    if block.kind == OVER_LIST {
-        let hand = block.hand;
-        let next = block.next;
-        return close(text, marks, block.inside, here.left, hand, next, outside);
+    if block.kind == Kind::OverList {
+        let after = Here {
+            hand: block.hand,
+            next: block.next,
+            ..here
+        };
+        return close(inputs, block.inside, after, outside);
     }
-    let hand = here.hand;
-    let next = here.next;
-    close(text, marks, block.inside, here.left, hand, next, outside)
+    close(inputs, block.inside, here, outside)
 }
 
 // The end of a pass of the iteration block, or what stands before its first.
-fn end_pass(
-    text: &[u8],
-    marks: &[u16],
-    table: &[u8],
-    here: Here,
-    block: Block,
-    outside: Nest,
-) -> Moved
-    requires landmarks { Landmarks text.now marks.now }
-    requires passing { Passing text.now table.now here block outside }
-    ensures { Moves text.now table.now (ends_block text.now table.now here block outside) here.left (weight here outside + 1) result }
+fn end_pass(inputs: Inputs<'_>, here: Here, block: Block, outside: Nest) -> Moved
+    requires landmarks { Landmarks inputs.text.now inputs.marks.now }
+    requires passing { Passing inputs.text.now inputs.table.now here block outside }
+    ensures { Moves inputs.entry.text.now inputs.entry.table.now (ends_block inputs.entry.text.now inputs.entry.table.now here block outside) here.left (weight here outside + 1) result }
 {
-    let hand = here.hand;
-    let next = here.next;
-    let passes = block.passes;
-    if is_over(passes, next, hand) {
-        return close_iteration(text, marks, table, here, block, outside);
+    if is_over(block.passes, here.next, here.hand) {
+        return close_iteration(inputs, here, block, outside);
     }
     if here.left == 0 {
-        return over(9, block.place, here, outside);
+        return Moved::refused(Refusal::StepLimit, block.place, here, outside);
     }
-    let hand_outside = block.hand;
-    let next_outside = block.next;
     let again = Block {
-        kind: block.kind,
-        place: block.place,
-        inside: block.inside,
-        passes: one_less(passes),
-        hand: hand_outside,
-        next: next_outside,
+        passes: one_less(block.passes),
+        ..block
     };
-    Moved {
-        how: How::On,
-        here: stand(block.inside, here.left - 1, hand, next),
-        nest: pushed(outside, again),
-    }
+    let inside = Here {
+        place: block.inside,
+        left: here.left - 1,
+        ..here
+    };
+    Moved::on(inside, outside.pushed(again))
 }
 
 // The end of a sequence: of a clause, of a pass, or of the whole text.
-pub fn end_sequence(text: &[u8], marks: &[u16], table: &[u8], here: Here, nest: Nest) -> Moved
-    requires landmarks { Landmarks text.now marks.now }
-    requires table_value { table_verdict table.now ≡ Accepted }
-    requires sound { Sound (length text.now) table.now here nest }
-    requires place_value { rest_at (levels_at text.now) here.place ≡ end }
-    ensures { Moves text.now table.now (comes text.now table.now here nest) here.left (weight here nest) result }
+pub fn end_sequence(inputs: Inputs<'_>, here: Here, nest: Nest) -> Moved
+    requires landmarks { Landmarks inputs.text.now inputs.marks.now }
+    requires sound { Sound (length inputs.text.now) inputs.table.now here nest }
+    requires place_value { rest_at (levels_at inputs.text.now) here.place ≡ end }
+    ensures { MovesHere inputs.entry.text.now inputs.entry.table.now here nest result }
 {
     if nest.depth == 0 {
-        return over(0, 0, here, nest);
+        return Moved::ended(here, nest);
     }
-    let block = block_at(nest, nest.depth - 1);
-    let outside = popped(nest);
-    if block.kind == CONDITIONAL {
-        let hand = here.hand;
-        let next = here.next;
-        return close(text, marks, block.inside, here.left, hand, next, outside);
+    let i = nest.depth - 1;
+    let block = nest.block_at(i);
+    if block.kind == Kind::Conditional {
+        return close(inputs, block.inside, here, nest.cut(i));
     }
-    end_pass(text, marks, table, here, block, outside)
+    end_pass(inputs, here, block, nest.cut(i))
 }
 
 // An escape out of the innermost iteration, or of the whole text where no iteration is open.
-pub fn leave(text: &[u8], marks: &[u16], table: &[u8], here: Here, nest: Nest) -> Moved
-    requires landmarks { Landmarks text.now marks.now }
-    requires table_value { table_verdict table.now ≡ Accepted }
-    requires sound { Sound (length text.now) table.now here nest }
-    ensures { Moves text.now table.now (leaving (view_of table.now) (frames_of (levels_at text.now) nest nest.depth) (hand_at here.hand) here.left here.next.0) here.left (weight here nest + 1) result }
+pub fn leave(inputs: Inputs<'_>, here: Here, nest: Nest) -> Moved
+    requires landmarks { Landmarks inputs.text.now inputs.marks.now }
+    requires sound { Sound (length inputs.text.now) inputs.table.now here nest }
+    ensures { Moves inputs.entry.text.now inputs.entry.table.now (leaving (view_of inputs.entry.table.now) (frames_of (levels_at inputs.entry.text.now) nest nest.depth) (hand_at here.hand) here.left here.next.0) here.left (weight here nest + 1) result }
 {
-    let mut outside = nest;
-    while 0 < outside.depth {
-        let block = block_at(outside, outside.depth - 1);
-        outside = popped(outside);
-        if CONDITIONAL < block.kind {
-            return close_iteration(text, marks, table, here, block, outside);
+    for i in (0..nest.depth).rev() {
+        let block = nest.block_at(i);
+        if block.kind != Kind::Conditional {
+            return close_iteration(inputs, here, block, nest.cut(i));
         }
     }
-    over(0, 0, here, outside)
+    Moved::ended(here, nest)
 }

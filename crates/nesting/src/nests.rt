@@ -1,18 +1,17 @@
-// The open blocks as numbers, the outermost first.
-ghost use Rattle.std.specs.Prelude.{◌≡◌, ◌-◌, ◌<◌};
-ghost use Rattle.nesting.specs.Nest.{block_at, passes_of, Fits, FitsPasses, Pushes};
+// The open blocks, the outermost first.
+ghost use Rattle.std.specs.Prelude.{◌≡◌, ◌<◌};
+ghost use Rattle.nesting.specs.Nest.{kind_by, block_at, cut, passes_of, Fits, FitsPasses, Pushes};
 
 use parameters::Hand;
-use rules::scalars::widened;
 use rules::{ArgumentPosition, EntryIndex, Setting};
 
-// What a block is: a conditional, an iteration over a list, or, by this number and any above it, an iteration over the
-// arguments in hand.
-pub const CONDITIONAL: usize = 0;
-
-pub const OVER_LIST: usize = 1;
-
-pub const OVER_ARGUMENTS: usize = 2;
+// What a block is: a conditional, an iteration over a list, or one over the arguments in hand.
+#[derive(Clone, Copy, Debug, PartialEq, Eq)]
+pub enum Kind {
+    Conditional,
+    OverList,
+    OverArguments,
+}
 
 // What stands for the passes left where they are not limited.
 const UNLIMITED: u16 = 65535;
@@ -21,7 +20,7 @@ const UNLIMITED: u16 = 65535;
 // outside it.
 #[derive(Clone, Copy)]
 pub struct Block {
-    pub kind: usize,
+    pub kind: Kind,
     pub place: usize,
     pub inside: usize,
     pub passes: Setting,
@@ -29,7 +28,8 @@ pub struct Block {
     pub next: ArgumentPosition,
 }
 
-// The open blocks: the first `depth` of each array. Sixteen bits hold every place of a text, entry and limit of 01.
+// The open blocks: the first `depth` of each array. Sixteen bits hold every place of a text, entry and limit of 01. It is
+// a part of `tilde_state` in include/tilde.h, so it stays arrays of numbers side by side.
 #[repr(C)]
 #[derive(Clone, Copy)]
 pub struct Nest {
@@ -43,14 +43,34 @@ pub struct Nest {
     pub positions: [u16; 8],
 }
 
+impl Kind {
+    // A state may have any number, so each has a meaning.
+    fn by(n: u16) -> Kind
+        ensures { result ≡ kind_by n }
+    {
+        match n {
+            0 => Kind::Conditional,
+            1 => Kind::OverList,
+            _ => Kind::OverArguments,
+        }
+    }
+
+    fn number(self) -> u16
+        ensures { kind_by result ≡ self }
+    {
+        self as u16
+    }
+}
+
 fn passes_of(n: u16) -> Setting
     ensures is { result ≡ passes_of n }
     ensures fits { FitsPasses result }
 {
     if n == UNLIMITED {
-        return Setting::Absent;
+        None
+    } else {
+        Some(usize::from(n))
     }
-    Setting::Is(widened(n))
 }
 
 fn number_of(passes: Setting) -> u16
@@ -58,59 +78,65 @@ fn number_of(passes: Setting) -> u16
     ensures { passes_of result ≡ passes }
 {
     match passes {
-        Setting::Absent => UNLIMITED,
-        Setting::Is(n) => n as u16,
+        None => UNLIMITED,
+        Some(n) => n as u16,
     }
 }
 
-// Block i of the open ones.
-pub fn block_at(nest: Nest, i: usize) -> Block
-    requires { i < 8 }
-    ensures is { result ≡ block_at nest i }
-    ensures fits { Fits result }
-{
-    Block {
-        kind: widened(nest.kinds[i]),
-        place: widened(nest.places[i]),
-        inside: widened(nest.insides[i]),
-        passes: passes_of(nest.passes[i]),
-        hand: Hand {
-            first: EntryIndex(widened(nest.starts[i])),
-            count: widened(nest.counts[i]),
-        },
-        next: ArgumentPosition(widened(nest.positions[i])),
+impl Nest {
+    // No block is open.
+    pub const EMPTY: Nest = Nest {
+        depth: 0,
+        kinds: [0; 8],
+        places: [0; 8],
+        insides: [0; 8],
+        passes: [0; 8],
+        starts: [0; 8],
+        counts: [0; 8],
+        positions: [0; 8],
+    };
+
+    // Block i of the open ones.
+    pub fn block_at(self, i: usize) -> Block
+        requires { i < 8 }
+        ensures is { result ≡ block_at self i }
+        ensures fits { Fits result }
+    {
+        Block {
+            kind: Kind::by(self.kinds[i]),
+            place: usize::from(self.places[i]),
+            inside: usize::from(self.insides[i]),
+            passes: passes_of(self.passes[i]),
+            hand: Hand {
+                first: EntryIndex(usize::from(self.starts[i])),
+                count: usize::from(self.counts[i]),
+            },
+            next: ArgumentPosition(usize::from(self.positions[i])),
+        }
     }
-}
 
-// One block more, inside the open ones.
-pub fn pushed(nest: Nest, block: Block) -> Nest
-    requires depth_bound { nest.depth < 8 }
-    requires fits { Fits block }
-    ensures { Pushes nest block result }
-{
-    let i = nest.depth;
-    let passes = block.passes;
-    let hand = block.hand;
-    let first = hand.first;
-    let next = block.next;
-    let mut more = nest;
-    more.kinds[i] = block.kind as u16;
-    more.places[i] = block.place as u16;
-    more.insides[i] = block.inside as u16;
-    more.passes[i] = number_of(passes);
-    more.starts[i] = first.0 as u16;
-    more.counts[i] = hand.count as u16;
-    more.positions[i] = next.0 as u16;
-    more.depth = i + 1;
-    more
-}
+    // One block more, inside the open ones.
+    pub fn pushed(mut self, block: Block) -> Nest
+        requires depth_bound { self.depth < 8 }
+        requires fits { Fits block }
+        ensures { Pushes self block result }
+    {
+        let i = self.depth;
+        self.kinds[i] = block.kind.number();
+        self.places[i] = block.place as u16;
+        self.insides[i] = block.inside as u16;
+        self.passes[i] = number_of(block.passes);
+        self.starts[i] = block.hand.first.0 as u16;
+        self.counts[i] = block.hand.count as u16;
+        self.positions[i] = block.next.0 as u16;
+        self.depth = i + 1;
+        self
+    }
 
-// The open blocks without the innermost.
-pub fn popped(nest: Nest) -> Nest
-    requires { 0 < nest.depth }
-    ensures { result ≡ record { depth = nest.depth - 1; kinds = nest.kinds; places = nest.places; insides = nest.insides; passes = nest.passes; starts = nest.starts; counts = nest.counts; positions = nest.positions } }
-{
-    let mut fewer = nest;
-    fewer.depth = nest.depth - 1;
-    fewer
+    // The outermost blocks, so many of them.
+    pub fn cut(self, depth: usize) -> Nest
+        ensures { result ≡ cut self depth }
+    {
+        Nest { depth, ..self }
+    }
 }

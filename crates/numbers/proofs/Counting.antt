@@ -1,6 +1,5 @@
 -- How many digits a number has: over any base, by powers of it; and the turns of the count in base ten. Assumes nothing.
 use mathlib.Core.Path.{◌≡◌, refl}
-use mathlib.Core.Bool.{cond}
 use Prim.Native.Nat.{ℕ, ◌+◌, ◌-◌, ◌*◌, ◌^◌, ◌≤◌, ◌<◌}
 use native.Mathlib.Decide.{dec_lt}
 use native.Mathlib.Nat.{pow-le-pow_right}
@@ -9,6 +8,7 @@ use borrow.Author.Tests.{lt-ltb, le-ltb, le-leb, lt-leb}
 use lib.Dec.{leb, ltb}
 use lib.ListN.{length}
 use lib.Pow.{pow-add}
+use Rattle.std.specs.Int.{from_bool}
 use Rattle.rules.specs.Number.{digits_of}
 use Rattle.rules.proofs.Digits.{count_pos, count_below, count_above}
 use Rattle.numbers.specs.Counts.{Counting}
@@ -23,7 +23,7 @@ reaches_more k b n hb hk =
 
 -- how far a count goes past k, where it goes at most three past it
 pub three_more : (k count : ℕ) → k ≤ count → count ≤ k + 3
-    → k + cond (ltb k count) 1 0 + cond (ltb (k + 1) count) 1 0 + cond (ltb (k + 2) count) 1 0 ≡ count
+    → k + from_bool (ltb k count) + from_bool (ltb (k + 1) count) + from_bool (ltb (k + 2) count) ≡ count
 three_more k count low high =
     elim (dec_lt k count) [
       | no h ↦ rw (le-ltb k count (omega arith), le-ltb (k + 1) count (omega arith), le-ltb (k + 2) count (omega arith)) (omega arith)
@@ -45,12 +45,12 @@ module _ {n power count : ℕ} (g : Counting n power count) where
   pub next_power : (k : ℕ) → power * 10 ^ k ≡ 10 ^ (count - 1 + k)
   next_power k = rw (g.is, pow-add 10 (count - 1) k)
 
-  pub power_most : (k : ℕ) → count ≤ k + 1 → power ≤ 10 ^ k
+  power_most : (k : ℕ) → count ≤ k + 1 → power ≤ 10 ^ k
   power_most k h = rw g.is (pow-le-pow_right (omega arith) {i = count - 1} {j = k} (omega arith))
 
-  -- a turn has a power of at most thirteen digits before it
-  pub turn_fits : count < 17 → power * 10000 < 2 ^ 64
-  turn_fits h = omega (arith, power_most 12 (omega (arith, g.fours)))
+  -- so the last products fit
+  pub last_fits : power * 1000 < 2 ^ 64
+  last_fits = omega (arith, power_most 16 g.small)
 
   pub counting_more : count < 17 → power * 10000 ≤ n → Counting n (power * 10000) (count + 4)
   counting_more h reach =
@@ -66,9 +66,9 @@ module _ {n power count : ℕ} (g : Counting n power count) where
 
   -- the digits that the turns have left
   pub counting_all : n < power * 10000 → {a b c : ℕ}
-      → a ≡ cond (leb (power * 10) n) 1 0
-      → b ≡ cond (leb (power * 100) n) 1 0
-      → c ≡ cond (leb (power * 1000) n) 1 0
+      → a ≡ from_bool (leb (power * 10) n)
+      → b ≡ from_bool (leb (power * 100) n)
+      → c ≡ from_bool (leb (power * 1000) n)
       → count + a + b + c ≡ length (digits_of 10 n)
   counting_all h {a} {b} {c} ea eb ec =
       let most : length (digits_of 10 n) ≤ count + 3 = omega (arith, count_below (count - 1 + 4) 10 n (omega arith) (omega arith) (rw (next_power 4) at h), g.fours) in

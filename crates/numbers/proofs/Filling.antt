@@ -1,11 +1,12 @@
 -- Digits that are filled in from the right, over any base. Assumes nothing.
 use mathlib.Core.Path.{◌≡◌, sym}
 use mathlib.Core.List.{List, [], ◌∷◌, ◌++◌, append_assoc, append-nil}
-use Prim.Native.Nat.{ℕ, suc, ◌+◌, ◌/◌, ◌%◌, ◌^◌, ◌≤◌, ◌<◌}
+use Prim.Native.Nat.{ℕ, suc, ◌+◌, ◌-◌, ◌/◌, ◌%◌, ◌^◌, ◌≤◌, ◌<◌}
 use native.Mathlib.Decide.{dec_lt}
+use native.Mathlib.Nat.{mod-eq_of_lt}
 use native.Mathlib.Numerals.{add-one}
 use native.Mathlib.Omega.{arith}
-use lib.ListN.{length, drop, set, length-set, length-append, length-drop}
+use lib.ListN.{length, drop, set, length-set}
 use lib.Seq.{lt-length-set, drop-cons, get_or-set_same, drop-set-lt, drop-length}
 use Rattle.rules.specs.Number.{digit_byte, digits_of}
 use Rattle.rules.proofs.Digits.{digits_one, digits_more, count_one, count_more, count_pos, count_above}
@@ -27,9 +28,6 @@ pub fill_none : (b n : ℕ) (out : List ℕ) → length out ≡ length (digits_o
 fill_none b n out e = record { whole = rw (drop-length, append-nil); left = sym e; inside = omega arith }
 
 module _ {b end rest : ℕ} {text out : List ℕ} (hb : 2 ≤ b) (f : Filling b text out end rest) where
-  pub fill_size : length out ≡ length text
-  fill_size = rw (← f.whole, length-append, length-drop, f.left) (omega (arith, f.inside))
-
   pub fill_some : 1 ≤ end
   fill_some = omega (arith, f.left, count_pos b rest hb)
 
@@ -39,6 +37,14 @@ module _ {b end rest : ℕ} {text out : List ℕ} (hb : 2 ≤ b) (f : Filling b 
       elim (dec_lt rest b) [
         | yes t ↦ absurd (omega (arith, f.left, count_one b rest t))
         | no t ↦ omega arith
+      ]
+
+  -- and one digit is a number below the base
+  pub fill_small : end ≤ 1 → rest < b
+  fill_small h =
+      elim (dec_lt rest b) [
+        | yes t ↦ t
+        | no t ↦ absurd (omega (arith, f.left, count_more b rest hb (omega arith), count_pos b (rest / b) hb))
       ]
 
   -- no more than k digits are a number below the k-th power
@@ -78,3 +84,33 @@ module _ {b end rest : ℕ} {text out : List ℕ} (hb : 2 ≤ b) (f : Filling b 
         left = f.left;
         inside = simp length-set f.inside;
       }
+
+-- the same in a loop that ends when no place is left: then all stand
+pub record Turn (b : ℕ) (text out : List ℕ) (end rest : ℕ) : Type 0 where
+  pub some : 1 ≤ end → Filling b text out end rest
+  pub none : end ≡ 0 → out ≡ text
+
+pub turn_none : (b n : ℕ) (out : List ℕ) → 2 ≤ b → length out ≡ length (digits_of b n)
+    → Turn b (digits_of b n) out (length out) n
+turn_none b n out hb e = record {
+  some = λ h. fill_none b n out e;
+  none = λ z. absurd (omega (arith, count_pos b n hb));
+}
+
+pub turn_more : {b end rest : ℕ} {text out : List ℕ} (d : ℕ) → 2 ≤ b → Turn b text out end rest → 0 < end
+    → d ≡ digit_byte (rest % b) → Turn b text (set out (end - 1) d) (end - 1) (rest / b)
+turn_more {b} {end} {rest} d hb t h e =
+    let f = t.some h in
+    elim (dec_lt 1 end) [
+      | yes more ↦ record {
+        some = λ s. fill_more hb f (end - 1) d (omega arith) (fill_open hb f more) e;
+        none = λ z. absurd (omega arith);
+      }
+      | no one ↦
+          let first : end - 1 ≡ 0 = omega arith in
+          let small : rest < b = fill_small hb f (omega arith) in
+          record {
+            some = λ s. absurd (omega arith);
+            none = λ z. rw first (fill_last hb f d small (rw (mod-eq_of_lt small) at e));
+          }
+    ]

@@ -1,6 +1,4 @@
-pub mod AtBase
 pub mod TopBit
-pub mod Signed
 pub mod Filling
 pub mod PairLaws
 pub mod Counting

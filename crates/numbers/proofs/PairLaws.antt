@@ -1,13 +1,11 @@
 -- Decimal digits that are filled in two at a time. Assumes nothing.
 use mathlib.Core.Path.{◌≡◌, refl, ap, ◌∙◌}
-use mathlib.Core.Bool.{Bool, true, false, cond}
 use mathlib.Core.List.{List, ◌++◌}
-use Prim.Native.Nat.{ℕ, ◌+◌, ◌-◌, ◌*◌, ◌/◌, ◌%◌, ◌≤◌, ◌<◌}
+use Prim.Native.Nat.{ℕ, ◌+◌, ◌-◌, ◌/◌, ◌%◌, ◌≤◌, ◌<◌}
 use native.Mathlib.Decide.{dec_lt}
 use native.Mathlib.Omega.{arith}
-use borrow.Author.Tests.{lt-ltb, le-ltb}
-use lib.Dec.{ltb}
-use lib.ListN.{length, drop, set, length-set}
+use borrow.Author.Tests.{lt-ltb}
+use lib.ListN.{length, drop, set}
 use Rattle.rules.specs.Number.{digit_byte, digits_of}
 use Rattle.rules.proofs.Digits.{count_below}
 use Rattle.numbers.specs.Pairs.{pair_at}
@@ -16,25 +14,6 @@ use Rattle.numbers.proofs.Filling.{Filling, fill_some, fill_open, fill_below, fi
 -- the byte of a digit below ten
 pub digit_byte_lem : (d : ℕ) → d < 10 → 48 + d ≡ digit_byte d
 digit_byte_lem d h = rw (lt-ltb d 10 h)
-
--- the two bytes of a pair, made as one number
-module _ (pair tens : ℕ) (h : pair < 100) (e : tens ≡ pair / 10) where
-  both : 12336 + 256 * pair - 2559 * tens ≡ 256 * (48 + pair % 10) + (48 + pair / 10)
-  both = omega arith
-
-  pub pair_tens : (12336 + 256 * pair - 2559 * tens) % 256 ≡ digit_byte (pair / 10)
-  pair_tens =
-      let t : (256 * (48 + pair % 10) + (48 + pair / 10)) % 256 ≡ 48 + pair / 10 = omega arith in
-      rw (both, t) (digit_byte_lem (pair / 10) (omega arith))
-
-  pub pair_ones : (12336 + 256 * pair - 2559 * tens) / 256 ≡ digit_byte (pair % 10)
-  pair_ones =
-      let t : (256 * (48 + pair % 10) + (48 + pair / 10)) / 256 ≡ 48 + pair % 10 = omega arith in
-      rw (both, t) (digit_byte_lem (pair % 10) (omega arith))
-
--- a pair leaves the buffer as long as it was
-pub pair_size : {after : List ℕ} (out : List ℕ) (i pair : ℕ) → after ≡ pair_at out i pair → length after ≡ length out
-pair_size out i pair e = rw (e, length-set, length-set)
 
 ten : 2 ≤ 10
 ten = omega arith
@@ -51,54 +30,31 @@ module _ {text out : List ℕ} {end rest : ℕ} (f : Filling 10 text out end res
       rw a
       (rw q at (fill_more ten g i (digit_byte (pair / 10)) (omega arith) (fill_open ten g (omega arith)) (ap digit_byte t)))
 
+-- x where there are more than k digits, and else y
+pub record Chosen (k end x y chosen : ℕ) : Type 0 where
+  pub is : k < end → chosen ≡ x
+  pub again : end ≤ k → chosen ≡ y
+
+module _ {k end x y chosen : ℕ} where
+  pub chosen_first : k < end → chosen ≡ x → Chosen k end x y chosen
+  chosen_first h e = record { is = λ h2. e; again = λ h2. absurd (omega arith) }
+
+  pub chosen_again : end ≤ k → chosen ≡ y → Chosen k end x y chosen
+  chosen_again h e = record { is = λ h2. absurd (omega arith); again = λ h2. e }
+
 -- four digits, from the right, of a number that may have fewer: then the first one again
 pub record Firsts (n end last second third fourth : ℕ) : Type 0 where
   pub ones : last ≡ n % 10
-  pub tens : second ≡ cond (ltb 1 end) (n / 10 % 10) last
-  pub hundreds : third ≡ cond (ltb 2 end) (n / 100 % 10) second
-  pub thousands : fourth ≡ cond (ltb 3 end) (n / 1000) third
-
-chosen_below : (first : Bool) {x y most : ℕ} → x < most → y < most → cond first x y < most
-chosen_below true hx hy = hx
-chosen_below false hx hy = hy
+  pub tens : Chosen 1 end (n / 10 % 10) last second
+  pub hundreds : Chosen 2 end (n / 100 % 10) second third
+  pub thousands : Chosen 3 end (n / 1000) third fourth
 
 module _ {n end last second third fourth : ℕ} (four : n < 10000) (f : Firsts n end last second third fourth) where
-  pub last_small : last < 10
-  last_small = omega (arith, f.ones)
-
-  pub second_small : second < 10
-  second_small = rw f.tens (chosen_below (ltb 1 end) (omega arith) last_small)
-
-  pub third_small : third < 10
-  third_small = rw f.hundreds (chosen_below (ltb 2 end) (omega arith) second_small)
-
-  pub fourth_small : fourth < 10
-  fourth_small = rw f.thousands (chosen_below (ltb 3 end) (omega arith) third_small)
-
-  -- where there is a digit, and where there is none
-  second_is : 1 < end → second ≡ n / 10 % 10
-  second_is h = rw (lt-ltb 1 end h) at f.tens
-
-  second_again : end ≤ 1 → second ≡ last
-  second_again h = rw (le-ltb 1 end h) at f.tens
-
-  third_is : 2 < end → third ≡ n / 100 % 10
-  third_is h = rw (lt-ltb 2 end h) at f.hundreds
-
-  third_again : end ≤ 2 → third ≡ second
-  third_again h = rw (le-ltb 2 end h) at f.hundreds
-
-  fourth_is : 3 < end → fourth ≡ n / 1000
-  fourth_is h = rw (lt-ltb 3 end h) at f.thousands
-
-  fourth_again : end ≤ 3 → fourth ≡ third
-  fourth_again h = rw (le-ltb 3 end h) at f.thousands
-
   module _ (out : List ℕ) (h : length (digits_of 10 n) ≡ end) (room : end ≤ length out) where
     start : Filling 10 (digits_of 10 n ++ drop end out) out end n
     start = record { whole = refl; left = h; inside = room }
 
-    pub first_some : 1 ≤ end
+    first_some : 1 ≤ end
     first_some = fill_some ten start
 
     -- what the four stores make of the buffer
@@ -109,9 +65,9 @@ module _ {n end last second third fourth : ℕ} (four : n < 10000) (f : Firsts n
     one_digit z =
         let small : n < 10 = fill_below ten start 1 (omega arith) in
         let l : last ≡ n = omega (arith, f.ones) in
-        let s : second ≡ n = second_again (omega arith) ∙ l in
-        let t : third ≡ n = third_again (omega arith) ∙ s in
-        let u : fourth ≡ n = fourth_again (omega arith) ∙ t in
+        let s : second ≡ n = f.tens.again (omega arith) ∙ l in
+        let t : third ≡ n = f.hundreds.again (omega arith) ∙ s in
+        let u : fourth ≡ n = f.thousands.again (omega arith) ∙ t in
         let i : end - 1 ≡ 0 = omega arith in
         let j : end - 2 ≡ 0 = omega arith in
         let k : end - 3 ≡ 0 = omega arith in
@@ -122,9 +78,9 @@ module _ {n end last second third fourth : ℕ} (four : n < 10000) (f : Firsts n
     two_digits : end ≡ 2 → after ≡ digits_of 10 n ++ drop end out
     two_digits z =
         let small : n < 100 = fill_below ten start 2 (omega arith) in
-        let s : second ≡ n / 10 = omega (arith, second_is (omega arith)) in
-        let t : third ≡ n / 10 = third_again (omega arith) ∙ s in
-        let u : fourth ≡ n / 10 = fourth_again (omega arith) ∙ t in
+        let s : second ≡ n / 10 = omega (arith, f.tens.is (omega arith)) in
+        let t : third ≡ n / 10 = f.hundreds.again (omega arith) ∙ s in
+        let u : fourth ≡ n / 10 = f.thousands.again (omega arith) ∙ t in
         let i : end - 1 ≡ 1 = omega arith in
         let j : end - 2 ≡ 0 = omega arith in
         let k : end - 3 ≡ 0 = omega arith in
@@ -137,9 +93,9 @@ module _ {n end last second third fourth : ℕ} (four : n < 10000) (f : Firsts n
     three_digits : end ≡ 3 → after ≡ digits_of 10 n ++ drop end out
     three_digits z =
         let small : n < 1000 = fill_below ten start 3 (omega arith) in
-        let s : second ≡ n / 10 % 10 = second_is (omega arith) in
-        let t : third ≡ n / 10 / 10 = omega (arith, third_is (omega arith)) in
-        let u : fourth ≡ n / 10 / 10 = fourth_again (omega arith) ∙ t in
+        let s : second ≡ n / 10 % 10 = f.tens.is (omega arith) in
+        let t : third ≡ n / 10 / 10 = omega (arith, f.hundreds.is (omega arith)) in
+        let u : fourth ≡ n / 10 / 10 = f.thousands.again (omega arith) ∙ t in
         let i : end - 1 ≡ 2 = omega arith in
         let j : end - 2 ≡ 1 = omega arith in
         let k : end - 3 ≡ 0 = omega arith in
@@ -152,10 +108,10 @@ module _ {n end last second third fourth : ℕ} (four : n < 10000) (f : Firsts n
 
     four_digits : end ≡ 4 → after ≡ digits_of 10 n ++ drop end out
     four_digits z =
-        let s : second ≡ n / 10 % 10 = second_is (omega arith) in
+        let s : second ≡ n / 10 % 10 = f.tens.is (omega arith) in
         let q : n / 10 / 10 ≡ n / 100 = omega arith in
-        let t : third ≡ n / 10 / 10 % 10 = rw q (third_is (omega arith)) in
-        let u : fourth ≡ n / 10 / 10 / 10 = omega (arith, fourth_is (omega arith)) in
+        let t : third ≡ n / 10 / 10 % 10 = rw q (f.hundreds.is (omega arith)) in
+        let u : fourth ≡ n / 10 / 10 / 10 = omega (arith, f.thousands.is (omega arith)) in
         let i : end - 1 ≡ 3 = omega arith in
         let j : end - 2 ≡ 2 = omega arith in
         let k : end - 3 ≡ 1 = omega arith in

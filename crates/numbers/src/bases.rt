@@ -4,14 +4,13 @@ ghost use Rattle.rules.specs.Number.{digit_byte, digits_of};
 ghost use Rattle.numbers.specs.Counts.{top_count};
 
 // The byte of a digit.
-fn digit_byte(digit: u64) -> u8
+pub fn digit_byte(digit: u8) -> u8
     requires { digit < 36 }
     ensures { result ≡ digit_byte digit }
 {
-    if digit < 10 {
-        b'0' + digit as u8
-    } else {
-        87 + digit as u8
+    match digit {
+        0..=9 => b'0' + digit,
+        _ => b'a' - 10 + digit,
     }
 }
 
@@ -20,13 +19,10 @@ pub fn count_in(base: u64, n: u64) -> usize
     requires { (2 ≤ base) × (base ≤ 36) }
     ensures { result ≡ length (digits_of base n) }
 {
-    let mut count = 1;
-    let mut rest = n;
-    while base <= rest {
-        rest = rest / base;
-        count += 1;
+    match n.checked_ilog(base) {
+        Some(power) => power as usize + 1,
+        None => 1,
     }
-    count
 }
 
 // How many digits of so many bits n has. Zero has no set bit, and one digit.
@@ -38,7 +34,7 @@ pub fn count_by_bits(bits: u32, n: u64) -> usize
     if n == 0 {
         return 1;
     }
-    let top = 63 - u64::leading_zeros(n);
+    let top = 63 - n.leading_zeros();
     (top / bits) as usize + 1
 }
 
@@ -48,12 +44,9 @@ pub fn fill_in(base: u64, n: u64, out: &mut [u8])
     requires out_len { length out.old ≡ length (digits_of base n) }
     ensures { out.new ≡ digits_of base n }
 {
-    let mut end = out.len();
     let mut rest = n;
-    while base <= rest {
-        end -= 1;
-        out[end] = digit_byte(rest % base);
-        rest = rest / base;
+    for i in (0..out.len()).rev() {
+        out[i] = digit_byte((rest % base) as u8);
+        rest /= base;
     }
-    out[0] = digit_byte(rest);
 }

@@ -1,25 +1,20 @@
 // Digits in base ten, two pairs in a turn. How many digits a number has is what a processor guesses badly, so only the
 // number of whole fours is asked by a branch, and the one to four digits before them are counted and written without.
-ghost use Rattle.std.specs.Prelude.{◌≡◌, cond, ◌++◌, ◌+◌, ◌-◌, ◌*◌, ◌/◌, ◌≤◌, ◌<◌, length, drop};
+ghost use Rattle.std.specs.Prelude.{◌≡◌, ◌++◌, ◌+◌, ◌-◌, ◌*◌, ◌/◌, ◌≤◌, ◌<◌, length, drop};
 ghost use Rattle.rules.specs.Number.{digits_of};
 ghost use Rattle.numbers.specs.Counts.{Counting};
 ghost use Rattle.numbers.specs.Pairs.{pair_at};
 
-// What a test adds to a count, without a branch.
-fn one_if(test: bool) -> usize
-    ensures is { result ≡ cond test 1 0 }
-    ensures within { result ≤ 1 }
-{
-    if test { 1 } else { 0 }
-}
-
-// The count of a number that has `count` digits or up to three more.
+// The count of a number that has `count` digits or up to three more. Each test is added as a number, without a branch.
 fn count_last(n: u64, power: u64, count: usize) -> usize
     requires counting { Counting n power count }
     requires n_bound { n < power * 10000 }
     ensures { result ≡ length (digits_of 10 n) }
 {
-    count + one_if(power * 10 <= n) + one_if(power * 100 <= n) + one_if(power * 1000 <= n)
+    count
+        + usize::from(power * 10 <= n)
+        + usize::from(power * 100 <= n)
+        + usize::from(power * 1000 <= n)
 }
 
 // Short numbers, which most are, have a way of their own: there the powers are known before the call.
@@ -33,7 +28,7 @@ pub fn count_decimal(n: u64) -> usize
     let mut power = 10000;
     let mut count = 5;
     while count < 17 && power * 10000 <= n {
-        power = power * 10000;
+        power *= 10000;
         count += 4;
     }
     count_last(n, power, count)
@@ -66,19 +61,6 @@ fn put_pair(pair: u32, i: usize, out: &mut [u8])
     out[i] = (both % 256) as u8;
 }
 
-fn choose(first: bool, x: u32, y: u32) -> u32
-    ensures { result ≡ cond first x y }
-{
-    if first { x } else { y }
-}
-
-// So far back from i, but not before the first place.
-fn back(i: usize, by: usize) -> usize
-    ensures { result ≡ i - by }
-{
-    if by < i { i - by } else { 0 }
-}
-
 // The first digits, one to four, which end before `end`: four are written, from the right, and where there are fewer the
 // first one again.
 fn put_first(n: u32, end: usize, out: &mut [u8])
@@ -90,14 +72,15 @@ fn put_first(n: u32, end: usize, out: &mut [u8])
     let high = hundredth(n);
     let low = n - 100 * high;
     let thousands = tenth(high);
+    let hundreds = high - 10 * thousands;
     let tens = tenth(low);
     let last = low - 10 * tens;
-    let second = choose(1 < end, tens, last);
-    let third = choose(2 < end, high - 10 * thousands, second);
-    let fourth = choose(3 < end, thousands, third);
+    let second = if 1 < end { tens } else { last };
+    let third = if 2 < end { hundreds } else { second };
+    let fourth = if 3 < end { thousands } else { third };
     out[end - 1] = b'0' + last as u8;
-    out[back(end, 2)] = b'0' + second as u8;
-    out[back(end, 3)] = b'0' + third as u8;
+    out[end.saturating_sub(2)] = b'0' + second as u8;
+    out[end.saturating_sub(3)] = b'0' + third as u8;
     out[0] = b'0' + fourth as u8;
 }
 
@@ -112,7 +95,7 @@ pub fn fill_decimal(n: u64, out: &mut [u8])
         let four = (rest % 10000) as u32;
         put_pair(four % 100, end - 2, out);
         put_pair(four / 100, end - 4, out);
-        rest = rest / 10000;
+        rest /= 10000;
         end -= 4;
     }
     put_first(rest as u32, end, out);

@@ -7,6 +7,7 @@ pub mod decimal; // digits in base ten
 ghost use Rattle.std.specs.Prelude.{◌≡◌, List, ℕ, ◌*◌, ◌≤◌, ◌<◌, length};
 ghost use Rattle.rules.specs.Number.{digits_of, is_negative, magnitude_of, splits, grouped};
 
+pub use bases::digit_byte;
 use bases::{count_by_bits, count_in, fill_in};
 pub use decimal::{count_decimal, fill_decimal};
 
@@ -16,11 +17,11 @@ pub fn is_negative(x: i64) -> bool
     x < 0
 }
 
-// The least integer has no negation in 64 bits: of a negative x, -1 - x is one less than the magnitude, and fits.
+// The least integer has no negation in 64 bits, and its magnitude fits.
 pub fn magnitude(x: i64) -> u64
     ensures { result ≡ magnitude_of x }
 {
-    if x < 0 { (-1 - x) as u64 + 1 } else { x as u64 }
+    x.unsigned_abs()
 }
 
 // How many digits n has. Each of the usual bases stands as a number of its own, so that the compiler knows it.
@@ -29,16 +30,12 @@ pub fn digit_count(base: u64, n: u64) -> usize
     ensures count { result ≡ length (digits_of base n) }
     ensures within { (1 ≤ result) × (result ≤ 64) }
 {
-    if base == 10 {
-        count_decimal(n)
-    } else if base == 16 {
-        count_by_bits(4, n)
-    } else if base == 8 {
-        count_by_bits(3, n)
-    } else if base == 2 {
-        count_by_bits(1, n)
-    } else {
-        count_in(base, n)
+    match base {
+        10 => count_decimal(n),
+        16 => count_by_bits(4, n),
+        8 => count_by_bits(3, n),
+        2 => count_by_bits(1, n),
+        _ => count_in(base, n),
     }
 }
 
@@ -48,16 +45,12 @@ pub fn fill_digits(base: u64, n: u64, out: &mut [u8])
     requires out_len { length out.old ≡ length (digits_of base n) }
     ensures { out.new ≡ digits_of base n }
 {
-    if base == 10 {
-        fill_decimal(n, out);
-    } else if base == 16 {
-        fill_in(16, n, out);
-    } else if base == 8 {
-        fill_in(8, n, out);
-    } else if base == 2 {
-        fill_in(2, n, out);
-    } else {
-        fill_in(base, n, out);
+    match base {
+        10 => fill_decimal(n, out),
+        16 => fill_in(16, n, out),
+        8 => fill_in(8, n, out),
+        2 => fill_in(2, n, out),
+        _ => fill_in(base, n, out),
     }
 }
 
@@ -76,7 +69,7 @@ fn is_split(width: usize, left: usize) -> bool
     requires { 0 < width }
     ensures { result ≡ splits width left }
 {
-    if left == 0 { false } else { left % width == 0 }
+    left != 0 && left % width == 0
 }
 
 // Fills out with the digits in groups, parted by the byte comma.
@@ -85,13 +78,11 @@ pub fn write_grouped(digits: &[u8], width: usize, comma: u8, out: &mut [u8])
     requires out_len { length out.old ≡ length (grouped width comma digits.now) }
     ensures { out.new ≡ grouped width comma digits.now }
 {
-    let mut i = 0;
     let mut to = 0;
-    while i < digits.len() {
-        out[to] = digits[i];
-        i += 1;
+    for (i, digit) in digits.iter().enumerate() {
+        out[to] = *digit;
         to += 1;
-        let left = digits.len() - i;
+        let left = digits.len() - (i + 1);
         if is_split(width, left) {
             out[to] = comma;
             to += 1;

@@ -14,6 +14,16 @@ pub struct Hand {
     pub count: usize,
 }
 
+impl Hand {
+    // How many arguments remain.
+    pub fn remaining(self, next: ArgumentPosition) -> usize
+        requires { next.0 ≤ self.count }
+        ensures { result ≡ self.count - next.0 }
+    {
+        self.count - next.0
+    }
+}
+
 // Argument i of those in hand.
 pub fn argument_at(table: &[u8], hand: Hand, i: ArgumentPosition) -> Argument
     requires in_hand { InHand table.now hand }
@@ -21,8 +31,7 @@ pub fn argument_at(table: &[u8], hand: Hand, i: ArgumentPosition) -> Argument
     ensures entry { Holds table.now (hand.first.0 + i.0) result }
     ensures value { meant table.now result ≡ argument_in (view_of table.now) (hand_at hand 0) i.0 }
 {
-    let first = hand.first;
-    read_argument(table, entry_of(first, i))
+    read_argument(table, entry_of(hand.first, i))
 }
 
 // The argument after this one.
@@ -31,12 +40,4 @@ pub fn following(next: ArgumentPosition) -> ArgumentPosition
     ensures { result.0 ≡ next.0 + 1 }
 {
     ArgumentPosition(next.0 + 1)
-}
-
-// How many arguments remain.
-pub fn remaining(hand: Hand, next: ArgumentPosition) -> usize
-    requires { next.0 ≤ hand.count }
-    ensures { result ≡ hand.count - next.0 }
-{
-    hand.count - next.0
 }

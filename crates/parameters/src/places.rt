@@ -1,124 +1,78 @@
 // One parameter in its place: written out, `v` from the next argument, or `#` from the arguments that remain.
 ghost use Rattle.std.specs.Prelude.{◌≡◌, true, List, ℕ, ◌-◌, ◌≤◌};
-ghost use Rattle.rules.specs.Working.{in_range, from_count};
+ghost use Rattle.rules.specs.Table.{meant};
+ghost use Rattle.rules.specs.Working.{in_range, from_count, from_value};
 ghost use Rattle.rules.specs.declared.Parameter.TheVariants.{Next};
-ghost use Rattle.rules.specs.declared.Place.TheVariants.{Empty, Number as NumberPlace, Character as CharacterPlace};
-ghost use Rattle.parameters.specs.Settling.{InHand, Supplied, worked_as, Works, is_written, WrittenAs};
+ghost use Rattle.parameters.specs.Settling.{InHand, Supplied, Lies, worked_as, Works, is_written, WrittenAs};
 
-use crate::arguments::{Hand, argument_at, following, remaining};
-use numbers::{is_negative, magnitude};
-use rules::codes::{NO_ARGUMENT, OUT_OF_RANGE, WRONG_KIND};
-use rules::scalars::{wide, widened};
+use crate::arguments::{Hand, argument_at, following};
+use rules::refusal::Refusal;
 use rules::{Argument, ArgumentPosition, Parameter, Place, Setting};
 
-// A parameter that is worked out, with the next argument after it; or the code that refuses it.
-#[derive(Clone, Copy)]
-pub enum WorkedOut {
-    Is {
-        setting: Setting,
-        next: ArgumentPosition,
-    },
-    Wrong(u32),
+// A parameter that is worked out, with the next argument after it.
+#[derive(Clone, Copy, Debug, PartialEq, Eq)]
+pub struct WorkedOut {
+    pub setting: Setting,
+    pub next: ArgumentPosition,
 }
 
 // A number for a place from least to most.
-fn in_range(n: usize, least: usize, most: usize, next: ArgumentPosition) -> WorkedOut
+fn in_range(n: usize, least: u16, most: u16, next: ArgumentPosition) -> Result<WorkedOut, Refusal>
     ensures { worked_as result ≡ in_range least most n next.0 }
 {
-    if n < least {
-        return WorkedOut::Wrong(OUT_OF_RANGE);
-    }
-    if most < n {
-        return WorkedOut::Wrong(OUT_OF_RANGE);
-    }
-    WorkedOut::Is {
-        setting: Setting::Is(n),
-        next,
+    if usize::from(least) <= n && n <= usize::from(most) {
+        Ok(WorkedOut {
+            setting: Some(n),
+            next,
+        })
+    } else {
+        Err(Refusal::OutOfRange)
     }
 }
 
-// `v` in a number place.
-fn number_argument(
-    table: &[u8],
-    hand: Hand,
-    least: usize,
-    most: usize,
-    next: ArgumentPosition,
-) -> WorkedOut
-    requires in_hand { InHand table.now hand }
-    requires next_le_count { next.0 ≤ hand.count }
-    ensures { Works table.now hand (NumberPlace least most) Next next.0 result }
+// An argument in a place.
+fn value_in(place: Place, argument: Argument, next: ArgumentPosition) -> Result<WorkedOut, Refusal>
+    ensures is { (t : List ℕ) → worked_as result ≡ from_value place (meant t argument) next.0 }
+    ensures lies { Lies place (worked_as result) }
 {
-    if hand.count <= next.0 {
-        return WorkedOut::Wrong(NO_ARGUMENT);
-    }
-    let argument = argument_at(table, hand, next);
-    match argument {
-        Argument::Integer(z) => {
-            if is_negative(z) {
-                return WorkedOut::Wrong(OUT_OF_RANGE);
-            }
-            in_range(magnitude(z) as usize, least, most, following(next))
-        }
-        _ => WorkedOut::Wrong(WRONG_KIND),
-    }
-}
-
-// `v` in a character place.
-fn character_argument(table: &[u8], hand: Hand, next: ArgumentPosition) -> WorkedOut
-    requires in_hand { InHand table.now hand }
-    requires next_le_count { next.0 ≤ hand.count }
-    ensures { Works table.now hand CharacterPlace Next next.0 result }
-{
-    if hand.count <= next.0 {
-        return WorkedOut::Wrong(NO_ARGUMENT);
-    }
-    let argument = argument_at(table, hand, next);
-    match argument {
-        Argument::Character(b) => WorkedOut::Is {
-            setting: Setting::Is(wide(b)),
-            next: following(next),
+    match (place, argument) {
+        (Place::Number { least, most }, Argument::Integer(z)) => match usize::try_from(z) {
+            Ok(n) => in_range(n, least, most, next),
+            Err(_) => Err(Refusal::OutOfRange),
         },
-        _ => WorkedOut::Wrong(WRONG_KIND),
+        (Place::Character, Argument::Character(b)) => Ok(WorkedOut {
+            setting: Some(usize::from(b)),
+            next,
+        }),
+        _ => Err(Refusal::WrongKind),
     }
-}
-
-// `v` where there is no place.
-fn no_argument(hand: Hand, next: ArgumentPosition) -> WorkedOut
-    ensures { (t : List ℕ) → Works t hand Empty Next next.0 result }
-{
-    if hand.count <= next.0 {
-        return WorkedOut::Wrong(NO_ARGUMENT);
-    }
-    WorkedOut::Wrong(WRONG_KIND)
 }
 
 // `v` in a place.
-fn work_next(table: &[u8], hand: Hand, place: Place, next: ArgumentPosition) -> WorkedOut
+fn work_next(
+    table: &[u8],
+    hand: Hand,
+    place: Place,
+    next: ArgumentPosition,
+) -> Result<WorkedOut, Refusal>
     requires in_hand { InHand table.now hand }
     requires next_le_count { next.0 ≤ hand.count }
     ensures { Works table.now hand place Next next.0 result }
 {
-    match place {
-        Place::Empty => no_argument(hand, next),
-        Place::Number { least, most } => {
-            let low = widened(least);
-            let high = widened(most);
-            number_argument(table, hand, low, high, next)
-        }
-        Place::Character => character_argument(table, hand, next),
+    if hand.count <= next.0 {
+        return Err(Refusal::NoArgument);
     }
+    value_in(place, argument_at(table, hand, next), following(next))
 }
 
 // `#` in a place.
-fn work_remaining(hand: Hand, place: Place, next: ArgumentPosition) -> WorkedOut
+fn work_remaining(hand: Hand, place: Place, next: ArgumentPosition) -> Result<WorkedOut, Refusal>
     requires { next.0 ≤ hand.count }
     ensures { worked_as result ≡ from_count place (hand.count - next.0) next.0 }
 {
-    let n = remaining(hand, next);
     match place {
-        Place::Number { least, most } => in_range(n, widened(least), widened(most), next),
-        _ => WorkedOut::Wrong(OUT_OF_RANGE),
+        Place::Number { least, most } => in_range(hand.remaining(next), least, most, next),
+        Place::Empty | Place::Character => Err(Refusal::OutOfRange),
     }
 }
 
@@ -126,13 +80,7 @@ fn work_remaining(hand: Hand, place: Place, next: ArgumentPosition) -> WorkedOut
 pub fn is_written(x: Parameter) -> bool
     ensures { result ≡ is_written x }
 {
-    match x {
-        Parameter::Default => true,
-        Parameter::Number(_) => true,
-        Parameter::Character(_) => true,
-        Parameter::Next => false,
-        Parameter::Remaining => false,
-    }
+    !matches!(x, Parameter::Next | Parameter::Remaining)
 }
 
 // What a parameter that is written out is worked out to, in every place.
@@ -141,11 +89,10 @@ pub fn written(x: Parameter) -> Setting
     ensures { WrittenAs x result }
 {
     match x {
-        Parameter::Default => Setting::Absent,
-        Parameter::Number(n) => Setting::Is(widened(n)),
-        Parameter::Character(b) => Setting::Is(wide(b)),
-        Parameter::Next => Setting::Absent,
-        Parameter::Remaining => Setting::Absent,
+        Parameter::Default => None,
+        Parameter::Number(n) => Some(usize::from(n)),
+        Parameter::Character(b) => Some(usize::from(b)),
+        Parameter::Next | Parameter::Remaining => unreachable!(),
     }
 }
 
@@ -156,7 +103,7 @@ pub fn work_out(
     place: Place,
     x: Parameter,
     next: ArgumentPosition,
-) -> WorkedOut
+) -> Result<WorkedOut, Refusal>
     requires supplied { Supplied table.now hand x }
     requires next_le_count { next.0 ≤ hand.count }
     ensures { Works table.now hand place x next.0 result }
@@ -164,9 +111,9 @@ pub fn work_out(
     match x {
         Parameter::Next => work_next(table, hand, place, next),
         Parameter::Remaining => work_remaining(hand, place, next),
-        _ => WorkedOut::Is {
+        _ => Ok(WorkedOut {
             setting: written(x),
             next,
-        },
+        }),
     }
 }

@@ -2,8 +2,7 @@
 use mathlib.Core.Path.{◌≡◌, sym, ap, ◌∙◌}
 use mathlib.Core.List.{List, ◌++◌}
 use Prim.Native.Nat.{ℕ, ◌+◌, ◌-◌, ◌≤◌}
-use native.Mathlib.Nat.{sub-zero}
-use lib.ListN.{length, replicate, length-append, length-replicate}
+use lib.ListN.{length, take, replicate, length-append, length-replicate}
 use Rattle.pieces.specs.Bytes.{part, quoted_of, figure_of, content_of, body_of, bytes_of, Inside, GoodFigure, GoodBody}
 use Rattle.pieces.specs.declared.Content.TheVariants.{Run, Copied, Quoted, Figures, Word}
 use Rattle.pieces.specs.declared.Body.{Body}
@@ -57,10 +56,10 @@ module _ {t : List ℕ} {b : Body} (g : GoodBody t b) where
   is_figures x e = record { size = rw e at g.size; text = rw e; places = rw e at g.inside }
 
   -- as the part that is lent of the word
-  pub is_word : (n : ℕ) → b.content ≡ Word n → Is t b (part 0 (n - 0) b.word) (n ≤ length b.word)
+  pub is_word : (n : ℕ) → b.content ≡ Word n → Is t b (take n b.word) (n ≤ length b.word)
   unfolding content_of Inside
   is_word n e = record {
-    size = rw sub-zero (rw e at g.size);
-    text = rw (sub-zero, e);
+    size = rw e at g.size;
+    text = rw e;
     places = rw e at g.inside;
   }

@@ -3,12 +3,12 @@ use mathlib.Core.Path.{◌≡◌, sym, ap}
 use mathlib.Core.Logic.{◌≢◌}
 use mathlib.Core.List.{List, [], ◌∷◌, ◌++◌, append-nil}
 use Prim.Native.Nat.{ℕ, suc, ◌-◌, ◌≤◌}
-use native.Mathlib.Nat.{not-suc-le-zero, sub-zero}
+use native.Mathlib.Nat.{not-suc-le-zero}
 use native.Mathlib.Decide.{ℕ_discrete as dec_eq}
 use native.Mathlib.Omega.{arith}
 use borrow.Author.Tests.{eq-eqb, ne_eqb}
 use borrow.Rule.Slice.PartMut.{put_mid}
-use lib.ListN.{length, take, drop, set, length-append, drop_of_length-le}
+use lib.ListN.{length, take, drop, set, drop_of_length-le}
 use lib.Seq.{take_at, take_all}
 use Rattle.rules.specs.Number.{digits_of, grouped}
 use Rattle.rules.proofs.Groups.{grouped_most}
@@ -65,8 +65,5 @@ sign_room (x ∷ d) s text h =
     rw (m, take_all (length d) d (omega arith)) (omega arith)
 
 -- what was written into the front of an array is read back
-pub read_back : (k : ℕ) (y r text : List ℕ) → y ≡ text → k ≡ length text → take (k - 0) (y ++ r) ≡ text
-read_back k y r text e h = rw (sub-zero k, e) (take_at text r k (sym h))
-
-pub array_room : (k : ℕ) (y r text : List ℕ) → y ≡ text → k ≡ length text → k ≤ length (y ++ r)
-array_room k y r text e h = rw (e, h, length-append text r) (omega arith)
+pub read_back : (k : ℕ) (y r text : List ℕ) → y ≡ text → k ≡ length text → take k (y ++ r) ≡ text
+read_back k y r text e h = rw e (take_at text r k (sym h))

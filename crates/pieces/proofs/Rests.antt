@@ -10,7 +10,6 @@ use native.Mathlib.Decide.{ℕ_discrete as dec_eq}
 use native.Mathlib.Omega.{arith}
 use borrow.Author.Tests.{eq-eqb, ne_eqb}
 use borrow.Rule.Slice.PartMut.{put_mid}
-use lib.Dec.{eqb}
 use lib.ListN.{length, take, drop, set, replicate, length-append, length-set, length-replicate, length-take}
 use lib.ListN.{length-drop, take-append-drop, replicate-append-replicate}
 use lib.Seq.{drop-drop, take-nil, take_all, take_at, drop_at, take-suc-set, drop-set-lt, append_snoc, length-take-le}
@@ -35,14 +34,10 @@ module _ (t : List ℕ) (q : QuoteRest) where
   unfolding rest_of
   rest_whole e = rw (ne_eqb q.stage 0 (omega arith), eq-eqb q.stage 1 e)
 
-  pub rest_inside : 2 ≤ q.stage → q.stage ≤ 3 → rest_of t q ≡ owed (eqb q.stage 3) (string_of t q) ++ closing_of q
+  pub rest_inside : (gone : Bool) → q.stage ≡ cond gone 3 2 → rest_of t q ≡ owed gone (string_of t q) ++ closing_of q
   unfolding rest_of owed
-  rest_inside h k =
-      rw (ne_eqb q.stage 0 (omega arith), ne_eqb q.stage 1 (omega arith))
-      (elim (dec_eq q.stage 2) [
-        | yes e ↦ rw (eq-eqb q.stage 2 e, ne_eqb q.stage 3 (omega arith))
-        | no e ↦ rw (ne_eqb q.stage 2 e, eq-eqb q.stage 3 (omega (arith, e)))
-      ])
+  rest_inside false e = rw e
+  rest_inside true e = rw e
 
   pub rest_padding : 3 < q.stage → rest_of t q ≡ replicate q.behind q.pad
   unfolding rest_of
@@ -200,18 +195,6 @@ escapes_part src from k {gone₀} {b} {e} {i} {gone} {at} q h w₀ =
     let all : take at e ≡ e = take_all at e (omega (arith, w.written.size)) in
     rw (q, whole, all) (sym (take_at e rest (length b) w.written.size))
 
-gone_stage : (gone : Bool) → eqb (cond gone 3 2) 3 ≡ gone
-gone_stage true = refl
-gone_stage false = refl
-
-stage_least : (gone : Bool) → 2 ≤ cond gone 3 2
-stage_least true = omega arith
-stage_least false = omega arith
-
-stage_most : (gone : Bool) → cond gone 3 2 ≤ 3
-stage_most true = omega arith
-stage_most false = omega arith
-
 -- what a writer of the rest answers, also where another has written before it
 module _ (t : List ℕ) (q : QuoteRest) {from : ℕ} {b e : List ℕ} (r : RestWritten) where
   rest_written : Appends (rest_of t q) from b e r.at (rest_of t r.rest) → RestIn t r.rest
@@ -249,38 +232,37 @@ module _ (t : List ℕ) (q : QuoteRest) {from : ℕ} {b e : List ℕ} {missing a
   in_padding : Appends (rest_of t q) from b e at (replicate missing q.pad)
   in_padding = rw (rest_padding t q h) p.written
 
-  pub padding_done : missing ≡ 0
+  pub padding_left : (stage : ℕ) → (missing ≡ 0 → stage ≡ 0) → (missing ≢ 0 → stage ≡ 4)
       → WritesRest t q from b e
-      (record { rest = quote_rest 0 q.before q.start q.end missing q.pad; at = at })
-  padding_done z =
-      let rest = quote_rest 0 q.before q.start q.end missing q.pad in
-      rest_written t q _ (rw (rest_done t rest refl) (rw z at in_padding))
-      (still_in k (omega arith) (omega (arith, p.over))) (λ n. absurd (n refl))
-
-  pub padding_more : missing ≢ 0
-      → WritesRest t q from b e
-      (record { rest = quote_rest q.stage q.before q.start q.end missing q.pad; at = at })
-  padding_more z =
-      let rest = quote_rest q.stage q.before q.start q.end missing q.pad in
-      let is : rest_of t rest ≡ replicate missing q.pad = rest_padding t rest h in
-      rest_written t q _ (rw is in_padding) (still_in k (omega arith) (omega (arith, p.over)))
-      (λ _. (
-        omega (arith, z, p.place, p.over, p.written.most, p.written.least),
-        rw (is, length-replicate missing q.pad) (omega (arith, z)),
-      ))
+      (record { rest = quote_rest stage q.before q.start q.end missing q.pad; at = at })
+  padding_left stage done more =
+      let rest = quote_rest stage q.before q.start q.end missing q.pad in
+      let in_table : RestIn t rest = still_in k (omega arith) (omega (arith, p.over)) in
+      elim (dec_eq missing 0) [
+        | yes z ↦
+            rest_written t q _ (rw (rest_done t rest (done z)) (rw z at in_padding)) in_table
+            (λ n. absurd (n (done z)))
+        | no z ↦
+            let is : rest_of t rest ≡ replicate missing q.pad = rest_padding t rest (omega (arith, more z)) in
+            rest_written t q _ (rw is in_padding) in_table
+            (λ _. (
+              omega (arith, z, p.place, p.over, p.written.most, p.written.least),
+              rw (is, length-replicate missing q.pad) (omega (arith, z)),
+            ))
+      ]
 
 -- inside the quotes
-module _ (t : List ℕ) (q : QuoteRest) {src : List ℕ} {from : ℕ} {b c : List ℕ} {i : ℕ} {gone : Bool} {at : ℕ}
-    (l : (2 ≤ q.stage) × (q.stage ≤ 3)) (k : RestIn t q) (s : src ≡ string_of t q)
-    (w : Escapes src (eqb q.stage 3) from b c i gone at) where
+module _ (t : List ℕ) (q : QuoteRest) {src : List ℕ} (gone₀ : Bool) {from : ℕ} {b c : List ℕ} {i : ℕ} {gone : Bool}
+    {at : ℕ} (l : q.stage ≡ cond gone₀ 3 2) (k : RestIn t q) (s : src ≡ string_of t q)
+    (w : Escapes src gone₀ from b c i gone at) where
   in_string : Appends (rest_of t q) from b c at (owed gone (drop i src) ++ closing_of q)
-  in_string = rw (rest_inside t q l.0 l.1, ← s) (append_before w.written (closing_of q))
+  in_string = rw (rest_inside t q gone₀ l, ← s) (append_before w.written (closing_of q))
 
-  pub string_closed : {e : List ℕ} {r : RestWritten} → at < length c
-      → WritesRest t (quote_rest 4 q.before q.start q.end q.behind q.pad) (at + 1) (set c at 34) e r
+  pub string_closed : {e : List ℕ} {r : RestWritten} {stage : ℕ} → stage ≡ 4 → at < length c
+      → WritesRest t (quote_rest stage q.before q.start q.end q.behind q.pad) (at + 1) (set c at 34) e r
       → WritesRest t q from b e r
-  string_closed {e} {r} h v =
-      let rest = quote_rest 4 q.before q.start q.end q.behind q.pad in
+  string_closed {e} {r} {stage} four h v =
+      let rest = quote_rest stage q.before q.start q.end q.behind q.pad in
       let ended : length src ≤ i = w.ends (omega (arith, w.written.size)) in
       rest_goes_on t q r rest
       (rw (rest_padding t rest (omega arith)) (append_one in_string 34 h (rw (ends src i gone ended)))) v
@@ -293,8 +275,7 @@ module _ (t : List ℕ) (q : QuoteRest) {src : List ℕ} {from : ℕ} {b c : Lis
       let size : length src ≡ q.end - q.start =
       ap length s ∙ length_part q.start (q.end - q.start) t (omega (arith, k.inside)) in
       let is : rest_of t rest ≡ owed gone (drop i src) ++ closing_of q =
-      rest_inside t rest (rw e (stage_least gone)) (rw e (stage_most gone))
-      ∙ rw (e, gone_stage gone, later_part q.start q.end i t, s) in
+      rest_inside t rest gone e ∙ rw (later_part q.start q.end i t, s) in
       rest_written t q _ (rw is in_string)
       (record { order = omega (arith, w.inside, size, k.order); inside = k.inside; before = k.before; behind = k.behind })
       (λ _. (
@@ -308,14 +289,14 @@ module _ (t : List ℕ) (q : QuoteRest) {from : ℕ} {b c : List ℕ} {missing a
   in_front : Appends (rest_of t q) from b c at (beside missing q.behind q.pad (quoted_of (string_of t q)))
   in_front = rw (rest_whole t q one) (append_before p.written _)
 
-  pub string_opened : {e : List ℕ} {r : RestWritten} → at < length c
-      → WritesRest t (quote_rest 2 q.before q.start q.end q.behind q.pad) (at + 1) (set c at 34) e r
+  pub string_opened : {e : List ℕ} {r : RestWritten} {stage : ℕ} → stage ≡ 2 → at < length c
+      → WritesRest t (quote_rest stage q.before q.start q.end q.behind q.pad) (at + 1) (set c at 34) e r
       → WritesRest t q from b e r
-  string_opened {e} {r} h v =
-      let rest = quote_rest 2 q.before q.start q.end q.behind q.pad in
+  string_opened {e} {r} {stage} two h v =
+      let rest = quote_rest stage q.before q.start q.end q.behind q.pad in
       let none : missing ≡ 0 = omega (arith, p.place, p.over, p.written.size) in
       rest_goes_on t q r rest
-      (rw (rest_inside t rest (omega arith) (omega arith))
+      (rw (rest_inside t rest false two)
       (append_one in_front 34 h (rw none (quote_first (string_of t q) (replicate q.behind q.pad))))) v
 
   pub front_more : length c ≤ at

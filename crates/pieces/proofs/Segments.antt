@@ -1,12 +1,12 @@
 -- The parts of a buffer that are lent one after the other, and a window over a text with one byte on both sides of it.
 -- Assumes nothing.
 use mathlib.Core.Path.{◌≡◌, refl, sym, ap, ◌∙◌}
-use mathlib.Core.List.{List, [], ◌++◌, append-nil, append_assoc}
+use mathlib.Core.List.{List, ◌++◌, append-nil, append_assoc}
 use Prim.Native.Nat.{ℕ, ◌+◌, ◌-◌, ◌≤◌, min}
-use native.Mathlib.Nat.{le_refl, sub-zero}
+use native.Mathlib.Nat.{le_refl}
 use native.Mathlib.Omega.{arith}
 use borrow.Rule.Slice.PartMut.{put_mid}
-use lib.ListN.{length, take, drop, replicate, length-append, length-replicate, length-take, drop_of_length-le}
+use lib.ListN.{length, take, drop, replicate, length-append, length-replicate, length-take, length-drop, drop_of_length-le}
 use lib.Seq.{drop-drop, take_at, drop_at}
 use Rattle.pieces.specs.Bytes.{part, Window}
 use Rattle.pieces.proofs.Parts.{part_two, part_fill, part_all, length_part}
@@ -16,8 +16,9 @@ pub record Begun (d w out : List ℕ) (k : ℕ) : Type 0 where
   pub is : out ≡ w ++ drop k d
   pub size : length w ≡ k
 
-pub begun_none : (d : List ℕ) → Begun d [] d 0
-begun_none d = record { is = refl; size = refl }
+-- the first part, lent up to e, comes back as y
+begun_front : (e : ℕ) (y d : List ℕ) → length y ≡ e → Begun d y (put_mid 0 e d y) e
+begun_front e y d l = record { is = refl; size = l }
 
 -- the next part, lent from k to e, comes back as y
 pub begun_more : {d w out : List ℕ} {k : ℕ} (e : ℕ) (y : List ℕ) → Begun d w out k → k ≤ e → length y ≡ e - k
@@ -33,6 +34,10 @@ begun_more {d} {w} {out} {k} e y s h l =
 
 pub begun_all : {d w out : List ℕ} {k : ℕ} → Begun d w out k → length d ≤ k → out ≡ w
 begun_all {d} {w} {out} {k} s h = s.is ∙ rw (drop_of_length-le d {i = k} h) (append-nil w)
+
+begun_length : {d w out : List ℕ} {k : ℕ} → Begun d w out k → k ≤ length d → length out ≡ length d
+begun_length {d} {w} {out} {k} s h =
+    ap length s.is ∙ length-append w (drop k d) ∙ omega (arith, s.size, length-drop k d)
 
 -- a part that is lent is as long as it says
 pub lent : {d w out : List ℕ} {k : ℕ} (e : ℕ) → Begun d w out k → k ≤ e → e ≤ length d
@@ -97,28 +102,34 @@ part_three xs ys zs f n a b ea eb₀ =
     part_two xs (ys ++ zs) f n
     ∙ rw (q, r, ea) (ap (λ (t : List ℕ). part f (min n u) xs ++ t) (part_two ys zs (f - length xs) (n - min n u)))
 
+-- the buffer d after its part up to a has come back as x, and that from there up to b as y
+abbrev two_lent : (d x y : List ℕ) (a b : ℕ) → List ℕ
+two_lent d x y a b = put_mid a (b - a) (put_mid 0 a d x) y
+
 -- a window over a text with l times the byte p on its left and r times on its right: what the three lends write
 pub padded_part : (d : List ℕ) (l r p : ℕ) (ys : List ℕ) (from : ℕ) {a b start : ℕ}
     → Window l (length ys) from (length d) a b start → length d ≤ l + (length ys + r) - from
-    → (x y z : List ℕ) → x ≡ replicate (length (take (a - 0) (drop 0 d))) p
-    → y ≡ part start (length (take (b - a) (drop a (put_mid 0 (a - 0) d x)))) ys
-    → z ≡ replicate (length (take (length d - b) (drop b (put_mid a (b - a) (put_mid 0 (a - 0) d x) y)))) p
-    → put_mid b (length d - b) (put_mid a (b - a) (put_mid 0 (a - 0) d x) y) z
+    → (x y z : List ℕ) → x ≡ replicate (length (take a d)) p
+    → y ≡ part start (length (take (b - a) (drop a (put_mid 0 a d x)))) ys
+    → z ≡ replicate (length (take (length (two_lent d x y a b) - b) (drop b (two_lent d x y a b)))) p
+    → put_mid b (length (two_lent d x y a b) - b) (two_lent d x y a b) z
     ≡ part from (length d) (replicate l p ++ (ys ++ replicate r p))
 padded_part d l r p ys from {a} {b} {start} w h x y z ex ey ez =
     let n = length d in
     let ll : length (replicate l p) ≡ l = length-replicate l p in
     let az : a ≤ l - from = rw w.first (least_right n (l - from)) in
-    let s₀ = begun_none d in
-    let ex₁ : x ≡ replicate (a - 0) p =
-    ex ∙ ap (λ (k : ℕ). replicate k p) (lent a s₀ (omega arith) (omega (arith, w.order, w.inside))) in
-    let s₁ = begun_more a x s₀ (omega arith) (ap length ex₁ ∙ length-replicate (a - 0) p) in
+    let ex₁ : x ≡ replicate a p =
+    ex ∙ ap (λ (k : ℕ). replicate k p) (length_part 0 a d (omega (arith, w.order, w.inside))) in
+    let s₁ = begun_front a x d (ap length ex₁ ∙ length-replicate a p) in
     let ey₁ : y ≡ part start (b - a) ys = ey ∙ ap (λ (k : ℕ). part start k ys) (lent b s₁ w.order w.inside) in
     let s₂ = begun_more b y s₁ w.order (ap length ey₁ ∙ length_part start (b - a) ys w.middle) in
-    let ez₁ : z ≡ replicate (n - b) p = ez ∙ ap (λ (k : ℕ). replicate k p) (lent n s₂ w.inside (le_refl n)) in
-    let s₃ = begun_more n z s₂ w.inside (ap length ez₁ ∙ length-replicate (n - b) p) in
+    let same : length (two_lent d x y a b) ≡ n = begun_length s₂ w.inside in
+    let ez₁ : z ≡ replicate (n - b) p =
+    rw same at ez ∙ ap (λ (k : ℕ). replicate k p) (lent n s₂ w.inside (le_refl n)) in
+    let s₃ : Begun d ((x ++ y) ++ z) (put_mid b (length (two_lent d x y a b) - b) (two_lent d x y a b) z) n =
+    rw same (begun_more n z s₂ w.inside (ap length ez₁ ∙ length-replicate (n - b) p)) in
     let c : n - b ≤ r - (from - l - length ys) = rest_fits n l (length ys) r from b w.second h in
-    let fx : part from a (replicate l p) ≡ x = part_fill from a l p az ∙ sym (rw sub-zero at ex₁) in
+    let fx : part from a (replicate l p) ≡ x = part_fill from a l p az ∙ sym ex₁ in
     let fz : part (from - l - length ys) (n - b) (replicate r p) ≡ z =
     part_fill (from - l - length ys) (n - b) r p c ∙ sym ez₁ in
     let fy : part (from - l) (b - a) ys ≡ y = rw (sym w.begins) (sym ey₁) in
@@ -129,23 +140,24 @@ padded_part d l r p ys from {a} {b} {start} w h x y z ex ey ez =
 
 -- the whole of such a text
 pub padded_whole : (d : List ℕ) (l r p : ℕ) (ys : List ℕ) (b : ℕ) → b ≡ l + length ys
-    → length d ≡ l + (length ys + r) → (x y z : List ℕ) → x ≡ replicate (length (take (l - 0) (drop 0 d))) p
-    → y ≡ part 0 (length (take (b - l) (drop l (put_mid 0 (l - 0) d x)))) ys
-    → z ≡ replicate (length (take (length d - b) (drop b (put_mid l (b - l) (put_mid 0 (l - 0) d x) y)))) p
-    → put_mid b (length d - b) (put_mid l (b - l) (put_mid 0 (l - 0) d x) y) z
+    → length d ≡ l + (length ys + r) → (x y z : List ℕ) → x ≡ replicate (length (take l d)) p
+    → y ≡ part 0 (length (take (b - l) (drop l (put_mid 0 l d x)))) ys
+    → z ≡ replicate (length (take (length (two_lent d x y l b) - b) (drop b (two_lent d x y l b)))) p
+    → put_mid b (length (two_lent d x y l b) - b) (two_lent d x y l b) z
     ≡ replicate l p ++ (ys ++ replicate r p)
 padded_whole d l r p ys b e h x y z ex ey ez =
     let n = length d in
-    let s₀ = begun_none d in
-    let ex₁ : x ≡ replicate (l - 0) p = ex ∙ ap (λ (k : ℕ). replicate k p) (lent l s₀ (omega arith) (omega arith)) in
-    let s₁ = begun_more l x s₀ (omega arith) (ap length ex₁ ∙ length-replicate (l - 0) p) in
+    let ex₁ : x ≡ replicate l p = ex ∙ ap (λ (k : ℕ). replicate k p) (length_part 0 l d (omega arith)) in
+    let s₁ = begun_front l x d (ap length ex₁ ∙ length-replicate l p) in
     let ey₁ : y ≡ ys = ey ∙ part_all _ ys (lent b s₁ (omega arith) (omega arith) ∙ omega arith) in
     let s₂ = begun_more b y s₁ (omega arith) (ap length ey₁ ∙ omega arith) in
+    let same : length (two_lent d x y l b) ≡ n = begun_length s₂ (omega arith) in
     let ez₁ : z ≡ replicate (n - b) p =
-    ez ∙ ap (λ (k : ℕ). replicate k p) (lent n s₂ (omega arith) (le_refl n)) in
-    let s₃ = begun_more n z s₂ (omega arith) (ap length ez₁ ∙ length-replicate (n - b) p) in
+    rw same at ez ∙ ap (λ (k : ℕ). replicate k p) (lent n s₂ (omega arith) (le_refl n)) in
+    let s₃ : Begun d ((x ++ y) ++ z) (put_mid b (length (two_lent d x y l b) - b) (two_lent d x y l b) z) n =
+    rw same (begun_more n z s₂ (omega arith) (ap length ez₁ ∙ length-replicate (n - b) p)) in
     let q : n - b ≡ r = omega arith in
-    begun_all s₃ (le_refl n) ∙ append_assoc x y z ∙ rw (ex₁, ey₁, ez₁, sub-zero, q)
+    begun_all s₃ (le_refl n) ∙ append_assoc x y z ∙ rw (ex₁, ey₁, ez₁, q)
 
 -- a part that is lent has no more bytes than it says
 pub lent_fits : (k m : ℕ) (l : List ℕ) → k ≤ m → length (take k l) ≤ m

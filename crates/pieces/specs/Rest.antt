@@ -1,11 +1,25 @@
 -- What is left of a piece that is a string in quotes, where a window's end has cut it, and what its writer promises.
 -- Assumes nothing: these are definitions.
-use Rattle.std.specs.Prelude.{◌≡◌, Bool, true, cond, List, [], ◌∷◌, ◌++◌, ℕ, ◌+◌, ◌-◌, ◌≤◌, ◌<◌, min, eqb, length, take, drop, replicate}
+use Rattle.std.specs.Prelude.{◌≡◌, Bool, true, false, cond, List, [], ◌∷◌, ◌++◌, ℕ, ◌+◌, ◌-◌, ◌≤◌, ◌<◌, min, eqb, length, take, drop, replicate}
 use Rattle.rules.specs.Letters.{letter}
 use Rattle.rules.specs.Piece.{escaped}
 use Rattle.pieces.specs.Bytes.{part, owed, quoted_of, beside}
 use Rattle.pieces.specs.declared.resuming.QuoteRest.{QuoteRest}
 use Rattle.pieces.specs.declared.resuming.RestWritten.{RestWritten}
+use Rattle.pieces.specs.declared.resuming.Stage.{Stage}
+use Rattle.pieces.specs.declared.resuming.Stage.TheVariants.{Done, Whole, Inside, Padding}
+
+-- the numbers of the stages: from 4 on they are one
+abbrev pub stage_of : ℕ → Stage
+stage_of n =
+    cond (eqb n 0) Done
+    (cond (eqb n 1) Whole (cond (eqb n 2) (Inside false) (cond (eqb n 3) (Inside true) Padding)))
+
+abbrev pub number_of : Stage → ℕ
+number_of Done = 0
+number_of Whole = 1
+number_of (Inside gone) = cond gone 3 2
+number_of Padding = 4
 
 -- what is left of the string
 abbrev pub string_of : List ℕ → QuoteRest → List ℕ

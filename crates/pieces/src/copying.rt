@@ -1,15 +1,11 @@
-// Fills and copies: the loops that write most of the bytes.
+// Fills and copies: they write most of the bytes.
 ghost use Rattle.std.specs.Prelude.{◌≡◌, ◌-◌, ◌≤◌, length, replicate};
 ghost use Rattle.pieces.specs.Bytes.{part};
 
 pub fn fill(byte: u8, out: &mut [u8])
     ensures { out.new ≡ replicate (length out.old) byte }
 {
-    let mut i = 0;
-    while i < out.len() {
-        out[i] = byte;
-        i += 1;
-    }
+    out.fill(byte);
 }
 
 // Fills out with the bytes of src from `from` on.
@@ -17,9 +13,9 @@ pub fn copy_part(src: &[u8], from: usize, out: &mut [u8])
     requires { length out.old ≤ length src.now - from }
     ensures { out.new ≡ part from (length out.old) src.now }
 {
-    let mut i = 0;
-    while i < out.len() {
-        out[i] = src[from + i];
-        i += 1;
+    let count = out.len();
+    // where nothing is asked for, `from` may lie anywhere
+    if 0 < count {
+        out.copy_from_slice(&src[from..from + count]);
     }
 }

@@ -7,6 +7,7 @@ use super::copying::copy_part;
 use numbers::{digit_count, fill_digits, grouped_size, write_grouped};
 
 // The size of the digits, with their separators.
+#[tactic(auto, using(crate::proofs::Numerals::ungrouped, crate::proofs::Numerals::in_groups))]
 fn digits_size(x: Figure) -> usize
     requires { GoodFigure x }
     ensures size { result ≡ length (digits_in x) }
@@ -19,6 +20,7 @@ fn digits_size(x: Figure) -> usize
     grouped_size(count, x.width)
 }
 
+#[tactic(auto, using(crate::proofs::Numerals::unsigned, crate::proofs::Numerals::with_sign))]
 pub fn figure_size(x: Figure) -> usize
     requires { GoodFigure x }
     ensures size { result ≡ length (figure_of x) }
@@ -29,6 +31,7 @@ pub fn figure_size(x: Figure) -> usize
 }
 
 // The digits. Without groups they go straight to their place.
+#[tactic(auto, using(crate::proofs::Numerals::ungrouped, crate::proofs::Numerals::in_groups))]
 fn digits_whole(x: Figure, out: &mut [u8])
     requires good_figure { GoodFigure x }
     requires out_len { length out.old ≡ length (digits_in x) }
@@ -40,11 +43,12 @@ fn digits_whole(x: Figure, out: &mut [u8])
     }
     let count = digit_count(x.base, x.magnitude);
     let mut digits = [0; 64];
-    fill_digits(x.base, x.magnitude, &mut digits[0..count]);
-    write_grouped(&digits[0..count], x.width, x.comma, out);
+    fill_digits(x.base, x.magnitude, &mut digits[..count]);
+    write_grouped(&digits[..count], x.width, x.comma, out);
 }
 
 // The sign and the digits.
+#[tactic(auto, using(crate::proofs::Numerals::unsigned, crate::proofs::Numerals::with_sign))]
 fn figure_whole(x: Figure, out: &mut [u8])
     requires good_figure { GoodFigure x }
     requires out_len { length out.old ≡ length (figure_of x) }
@@ -55,11 +59,11 @@ fn figure_whole(x: Figure, out: &mut [u8])
         return;
     }
     out[0] = x.sign;
-    let end = out.len();
-    digits_whole(x, &mut out[1..end]);
+    digits_whole(x, &mut out[1..]);
 }
 
 // A part, by way of a local array, or all of it. Where the whole is asked for, the compiler knows it and drops the test.
+#[tactic(auto, using(crate::proofs::Numerals::figure_most))]
 pub fn figure_part(x: Figure, size: usize, from: usize, out: &mut [u8])
     requires good_figure { GoodFigure x }
     requires size_value { size ≡ length (figure_of x) }
@@ -71,6 +75,6 @@ pub fn figure_part(x: Figure, size: usize, from: usize, out: &mut [u8])
         return;
     }
     let mut text = [0; 128];
-    figure_whole(x, &mut text[0..size]);
-    copy_part(&text[0..size], from, out);
+    figure_whole(x, &mut text[..size]);
+    copy_part(&text[..size], from, out);
 }

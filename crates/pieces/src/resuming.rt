@@ -1,17 +1,17 @@
 // A string in quotes that the end of a window cuts. What is left of it is kept as a few numbers, so that the next
 // window does not measure and search the string again.
 ghost use Rattle.std.specs.Prelude.{◌≡◌, cond, List, ℕ, ◌≤◌, ◌<◌, length};
-ghost use Rattle.pieces.specs.Rest.{RestIn, Pads, WritesRest};
+ghost use Rattle.pieces.specs.Rest.{RestIn, Pads, WritesRest, stage_of, number_of};
 
 use super::copying::fill;
-use super::quoting::escape_some;
+use super::quoting::{Spot, escape_some};
 use super::window::reach;
 use table::string_part;
 
 // What is left of a piece, as restOf in specs/Rest has it. But for the place of the string its numbers may be any: no
-// sum is made of them.
+// sum is made of them. A state in C has it, so its stage is a number.
 #[repr(C)]
-#[derive(Clone, Copy)]
+#[derive(Clone, Copy, Debug, PartialEq, Eq)]
 pub struct QuoteRest {
     pub stage: usize,
     pub before: usize,
@@ -28,27 +28,53 @@ pub struct RestWritten {
     pub at: usize,
 }
 
-// The stages: nothing is left
-const DONE: usize = 0;
+// What is left, by how far the piece has come.
+#[derive(Clone, Copy, Debug, PartialEq, Eq)]
+enum Stage {
+    // nothing
+    Done,
+    // all
+    Whole,
+    // from a byte of the string on, whose backslash is gone already or not
+    Inside { gone: bool },
+    // the padding on the right
+    Padding,
+}
 
-// all is
-const WHOLE: usize = 1;
+impl From<usize> for Stage {
+    ghost from_gives = { λ number stage. stage ≡ stage_of number };
 
-// from a byte of the string on, with its backslash
-const INSIDE: usize = 2;
+    fn from(number: usize) -> Stage {
+        match number {
+            0 => Stage::Done,
+            1 => Stage::Whole,
+            2 => Stage::Inside { gone: false },
+            3 => Stage::Inside { gone: true },
+            _ => Stage::Padding,
+        }
+    }
+}
 
-// and without it, as that is written
-const HALFWAY: usize = 3;
+impl From<Stage> for usize {
+    ghost from_gives = { λ stage number. number ≡ number_of stage };
 
-// the padding on the right
-const PADDING: usize = 4;
+    fn from(stage: Stage) -> usize {
+        match stage {
+            Stage::Done => 0,
+            Stage::Whole => 1,
+            Stage::Inside { gone: false } => 2,
+            Stage::Inside { gone: true } => 3,
+            Stage::Padding => 4,
+        }
+    }
+}
 
 // A piece none of which is written, whose text is the string from start to end in quotes.
 pub fn quote_rest(before: usize, behind: usize, pad: u8, start: usize, end: usize) -> QuoteRest
     ensures { result ≡ record { stage = 1; before = before; start = start; end = end; behind = behind; pad = pad } }
 {
     QuoteRest {
-        stage: WHOLE,
+        stage: Stage::Whole.into(),
         before,
         start,
         end,
@@ -58,30 +84,13 @@ pub fn quote_rest(before: usize, behind: usize, pad: u8, start: usize, end: usiz
 }
 
 // How many bytes of padding are left, and the place after those written.
-#[derive(Clone, Copy)]
-struct Padded {
-    missing: usize,
-    at: usize,
-}
-
-fn pad_some(count: usize, pad: u8, out: &mut [u8], from: usize) -> Padded
+fn pad_some(count: usize, pad: u8, out: &mut [u8], from: usize) -> (usize, usize)
     requires { from ≤ length out.old }
-    ensures { Pads count pad from out.old out.new result.missing result.at }
+    ensures { Pads count pad from out.old out.new result.0 result.1 }
 {
     let n = reach(out.len(), from, count);
-    let end = from + n;
-    fill(pad, &mut out[from..end]);
-    Padded {
-        missing: count - n,
-        at: end,
-    }
-}
-
-// The stage inside the quotes.
-fn stage_inside(gone: bool) -> usize
-    ensures { result ≡ cond gone 3 2 }
-{
-    if gone { HALFWAY } else { INSIDE }
+    fill(pad, &mut out[from..from + n]);
+    (count - n, from + n)
 }
 
 // The padding on the right. What it promises holds for any table that has the string.
@@ -90,39 +99,47 @@ fn write_padding(q: QuoteRest, out: &mut [u8], from: usize) -> RestWritten
     requires from_in_bounds { from ≤ length out.old }
     ensures { (t : List ℕ) → RestIn t q → WritesRest t q from out.old out.new result }
 {
-    let padded = pad_some(q.behind, q.pad, out, from);
-    let mut rest = q;
-    rest.behind = padded.missing;
-    if padded.missing == 0 {
-        rest.stage = DONE;
-    }
+    let (behind, at) = pad_some(q.behind, q.pad, out, from);
+    let stage = if behind == 0 {
+        Stage::Done
+    } else {
+        Stage::Padding
+    };
     RestWritten {
-        rest,
-        at: padded.at,
+        rest: QuoteRest {
+            stage: stage.into(),
+            behind,
+            ..q
+        },
+        at,
     }
 }
 
-// From a byte of the string on.
-fn write_inside(q: QuoteRest, table: &[u8], out: &mut [u8], from: usize) -> RestWritten
+// From a byte of the string on, whose backslash is gone or not.
+fn write_inside(q: QuoteRest, gone: bool, table: &[u8], out: &mut [u8], from: usize) -> RestWritten
     requires rest_in { RestIn table.now q }
-    requires le_stage { (2 ≤ q.stage) × (q.stage ≤ 3) }
+    requires stage_value { q.stage ≡ cond gone 3 2 }
     requires from_in_bounds { from ≤ length out.old }
     ensures { WritesRest table.now q from out.old out.new result }
 {
-    let start = q.start;
-    let end = q.end;
-    let gone = q.stage == HALFWAY;
-    let stand = escape_some(string_part(table, start, end), gone, out, from);
-    let at = stand.at;
-    let mut rest = q;
+    let string = string_part(table, q.start, q.end);
+    let (Spot { next, gone }, at) = escape_some(string, gone, out, from);
     if at < out.len() {
         out[at] = b'"';
-        rest.stage = PADDING;
+        let rest = QuoteRest {
+            stage: Stage::Padding.into(),
+            ..q
+        };
         return write_padding(rest, out, at + 1);
     }
-    rest.stage = stage_inside(stand.gone);
-    rest.start = start + stand.next;
-    RestWritten { rest, at }
+    RestWritten {
+        rest: QuoteRest {
+            stage: Stage::Inside { gone }.into(),
+            start: q.start + next,
+            ..q
+        },
+        at,
+    }
 }
 
 // From the padding on the left on.
@@ -132,16 +149,19 @@ fn write_from_left(q: QuoteRest, table: &[u8], out: &mut [u8], from: usize) -> R
     requires from_in_bounds { from ≤ length out.old }
     ensures { WritesRest table.now q from out.old out.new result }
 {
-    let padded = pad_some(q.before, q.pad, out, from);
-    let at = padded.at;
-    let mut rest = q;
+    let (before, at) = pad_some(q.before, q.pad, out, from);
     if at < out.len() {
         out[at] = b'"';
-        rest.stage = INSIDE;
-        return write_inside(rest, table, out, at + 1);
+        let rest = QuoteRest {
+            stage: Stage::Inside { gone: false }.into(),
+            ..q
+        };
+        return write_inside(rest, false, table, out, at + 1);
     }
-    rest.before = padded.missing;
-    RestWritten { rest, at }
+    RestWritten {
+        rest: QuoteRest { before, ..q },
+        at,
+    }
 }
 
 // Writes of the rest as much as there is room for behind `from`.
@@ -150,15 +170,10 @@ pub fn write_rest(q: QuoteRest, table: &[u8], out: &mut [u8], from: usize) -> Re
     requires from_in_bounds { from ≤ length out.old }
     ensures { WritesRest table.now q from out.old out.new result }
 {
-    let stage = q.stage;
-    if stage == DONE {
-        return RestWritten { rest: q, at: from };
+    match Stage::from(q.stage) {
+        Stage::Done => RestWritten { rest: q, at: from },
+        Stage::Whole => write_from_left(q, table, out, from),
+        Stage::Inside { gone } => write_inside(q, gone, table, out, from),
+        Stage::Padding => write_padding(q, out, from),
     }
-    if stage == WHOLE {
-        return write_from_left(q, table, out, from);
-    }
-    if stage <= HALFWAY {
-        return write_inside(q, table, out, from);
-    }
-    write_padding(q, out, from)
 }

@@ -6,14 +6,7 @@ ghost use Rattle.pieces.specs.Bytes.{Window};
 pub fn reach(len: usize, from: usize, n: usize) -> usize
     ensures { result ≡ min n (len - from) }
 {
-    if len <= from {
-        return 0;
-    }
-    let left = len - from;
-    if left < n {
-        return left;
-    }
-    n
+    n.min(len.saturating_sub(from))
 }
 
 // The places of a window below a fall in the first segment, those below b in the second, from its place start on.
@@ -29,11 +22,9 @@ pub fn cut(x: usize, y: usize, from: usize, n: usize) -> Cuts
     requires { x + y < 4294967296 }
     ensures { Window x y from n result.a result.b result.start }
 {
-    let a = reach(x, from, n);
-    let b = reach(x + y, from, n);
-    if from <= x {
-        return Cuts { a, b, start: 0 };
+    Cuts {
+        a: reach(x, from, n),
+        b: reach(x + y, from, n),
+        start: from.saturating_sub(x),
     }
-    let start = from - x;
-    Cuts { a, b, start }
 }

@@ -5,11 +5,12 @@ ghost use Rattle.pieces.specs.Bytes.{part, body_of, bytes_of, GoodBody, Good};
 use super::copying::{copy_part, fill};
 use super::figuring::figure_part;
 use super::quoting::quote_part;
-use super::window::cut;
+use super::window::{Cuts, cut};
 use super::{Body, Content, Piece};
 use table::string_part;
 
 // Whatever table the piece is good for, this is its length.
+#[tactic(auto, using(crate::proofs::Bodies::length_bytes))]
 pub fn piece_length(piece: Piece) -> usize
     requires { (t : List ℕ) × Good t piece }
     ensures length { (t : List ℕ) → Good t piece → result ≡ length (bytes_of t piece) }
@@ -24,20 +25,17 @@ fn body_part(body: Body, table: &[u8], from: usize, out: &mut [u8])
     requires out_len_bound { length out.old ≤ body.size - from }
     ensures { out.new ≡ part from (length out.old) (body_of table.now body) }
 {
-    let size = body.size;
-    let word = body.word;
-    let content = body.content;
-    match content {
-        Content::Run { byte, count: _ } => fill(byte, out),
+    match body.content {
+        Content::Run { byte, .. } => fill(byte, out),
         Content::Copied { start, end } => copy_part(string_part(table, start, end), from, out),
         Content::Quoted { start, end } => quote_part(
             string_part(table, start, end),
-            size,
+            body.size,
             from,
             out,
         ),
-        Content::Figures(x) => figure_part(x, size, from, out),
-        Content::Word(n) => copy_part(&word[0..n], from, out),
+        Content::Figures(x) => figure_part(x, body.size, from, out),
+        Content::Word(n) => copy_part(&body.word[..n], from, out),
     }
 }
 
@@ -48,31 +46,21 @@ pub fn write_part(piece: Piece, table: &[u8], from: usize, out: &mut [u8])
     ensures { out.new ≡ take (length out.old) (drop from (bytes_of table.now piece)) }
 {
     let n = out.len();
-    let before = piece.before;
-    let pad = piece.pad;
-    let body = piece.body;
-    let size = body.size;
-    let cuts = cut(before, size, from, n);
-    let a = cuts.a;
-    let b = cuts.b;
-    let start = cuts.start;
-    fill(pad, &mut out[0..a]);
-    body_part(body, table, start, &mut out[a..b]);
-    fill(pad, &mut out[b..n]);
+    let Cuts { a, b, start } = cut(piece.before, piece.body.size, from, n);
+    fill(piece.pad, &mut out[..a]);
+    body_part(piece.body, table, start, &mut out[a..b]);
+    fill(piece.pad, &mut out[b..]);
 }
 
 // Fills out, which is as long as the piece, with all of it.
+#[tactic(auto, using(crate::proofs::Bodies::length_bytes))]
 pub fn write_whole(piece: Piece, table: &[u8], out: &mut [u8])
     requires good { Good table.now piece }
     requires out_len { length out.old ≡ length (bytes_of table.now piece) }
     ensures { out.new ≡ bytes_of table.now piece }
 {
-    let n = out.len();
-    let before = piece.before;
-    let pad = piece.pad;
-    let body = piece.body;
-    let end = before + body.size;
-    fill(pad, &mut out[0..before]);
-    body_part(body, table, 0, &mut out[before..end]);
-    fill(pad, &mut out[end..n]);
+    let end = piece.before + piece.body.size;
+    fill(piece.pad, &mut out[..piece.before]);
+    body_part(piece.body, table, 0, &mut out[piece.before..end]);
+    fill(piece.pad, &mut out[end..]);
 }

@@ -2,8 +2,8 @@
 use Rattle.std.specs.Prelude.{ℕ, Bool, cond, List, ◌++◌, leb, length, drop}
 use Rattle.rules.specs.Choice.{both}
 use Rattle.rules.specs.Number.{digits_of}
-use Rattle.rules.specs.declared.Verdict.{Verdict}
-use Rattle.rules.specs.declared.Verdict.TheVariants.{Accepted, Refused}
+use Rattle.rules.specs.Verdict.{Verdict}
+use Rattle.rules.specs.Verdict.{Accepted, Refused}
 
 -- 01's code for each case of a verdict: 0 for "done"
 abbrev pub code_of : Verdict → ℕ

@@ -7,7 +7,7 @@ use Prim.Native.Nat.{ℕ, ◌+◌, ◌≤◌, ◌<◌}
 use native.Mathlib.Omega.{arith}
 use lib.ListN.{length, get_or}
 use Rattle.rules.specs.Text.{directive_met, innermost, outer}
-use Rattle.rules.specs.declared.Setting.{Setting}
+use Rattle.rules.specs.Setting.{Setting}
 use Rattle.rules.proofs.Reading.{item_literal}
 use Rattle.rules.proofs.TextLaws.{Within, next_inside, verdict_literal, verdict_written, levels_literal, levels_writes}
 use Rattle.reader.specs.Shorts.{Brief, form_of, short_directive, IsShort, ShortAt, Skips}

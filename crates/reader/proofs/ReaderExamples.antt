@@ -1,7 +1,9 @@
 -- Short directives and marks of some texts, by their definitions. Assumes nothing.
 use mathlib.Core.Path.{◌≡◌, refl}
 use Rattle.rules.specs.Letters.{bytes}
+use Rattle.std.specs.Prelude.{None, Some}
 use Rattle.reader.specs.Marks.{mark_of, mark_at}
+use Rattle.reader.specs.declared.marks.Mark.TheVariants.{TwoClauses}
 use Rattle.reader.specs.Scans.{number_from}
 use Rattle.reader.specs.Shorts.{short_kind, short_detail, coded_at, short_at}
 use Rattle.reader.specs.declared.short.Short.TheVariants.{Other, Is}
@@ -51,11 +53,11 @@ unfolding number_from
 zeros_passed = refl
 
 -- ~:[
-two_clauses : mark_at (bytes "~:[") 0 ≡ 5
+two_clauses : mark_at (bytes "~:[") 0 ≡ Some TwoClauses
 unfolding mark_of
 two_clauses = refl
 
 -- ~:; is no mark
-fallback : mark_at (bytes "~:;") 0 ≡ 0
+fallback : mark_at (bytes "~:;") 0 ≡ None
 unfolding mark_of
 fallback = refl

@@ -21,16 +21,17 @@ use Rattle.rules.specs.declared.Directive.{Directive}
 use Rattle.rules.specs.declared.Item.{Item}
 use Rattle.rules.specs.declared.Item.TheVariants.{Written, BadNumber, Unfinished}
 use Rattle.rules.specs.declared.Parameter.{Parameter}
-use Rattle.rules.specs.declared.Parameter.TheVariants.{Number, Character, Next, Remaining}
+use Rattle.rules.specs.declared.Parameter.TheVariants.{Default, Number, Character, Next, Remaining}
 use Rattle.rules.specs.declared.Parameters.{Parameters}
 use Rattle.rules.proofs.Reading.{scan_on, scan_end}
 use Rattle.reader.specs.Scans.{digit_at, comma_at, zeros_at, greatest_of, after_at, reading, Numbers}
-use Rattle.reader.specs.Scans.{number_parameter, number_from, Ends, Advances, Parametrises}
+use Rattle.std.specs.Prelude.{Option, None, Some, Result, Ok, Err}
+use Rattle.std.specs.Option.{unwrap_or}
+use Rattle.reader.specs.Scans.{number_parameter, number_to, number_from, misread, Ends, Advances, Parametrises}
 use Rattle.reader.specs.Spans.{is_zero, span_of}
 use Rattle.reader.specs.declared.directive.NumberRead.{NumberRead}
-use Rattle.reader.specs.declared.directive.NumberRead.TheVariants.{Bad as BadOne, Whole as WholeOne}
 use Rattle.reader.specs.declared.directive.ParameterRead.{ParameterRead}
-use Rattle.reader.specs.declared.directive.ParameterRead.TheVariants.{Bad, Cut, Whole}
+use Rattle.reader.specs.declared.directive.Misread.{Misread}
 use Rattle.reader.proofs.SpanLaws.{span_on, span_inside, span_first}
 
 pub no_both : ◌≡◌ {A = Bool} false true → ⊥
@@ -131,7 +132,7 @@ module _ (t : List ℕ) (p : ℕ) (n most : ℕ) where
         le-leb _ _ k,
       )
 
-  number_over : digit_at t p ≡ true → most < one_more n (get_or t p 0) → number_from most n (drop p t) p ≡ BadOne
+  number_over : digit_at t p ≡ true → most < one_more n (get_or t p 0) → number_from most n (drop p t) p ≡ None
   unfolding number_from
   number_over e k =
       rw (
@@ -141,7 +142,7 @@ module _ (t : List ℕ) (p : ℕ) (n most : ℕ) where
         lt-leb _ _ k,
       )
 
-  number_end : digit_at t p ≡ false → number_from most n (drop p t) p ≡ WholeOne n p
+  number_end : digit_at t p ≡ false → number_from most n (drop p t) p ≡ Some (number_to n p)
   unfolding number_from
   number_end e =
       elim (dec_lt p (length t)) [
@@ -247,6 +248,17 @@ module _ (t : List ℕ) (p : ℕ) (r : Reading) (d : Directive) where
 abbrev pub marked : Bool → Bool → Parameters → Directive
 marked colon atsign ps = record { code = Unknown; colon = colon; atsign = atsign; parameters = ps; after = 0 }
 
+-- the byte b is no modifier k, or is seen already
+pub no_modifier : (b k : ℕ) (x : Bool) → (b ≡ k → ⊥) → both (eqb b k) (not x) ≡ false
+no_modifier b k x e = rw (ne_eqb b k e)
+
+pub seen_modifier : (b k : ℕ) (x : Bool) → x ≡ true → both (eqb b k) (not x) ≡ false
+seen_modifier b k x e = rw e (by (eqb b k))
+  where
+    by : (y : Bool) → both y false ≡ false
+    by true = refl
+    by false = refl
+
 module _ (t : List ℕ) (p : ℕ) (colon atsign : Bool) (ps : Parameters) (h : p < length t) where
   pub colon_on : both (eqb (get_or t p 0) 58) (not colon) ≡ true
       → scan modifiers (marked colon atsign ps) (drop p t) p ≡ scan modifiers (marked true atsign ps) (drop (p + 1) t) (p + 1)
@@ -289,7 +301,7 @@ number_first t p m = record {
 }
 
 module _ {t : List ℕ} {first : ℕ} {m : Bool} {n i : ℕ} (s : Numbering t first m n i) where
-  pub number_none : digit_at t i ≡ false → i ≡ first → Numbers t first m BadOne
+  pub number_none : digit_at t i ≡ false → i ≡ first → Numbers t first m None
   number_none e z = record {
     same = rw (rw z at e);
     is = λ d. signed_none t first m d (rw z at e);
@@ -297,21 +309,21 @@ module _ {t : List ℕ} {first : ℕ} {m : Bool} {n i : ℕ} (s : Numbering t fi
     few = tt;
   }
 
-  pub number_whole : digit_at t i ≡ false → (i ≡ first → ⊥) → Numbers t first m (WholeOne n i)
+  pub number_whole : digit_at t i ≡ false → (i ≡ first → ⊥) → Numbers t first m (Some (number_to n i))
   number_whole e z = record {
     same = rw (s.begun z) (sym (s.through ∙ number_end t i n (greatest_of m) e));
     is = λ d. s.same (s.begun z) d ∙ digits_end t i m n d e;
-    advances = record { on = s.forth; within = s.within z; empty = refl };
+    advances = record { on = s.forth; within = s.within z };
     few = s.small;
   }
 
-  -- b is the digit at i
-  module _ (b most : ℕ) (e : digit_at t i ≡ true) (is : b ≡ get_or t i 0)
+  -- x is the digit at i
+  module _ (x most : ℕ) (e : digit_at t i ≡ true) (is : x ≡ get_or t i 0 - 48)
       (top : (most ≡ greatest_of m) × (most ≤ 4096)) where
     begins : digit_at t first ≡ true
     begins = elim (dec_eq i first) [ yes z ↦ rw z at e | no z ↦ s.begun z ]
 
-    pub number_more : n * 10 + (b - 48) ≤ most → Numbering t first m (n * 10 + (b - 48)) (i + 1)
+    pub number_more : n * 10 + x ≤ most → Numbering t first m (n * 10 + x) (i + 1)
     number_more k =
         let h : i < length t = test_inside t i (is_digit (get_or t i 0)) e in
         let low : one_more n (get_or t i 0) ≤ greatest_of m = omega (arith, is, top.0) in
@@ -324,7 +336,7 @@ module _ {t : List ℕ} {first : ℕ} {m : Bool} {n i : ℕ} (s : Numbering t fi
           forth = omega (arith, s.forth);
         }
 
-    pub number_out : most < n * 10 + (b - 48) → Numbers t first m BadOne
+    pub number_out : most < n * 10 + x → Numbers t first m None
     number_out k =
         let high : greatest_of m < one_more n (get_or t i 0) = omega (arith, is, top.0) in
         record {
@@ -342,14 +354,7 @@ zeros_inside t i e =
     byte_inside t i (λ z. omega (arith, q, z))
 
 zero_byte : (b : ℕ) → is_zero b ≡ true → b ≡ 48
-zero_byte b e = elim (dec_eq b 48) [
-  | yes z ↦ z
-  | no z ↦
-      let f = rw (ne_eqb b 48 z) at e in
-      let low = leb-true 48 b (both_first (leb 48 b) (leb b 48) f) in
-      let high = leb-true b 48 (both_second (leb 48 b) (leb b 48) f) in
-      omega (arith, low, high)
-]
+zero_byte b e = eqb-true b 48 e
 
 greatest_few : (m : Bool) → greatest_of m ≤ 4096
 greatest_few true = omega arith
@@ -367,7 +372,7 @@ module _ (t : List ℕ) (first : ℕ) (m : Bool) where
       let b = zero_byte (get_or t i 0) (span_first is_zero t i some) in
       let on : k ≤ zeros t (i + 1) = omega (arith, e, span_on is_zero t i h (rw b)) in
       let after : i + 1 + k ≡ i + suc k = omega arith in
-      let more = number_more s 48 (greatest_of m) (rw (lt-ltb i (length t) h, b)) (sym b) (refl, greatest_few m) (omega arith) in
+      let more = number_more s 0 (greatest_of m) (rw (lt-ltb i (length t) h, b)) (rw b) (refl, greatest_few m) (omega arith) in
       rw after at (zeros_passed k (i + 1) more on)
 
   pub zeros_first : (i : ℕ) → first ≤ i → i ≤ first + zeros t first → Numbering t first m 0 i
@@ -376,24 +381,26 @@ module _ (t : List ℕ) (first : ℕ) (m : Bool) where
       rw on at (zeros_passed (i - first) first (number_first t first m) (omega arith))
 
 -- a number that begins at i or after it, where a parameter begins at i
-later : (t : List ℕ) (i j : ℕ) → i ≤ j → (r : NumberRead) → Advances t j (number_parameter r)
+later : (t : List ℕ) (i j : ℕ) → i ≤ j → (r : Option NumberRead) → Advances t j (number_parameter r)
     → Advances t i (number_parameter r)
-later t i j h BadOne a = tt
-later t i j h (WholeOne n after) a = record { on = omega (arith, a.on); within = a.within; empty = refl }
+later t i j h None a = tt
+later t i j h (Some r) a = record { on = omega (arith, a.on); within = a.within }
 
-pub number_written : (t : List ℕ) (i j : ℕ) (m : Bool) (r : NumberRead) (q : ParameterRead) → q ≡ number_parameter r
+pub number_written : (t : List ℕ) (i j : ℕ) (m : Bool) (r : Option NumberRead) (q : Result ParameterRead Misread)
+    → q ≡ number_parameter r
     → i ≤ j → ((d : Directive) → scan start d (drop i t) i ≡ scan (signed m) d (drop j t) j) → Numbers t j m r
     → Parametrises t i q
 number_written t i j m r q e h on s =
     rw e (record { is = λ d. on d ∙ s.is d; advances = later t i j h r s.advances })
 
 -- any other parameter that is written
-pub parameter_written : (t : List ℕ) (i : ℕ) (x : Parameter) (after : ℕ) (q : ParameterRead) → q ≡ Whole x true after
+pub parameter_written : (t : List ℕ) (i : ℕ) (x : Parameter) (after : ℕ) (q : Result ParameterRead Misread)
+    → q ≡ Ok (record { parameter = Some x; after = after })
     → i ≤ after → after ≤ length t
     → ((d : Directive) → scan start d (drop i t) i ≡ after_at t (whole x) d after)
     → Parametrises t i q
 parameter_written t i x after q e h k on =
-    rw e (record { is = on; advances = record { on = h; within = k; empty = refl } })
+    rw e (record { is = on; advances = record { on = h; within = k } })
 
 -- the loop over parameters: those before i are ps
 pub record Directing (t : List ℕ) (first : ℕ) (ps : Parameters) (i : ℕ) : Type 0 where
@@ -404,35 +411,36 @@ pub record Directing (t : List ℕ) (first : ℕ) (ps : Parameters) (i : ℕ) : 
 pub directive_first : (t : List ℕ) (p : ℕ) (ps : Parameters) → ps ≡ no_parameters → p ≤ length t → Directing t p ps p
 directive_first t p ps e h = rw e (record { same = refl; few = omega arith; within = h })
 
-pub parameter_ends : {t : List ℕ} {i : ℕ} {r : ParameterRead} (x : Parameter) (written : Bool) (after : ℕ)
-    → Parametrises t i r → r ≡ Whole x written after → Ends t i x written after
-parameter_ends x written after q e = rw e at q.advances
+pub pending_read : (o : Option Parameter) → pending (reading o) ≡ unwrap_or o Default
+pending_read None = refl
+pending_read (Some x) = refl
 
-module _ {t : List ℕ} {first : ℕ} {ps : Parameters} {i : ℕ} {r : ParameterRead} (s : Directing t first ps i)
-    (q : Parametrises t i r) where
-  pub directive_bad : r ≡ Bad → BadNumber ≡ scan start blank (drop first t) first
-  directive_bad e = sym (s.same ∙ q.is (having blank ps) ∙ rw e)
+pub parameter_ends : {t : List ℕ} {i : ℕ} {r : Result ParameterRead Misread} (q : ParameterRead)
+    → Parametrises t i r → r ≡ Ok q → Ends t i q
+parameter_ends q u e = rw e at u.advances
 
-  pub directive_cut : r ≡ Cut → Unfinished ≡ scan start blank (drop first t) first
-  directive_cut e = sym (s.same ∙ q.is (having blank ps) ∙ rw e)
+module _ {t : List ℕ} {first : ℕ} {ps : Parameters} {i : ℕ} {r : Result ParameterRead Misread}
+    (s : Directing t first ps i) (u : Parametrises t i r) where
+  pub directive_none : (e : Misread) → r ≡ Err e → misread e ≡ scan start blank (drop first t) first
+  directive_none e is = sym (s.same ∙ u.is (having blank ps) ∙ rw is)
 
-  module _ (x : Parameter) (written : Bool) (after : ℕ) (e : r ≡ Whole x written after) where
-    goes_on_lem : scan start blank (drop first t) first ≡ after_at t (reading written x) (having blank ps) after
-    goes_on_lem = s.same ∙ q.is (having blank ps) ∙ rw e
+  module _ (q : ParameterRead) (e : r ≡ Ok q) where
+    goes_on_lem : scan start blank (drop first t) first ≡ after_at t (reading q.parameter) (having blank ps) q.after
+    goes_on_lem = s.same ∙ u.is (having blank ps) ∙ rw e
 
-    pub directive_more : comma_at t after ≡ true → (more : Parameters) → more ≡ with_parameter ps x
-        → Directing t first more (after + 1)
+    pub directive_more : comma_at t q.after ≡ true → (more : Parameters) → more ≡ with_parameter ps (pending (reading q.parameter))
+        → Directing t first more (q.after + 1)
     directive_more c more is =
-        let end = parameter_ends x written after q e in
-        let h : after < length t = test_inside t after (eqb (get_or t after 0) 44) c in
+        let end = parameter_ends q u e in
+        let h : q.after < length t = test_inside t q.after (eqb (get_or t q.after 0) 44) c in
         rw is (record {
-          same = goes_on_lem ∙ comma_on t after (reading written x) (having blank ps) c ∙ rw end.empty;
+          same = goes_on_lem ∙ comma_on t q.after (reading q.parameter) (having blank ps) c;
           few = omega (arith, end.on, s.few);
           within = omega arith;
         })
 
-    pub directive_whole : comma_at t after ≡ false → (all : Parameters) → all ≡ closed (reading written x) ps
-        → (item : Item) → item ≡ scan modifiers (having blank all) (drop after t) after
+    pub directive_whole : comma_at t q.after ≡ false → (all : Parameters) → all ≡ closed (reading q.parameter) ps
+        → (item : Item) → item ≡ scan modifiers (having blank all) (drop q.after t) q.after
         → item ≡ scan start blank (drop first t) first
     directive_whole c all is item last =
-        last ∙ rw is (sym (goes_on_lem ∙ comma_none t after (reading written x) (having blank ps) c))
+        last ∙ rw is (sym (goes_on_lem ∙ comma_none t q.after (reading q.parameter) (having blank ps) c))

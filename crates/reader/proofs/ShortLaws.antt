@@ -16,12 +16,11 @@ use Rattle.rules.specs.declared.Form.{Form}
 use Rattle.rules.specs.declared.Item.TheVariants.{Written}
 use Rattle.rules.specs.declared.Parameter.TheVariants.{Character}
 use Rattle.rules.specs.declared.Parameters.{Parameters}
-use Rattle.rules.specs.declared.Setting.{Setting}
-use Rattle.rules.specs.declared.Setting.TheVariants.{Absent, Is}
+use Rattle.rules.specs.Setting.{Setting}
+use Rattle.std.specs.Prelude.{Option, None, Some}
 use Rattle.rules.proofs.Reading.{item_tilde}
-use Rattle.reader.specs.Scans.{digit_at, zeros_at, number_from, after_at, Numbers}
+use Rattle.reader.specs.Scans.{digit_at, zeros_at, number_to, number_from, after_at, Numbers}
 use Rattle.reader.specs.declared.directive.NumberRead.{NumberRead}
-use Rattle.reader.specs.declared.directive.NumberRead.TheVariants.{Bad as BadOne, Whole as WholeOne}
 use Rattle.reader.specs.Shorts.{Brief, object, numeral, repeats, form_of, brief_of, setting_of, short_form, short_parameters, short_directive, NumberIn, CharacterIn, NoneIn, ShortIn, ShortAt, leading, NoSign, Leads}
 use Rattle.reader.specs.Shorts.{short_kind, short_detail, fits_in, coded_at, second_at, after_second, short_after, leading_at, short_at, next_or, ShortRead, AfterShort}
 use Rattle.reader.specs.declared.short.Short.{Short}
@@ -31,7 +30,7 @@ use Rattle.reader.proofs.KindLaws.{Fits, fits_is, kind_is}
 
 -- 1. A number that may be left out.
 
-setting_is : (none n : ℕ) → (n ≡ none → ⊥) → setting_of none n ≡ Is n
+setting_is : (none n : ℕ) → (n ≡ none → ⊥) → setting_of none n ≡ Some n
 setting_is none n z = rw (ne_eqb n none z)
 
 -- nothing short stands at the end
@@ -43,7 +42,7 @@ module _ (t : List ℕ) (number : ℕ) where
   unfolding short_kind coded_at
   uncoded = rw past
 
-  none_past : short_after t (WholeOne number (length t)) ≡ Other
+  none_past : short_after t (Some (number_to number (length t))) ≡ Other
   none_past =
       let e : second_at t (length t) ≡ 256 = rw past in
       ap (λ (c : ℕ). coded_at t number c (after_second (length t) c)) e ∙ uncoded
@@ -70,18 +69,18 @@ module _ (t : List ℕ) (first : ℕ) (h : first ≤ length t) where
   pub leads_zeros : digit_at t first ≡ true → zeros_at t first ≡ true → Leads t first 4097 (length t)
   leads_zeros e z = leads_past (rw (e, z))
 
-  module _ (r : NumberRead) (e : digit_at t first ≡ true) (o : zeros_at t first ≡ false) (s : Numbers t first false r) where
+  module _ (r : Option NumberRead) (e : digit_at t first ≡ true) (o : zeros_at t first ≡ false) (s : Numbers t first false r) where
     leads_same : short_after t (leading_at t first) ≡ short_after t r
     leads_same =
         let q : r ≡ number_from 4096 0 (drop first t) first = s.same ∙ rw e in
         rw (e, o) (ap (short_after t) (sym q))
 
-    pub leads_bad : r ≡ BadOne → Leads t first 4097 (length t)
+    pub leads_bad : r ≡ None → Leads t first 4097 (length t)
     leads_bad q = leads_past (leads_same ∙ ap (short_after t) q)
 
-    pub leads_number : (n after : ℕ) → r ≡ WholeOne n after → Leads t first n after
+    pub leads_number : (n after : ℕ) → r ≡ Some (number_to n after) → Leads t first n after
     leads_number n after q =
-        let u : Numbers t first false (WholeOne n after) = subst (Numbers t first false) q s in
+        let u : Numbers t first false (Some (number_to n after)) = subst (Numbers t first false) q s in
         let z : n ≡ 4097 → ⊥ = λ y. omega (arith, y, u.few) in
         let k = test_inside t first (is_digit (get_or t first 0)) e in
         record {
@@ -156,35 +155,35 @@ module _ (t : List ℕ) (i : ℕ) (f : Form) (h : i < length t) (e : code_of (ge
       (rw (ne_eqb (get_or t i 0) 10 (no_newline (get_or t i 0) s)) (omega arith))
 
 -- without a character, and with one
-closed_one : (x : Setting) → having blank (closed (leading x) no_parameters) ≡ marked false false (short_parameters x Absent)
-closed_one Absent = refl
-closed_one (Is n) = refl
+closed_one : (x : Setting) → having blank (closed (leading x) no_parameters) ≡ marked false false (short_parameters x None)
+closed_one None = refl
+closed_one (Some n) = refl
 
 closed_two : (x : Setting) (c : ℕ)
     → having (having blank (with_parameter no_parameters (pending (leading x)))) (closed (whole (Character c)) (with_parameter no_parameters (pending (leading x))))
-    ≡ marked false false (short_parameters x (Is c))
-closed_two Absent c = refl
-closed_two (Is n) c = refl
+    ≡ marked false false (short_parameters x (Some c))
+closed_two None c = refl
+closed_two (Some n) c = refl
 
 module _ (t : List ℕ) (p number i : ℕ) (f : Form) (h : p < length t) (e : get_or t p 0 ≡ 126) (l : Leads t (p + 1) number i) where
   abbrev lead : Setting
   lead = setting_of 4097 number
 
   one_read : (k : i < length t) → code_of (get_or t i 0) ≡ Writes f → (short_kind (lower_case (get_or t i 0)) ≡ 3 → ⊥)
-      → item_at t p ≡ Written (short_directive f lead Absent (i + 1))
+      → item_at t p ≡ Written (short_directive f lead None (i + 1))
   one_read k w s =
       item_tilde t p h e ∙ l.is k (no_sign (get_or t i 0) s t i refl) blank
-      ∙ code_read t i f k w s (leading lead) blank (short_parameters lead Absent) (closed_one lead)
+      ∙ code_read t i f k w s (leading lead) blank (short_parameters lead None) (closed_one lead)
 
   two_read : (c j : ℕ) → j ≡ i + 1 + 1 + 1 → i + 1 + 1 < length t → get_or t i 0 ≡ 44 → get_or t (i + 1) 0 ≡ 39 → c ≡ get_or t (i + 1 + 1) 0
       → j < length t → code_of (get_or t j 0) ≡ Writes f → (short_kind (lower_case (get_or t j 0)) ≡ 3 → ⊥)
-      → item_at t p ≡ Written (short_directive f lead (Is c) (j + 1))
+      → item_at t p ≡ Written (short_directive f lead (Some c) (j + 1))
   two_read c j is k comma mark q m w s =
       item_tilde t p h e ∙ l.is (omega arith) (comma_sign t i comma) blank
       ∙ comma_on t i (leading lead) blank (rw (lt-ltb i (length t) (omega arith), eq-eqb (get_or t i 0) 44 comma))
       ∙ quote_whole_lem t (i + 1) (having blank (with_parameter no_parameters (pending (leading lead)))) (omega arith) mark k
       ∙ rw (← q, ← is)
-      (code_read t j f m w s (whole (Character c)) (having blank (with_parameter no_parameters (pending (leading lead)))) (short_parameters lead (Is c)) (closed_two lead c))
+      (code_read t j f m w s (whole (Character c)) (having blank (with_parameter no_parameters (pending (leading lead)))) (short_parameters lead (Some c)) (closed_two lead c))
 
 -- 4. What is read is what the definition reads.
 
@@ -288,13 +287,13 @@ after_read t p s u = record { is = ap (next_or p) u.is; means = subst (ShortAt t
 
 pub short_well : (b : Brief) (x y : Setting) (after : ℕ) → ShortIn b x y → well_written (short_directive (form_of b) x y after) ≡ true
 unfolding well_written
-short_well (object q) Absent Absent after s = refl
-short_well (object q) (Is n) Absent after s = rw (le-leb 0 n (omega arith), le-leb n 4096 s.0)
-short_well (object q) x (Is c) after s = absurd s.1
-short_well (numeral b) Absent Absent after s = refl
-short_well (numeral b) (Is n) Absent after s = rw (le-leb 0 n (omega arith), le-leb n 4096 s.0)
-short_well (numeral b) Absent (Is c) after s = refl
-short_well (numeral b) (Is n) (Is c) after s = rw (le-leb 0 n (omega arith), le-leb n 4096 s.0)
-short_well (repeats b) Absent Absent after s = refl
-short_well (repeats b) (Is n) Absent after s = rw (le-leb 0 n (omega arith), le-leb n 4096 s.0)
-short_well (repeats b) x (Is c) after s = absurd s.1
+short_well (object q) None None after s = refl
+short_well (object q) (Some n) None after s = rw (le-leb 0 n (omega arith), le-leb n 4096 s.0)
+short_well (object q) x (Some c) after s = absurd s.1
+short_well (numeral b) None None after s = refl
+short_well (numeral b) (Some n) None after s = rw (le-leb 0 n (omega arith), le-leb n 4096 s.0)
+short_well (numeral b) None (Some c) after s = refl
+short_well (numeral b) (Some n) (Some c) after s = rw (le-leb 0 n (omega arith), le-leb n 4096 s.0)
+short_well (repeats b) None None after s = refl
+short_well (repeats b) (Some n) None after s = rw (le-leb 0 n (omega arith), le-leb n 4096 s.0)
+short_well (repeats b) x (Some c) after s = absurd s.1

@@ -8,6 +8,8 @@ use native.Mathlib.Numerals.{add-one}
 use native.Mathlib.Omega.{arith}
 use lib.ListN.{length, get_or, drop, drop_of_length-le}
 use lib.Seq.{drop-cons}
+use Rattle.std.specs.List.{take_while}
+use Rattle.std.proofs.lemmas.List.Sums.{take_while-cons}
 use Rattle.rules.specs.Directive.{is_blank, blanks}
 use Rattle.reader.specs.Spans.{span_of, count_of, Along, Strides}
 
@@ -38,6 +40,15 @@ module _ (f : ℕ → Bool) (t : List ℕ) (p : ℕ) where
       by true e = refl
       by false e = absurd (omega (arith, z, span_none (span_inside z) e))
 
+pub span_most : (f : ℕ → Bool) (bs : List ℕ) → span_of f bs ≤ length bs
+unfolding span_of
+span_most f [] = omega arith
+span_most f (b ∷ bs) = by (f b) (span_most f bs)
+  where
+    by : (y : Bool) → span_of f bs ≤ length bs → cond y (suc (span_of f bs)) 0 ≤ suc (length bs)
+    by true h = omega arith
+    by false h = omega arith
+
 -- the bytes that a tilde-newline skips
 pub span_blanks : (bs : List ℕ) → span_of is_blank bs ≡ blanks bs
 unfolding span_of blanks
@@ -49,7 +60,7 @@ one_or_none : (y : Bool) → ◌≡◌ {A = ℕ} (cond y 1 0) 1 → y ≡ true
 one_or_none true e = refl
 one_or_none false e = absurd (omega (arith, e))
 
-at_most_one : (y : Bool) → cond y 1 0 ≤ 1
+pub at_most_one : (y : Bool) → cond y 1 0 ≤ 1
 at_most_one true = omega arith
 at_most_one false = omega arith
 
@@ -106,3 +117,12 @@ module _ {f : ℕ → Bool} {t : List ℕ} {first i : ℕ} (s : Along f t first 
 
   pub stride_end : length t < i + 16 → Strides f t first i
   stride_end h = record { along = s; stops = λ k. absurd (omega (arith, h, k)) }
+
+pub blanks_taken : (bs : List ℕ) → length (take_while is_blank bs) ≡ span_of is_blank bs
+unfolding span_of
+blanks_taken [] = refl
+blanks_taken (b ∷ bs) = rw (take_while-cons is_blank b bs, ← blanks_taken bs) (by (is_blank b))
+  where
+    by : (y : Bool) → length (cond y (b ∷ take_while is_blank bs) []) ≡ cond y (suc (length (take_while is_blank bs))) 0
+    by true = refl
+    by false = refl

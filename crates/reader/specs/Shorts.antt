@@ -12,17 +12,16 @@ use Rattle.rules.specs.declared.Form.TheVariants.{Object, Numeral, Repeat}
 use Rattle.rules.specs.declared.Item.TheVariants.{Written}
 use Rattle.rules.specs.declared.Parameter.TheVariants.{Default, Number, Character}
 use Rattle.rules.specs.declared.Parameters.{Parameters}
-use Rattle.rules.specs.declared.Setting.{Setting}
-use Rattle.rules.specs.declared.Setting.TheVariants.{Absent, Is}
-use Rattle.reader.specs.Scans.{digit_at, zeros_at, number_at, after_at}
+use Rattle.rules.specs.Setting.{Setting}
+use Rattle.std.specs.Prelude.{Option, None, Some}
+use Rattle.reader.specs.Scans.{digit_at, zeros_at, number_to, number_at, after_at}
 use Rattle.reader.specs.declared.directive.NumberRead.{NumberRead}
-use Rattle.reader.specs.declared.directive.NumberRead.TheVariants.{Bad, Whole}
 use Rattle.reader.specs.declared.short.Short.{Short}
 use Rattle.reader.specs.declared.short.Short.TheVariants.{Other, Is as IsOne}
 
 -- a parameter as the code has it: `none` stands for one that is not written
 abbrev pub setting_of : ℕ → ℕ → Setting
-setting_of none n = cond (eqb n none) Absent (Is n)
+setting_of none n = cond (eqb n none) None (Some n)
 
 -- What may be short: ~a and, with true, ~s; ~d ~x ~o ~b by their base; ~~ ~% ~_ ~| ~/ by the byte that they repeat
 pub data Brief : Type 0 where
@@ -67,12 +66,12 @@ short_detail b = (look_up short_letters (3, 0) b).1
 
 -- the parameters of a short directive: a number x and a character y
 abbrev pub short_parameters : Setting → Setting → Parameters
-short_parameters Absent Absent = no_parameters
-short_parameters (Is n) Absent =
+short_parameters None None = no_parameters
+short_parameters (Some n) None =
     record { count = 1; first = Number n; second = Default; third = Default; fourth = Default; fifth = Default }
-short_parameters Absent (Is c) =
+short_parameters None (Some c) =
     record { count = 2; first = Default; second = Character c; third = Default; fourth = Default; fifth = Default }
-short_parameters (Is n) (Is c) =
+short_parameters (Some n) (Some c) =
     record { count = 2; first = Number n; second = Character c; third = Default; fourth = Default; fifth = Default }
 
 abbrev pub short_directive : Form → Setting → Setting → ℕ → Directive
@@ -81,16 +80,16 @@ short_directive f x y after =
 
 -- the parameters that a short directive takes
 abbrev pub NumberIn : Setting → Type 0
-NumberIn Absent = Unit {0}
-NumberIn (Is n) = n ≤ 4096
+NumberIn None = Unit {0}
+NumberIn (Some n) = n ≤ 4096
 
 abbrev pub CharacterIn : Setting → Type 0
-CharacterIn Absent = Unit {0}
-CharacterIn (Is c) = c < 256
+CharacterIn None = Unit {0}
+CharacterIn (Some c) = c < 256
 
 abbrev pub NoneIn : Setting → Type 0
-NoneIn Absent = Unit {0}
-NoneIn (Is c) = ⊥
+NoneIn None = Unit {0}
+NoneIn (Some c) = ⊥
 
 abbrev pub ShortIn : Brief → Setting → Setting → Type 0
 ShortIn (object q) x y = NumberIn x × NoneIn y
@@ -128,14 +127,14 @@ abbrev pub after_second : ℕ → ℕ → ℕ
 after_second i byte = cond (eqb byte 256) i (i + 3)
 
 -- after the number, the character and the code; behind a number that is refused nothing short stands
-abbrev pub short_after : List ℕ → NumberRead → Short
-short_after t Bad = Other
-short_after t (Whole number i) = coded_at t number (second_at t i) (after_second i (second_at t i))
+abbrev pub short_after : List ℕ → Option NumberRead → Short
+short_after t None = Other
+short_after t (Some r) = coded_at t r.value (second_at t r.after) (after_second r.after (second_at t r.after))
 
 -- the number that begins at i, or 4097; one that begins with two zeros is refused, so that a directive with thousands of
 -- them is read once, the general way
-abbrev pub leading_at : List ℕ → ℕ → NumberRead
-leading_at t i = cond (digit_at t i) (cond (zeros_at t i) Bad (number_at t false i)) (Whole 4097 i)
+abbrev pub leading_at : List ℕ → ℕ → Option NumberRead
+leading_at t i = cond (digit_at t i) (cond (zeros_at t i) None (number_at t false i)) (Some (number_to 4097 i))
 
 -- the short directive at p, if one stands there
 unfoldable pub short_at : List ℕ → ℕ → Short
@@ -157,8 +156,8 @@ pub record AfterShort (t : List ℕ) (p r : ℕ) : Type 0 where
 
 -- where reading stands after a number that may be left out
 abbrev pub leading : Setting → Reading
-leading Absent = starting
-leading (Is n) = whole (Number n)
+leading None = starting
+leading (Some n) = whole (Number n)
 
 -- the byte at i begins no parameter, or none but a number
 pub record NoSign (t : List ℕ) (i : ℕ) : Type 0 where
@@ -171,7 +170,7 @@ pub record NoSign (t : List ℕ) (i : ℕ) : Type 0 where
 -- the number that begins at `first`, or none, ends at next, unless a sign, a character, `v` or `#` follows; then nothing
 -- short stands there
 pub record Leads (t : List ℕ) (first number after : ℕ) : Type 0 where
-  pub same : short_after t (leading_at t first) ≡ short_after t (Whole number after)
+  pub same : short_after t (leading_at t first) ≡ short_after t (Some (number_to number after))
   pub is : after < length t → NoSign t after → (d : Directive)
       → scan starting d (drop first t) first ≡ after_at t (leading (setting_of 4097 number)) d after
   pub within : after ≤ length t

@@ -1,14 +1,13 @@
 -- Spans: bytes of one class that stand one after another. Assumes nothing: these are definitions.
-use Rattle.std.specs.Prelude.{ℕ, zero, suc, ◌+◌, ◌≤◌, ◌≡◌, Bool, true, cond, List, [], ◌∷◌, leb, eqb, length, get_or, drop}
-use Rattle.rules.specs.Choice.{both}
+use Rattle.std.specs.Prelude.{ℕ, zero, suc, ◌+◌, ◌≤◌, ◌<◌, ◌≡◌, Bool, cond, List, [], ◌∷◌, eqb, length, get_or, drop}
 use Rattle.rules.specs.Letters.{letter}
 
--- a class of bytes: those from low to high, and one other
-abbrev pub in_class : ℕ → ℕ → ℕ → ℕ → Bool
-in_class low high other b = cond (eqb b other) true (both (leb low b) (leb b high))
+-- what a test of the code answers is whether a byte is of the class f
+abbrev pub Decides : (ℕ → Bool → Type 0) → (ℕ → Bool) → Type 0
+Decides answers f = (b : ℕ) (y : Bool) → b < 256 → answers b y → y ≡ f b
 
 abbrev pub is_zero : ℕ → Bool
-is_zero = in_class (letter "0") (letter "0") (letter "0")
+is_zero b = eqb b (letter "0")
 
 -- how many bytes at the head of the list are of a class
 unfoldable pub span_of : (ℕ → Bool) → List ℕ → ℕ

@@ -7,15 +7,10 @@ use rules::{Bracket, Code, Form};
 pub fn lower_case(b: u8) -> u8
     ensures { result ≡ lower_case b }
 {
-    if b < b'A' {
-        return b;
-    }
-    if b'Z' < b {
-        return b;
-    }
-    b + 32
+    b.to_ascii_lowercase()
 }
 
+#[tactic(auto, unfolding(rules::specs::Directive::code_named))]
 fn code_named(b: u8) -> Code
     ensures { result ≡ code_named b }
 {

@@ -7,9 +7,8 @@ ghost use Rattle.reader.specs.Shorts.{short_form, Leads, second_at, after_second
 ghost use Rattle.reader.specs.Shorts.{ShortRead, AfterShort, SkipsShort};
 
 use crate::codes::lower_case;
-use crate::directive::{NumberRead, byte_at, digit_at, read_number, zeros_at};
+use crate::directive::{byte_at, digit_at, read_number, zeros_at};
 use rules::Form;
-use rules::scalars::wide;
 
 // Stands for a number that is not written.
 pub const NO_NUMBER: usize = 4097;
@@ -59,15 +58,14 @@ fn leading_number(text: &[u8], start: usize) -> Leading
                 after: text.len(),
             };
         }
-        let r = read_number(text, start, false);
-        return match r {
-            NumberRead::Bad => Leading {
+        return match read_number(text, start, false) {
+            None => Leading {
                 number: NO_NUMBER,
                 after: text.len(),
             },
-            NumberRead::Whole { value, after } => Leading {
-                number: value,
-                after,
+            Some(r) => Leading {
+                number: r.value,
+                after: r.after,
             },
         };
     }
@@ -83,7 +81,7 @@ fn second_character(text: &[u8], i: usize) -> usize
 {
     if byte_at(text, i) == b',' {
         if byte_at(text, i + 1) == b'\'' {
-            return wide(byte_at(text, i + 2));
+            return usize::from(byte_at(text, i + 2));
         }
     }
     NO_BYTE

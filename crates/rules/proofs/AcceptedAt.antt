@@ -11,7 +11,7 @@ use Rattle.rules.specs.declared.Code.{Code}
 use Rattle.rules.specs.declared.Code.TheVariants.{Writes, Jump, Escape, Opens, Separator, Closes, Unknown}
 use Rattle.rules.specs.declared.Directive.{Directive}
 use Rattle.rules.specs.declared.Item.TheVariants.{Literal, Written, BadNumber, Unfinished}
-use Rattle.rules.specs.declared.Verdict.TheVariants.{Accepted}
+use Rattle.rules.specs.Verdict.{Accepted}
 use Rattle.rules.proofs.TextLaws.{Sound, sound_start, sound_literal, sound_bad, sound_unfinished, sound_known, sound_writes, sound_jump, sound_escape, sound_opener, sound_separator, sound_closer}
 
 pub record AcceptedAt (t : List ℕ) (p : ℕ) : Type 0 where

@@ -12,8 +12,8 @@ use Rattle.rules.specs.Answer.{Answer, refused_at, if_fits, fit, call_arguments,
 use Rattle.rules.specs.Flow.{Flow, done, refused, put, limit}
 use Rattle.rules.specs.Table.{View, view_of, table_verdict}
 use Rattle.rules.specs.Text.{longest, text_verdict}
-use Rattle.rules.specs.declared.Verdict.{Verdict}
-use Rattle.rules.specs.declared.Verdict.TheVariants.{Accepted, Refused}
+use Rattle.rules.specs.Verdict.{Verdict}
+use Rattle.rules.specs.Verdict.{Accepted, Refused}
 use Rattle.rules.proofs.Faults.{TableFault, TextFault, table_fault, text_fault}
 use Rattle.rules.proofs.RunReports.{OutOfRangeAt, Reports, run_reports}
 use Rattle.rules.proofs.TextLaws.{sound_start}

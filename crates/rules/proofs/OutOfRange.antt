@@ -16,8 +16,8 @@ use Rattle.rules.specs.declared.Parameter.{Parameter}
 use Rattle.rules.specs.declared.Parameter.TheVariants.{Default, Number, Character, Next, Remaining}
 use Rattle.rules.specs.declared.Place.{Place}
 use Rattle.rules.specs.declared.Place.TheVariants.{Empty, Number as NumberPlace, Character as CharacterPlace}
-use Rattle.rules.specs.declared.Setting.{Setting}
-use Rattle.rules.specs.declared.Setting.TheVariants.{Is}
+use Rattle.rules.specs.Setting.{Setting}
+use Rattle.std.specs.Prelude.{Some}
 use Rattle.rules.proofs.Tests.{both_true, not_both_ways}
 
 -- an integer from least to most
@@ -65,7 +65,7 @@ range_worked : (cause : Type 0) (least most n next : ℕ) → (is_between least 
     → OneWorked cause (in_range least most n next)
 range_worked cause least most n next h = by (both (leb least n) (leb n most)) h
   where
-    by : (b : Bool) → (b ≡ false → cause) → OneWorked cause (cond b (worked (Is n) next) (wrong 8))
+    by : (b : Bool) → (b ≡ false → cause) → OneWorked cause (cond b (worked (Some n) next) (wrong 8))
     by true k = tt
     by false k = eight cause (k refl)
 

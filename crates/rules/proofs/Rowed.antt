@@ -14,8 +14,8 @@ use Rattle.rules.specs.declared.Parameter.TheVariants.{Default, Number, Characte
 use Rattle.rules.specs.declared.Parameters.{Parameters}
 use Rattle.rules.specs.declared.Place.TheVariants.{Empty, Number as NumberPlace}
 use Rattle.rules.specs.declared.Places.{Places}
-use Rattle.rules.specs.declared.Setting.{Setting}
-use Rattle.rules.specs.declared.Setting.TheVariants.{Absent, Is}
+use Rattle.rules.specs.Setting.{Setting}
+use Rattle.std.specs.Prelude.{None, Some}
 use Rattle.rules.proofs.Tests.{both_true, not_both_ways}
 
 -- a well-written directive's parameters suit its places
@@ -51,7 +51,7 @@ empty_default Remaining e = absurd (not_both_ways e refl)
 
 -- where there are no places, nothing is worked out
 pub none_settled : (v : View) (c : Context) (ps : Parameters) (next : ℕ) → each_suits (in_row no_places) (in_order ps) ≡ true
-    → settle_all v c no_places ps next ≡ settled (Absent ∷ Absent ∷ Absent ∷ Absent ∷ Absent ∷ []) next
+    → settle_all v c no_places ps next ≡ settled (None ∷ None ∷ None ∷ None ∷ None ∷ []) next
 unfolding settle work_out
 none_settled v c ps next e =
     let s = suited no_places ps e in
@@ -66,9 +66,9 @@ none_settled v c ps next e =
 -- a setting in a number place, or a default in its range
 module _ (P : ℕ → Type 0) (least most : ℕ) where
   pub number_least : (x : Setting) (n : ℕ) → InPlaceBy P (NumberPlace least most) x → least ≤ n → least ≤ or_else x n
-  number_least Absent n a h = h
-  number_least (Is k) n a h = a.0
+  number_least None n a h = h
+  number_least (Some k) n a h = a.0
 
   pub number_most : (x : Setting) (n : ℕ) → InPlaceBy P (NumberPlace least most) x → n ≤ most → or_else x n ≤ most
-  number_most Absent n a h = h
-  number_most (Is k) n a h = a.1
+  number_most None n a h = h
+  number_most (Some k) n a h = a.1

@@ -25,10 +25,10 @@ use Rattle.rules.specs.declared.Directive.{Directive}
 use Rattle.rules.specs.declared.Form.{Form}
 use Rattle.rules.specs.declared.Item.{Item}
 use Rattle.rules.specs.declared.Item.TheVariants.{End, Literal, Written, BadNumber, Unfinished}
-use Rattle.rules.specs.declared.Setting.{Setting}
-use Rattle.rules.specs.declared.Setting.TheVariants.{Absent, Is}
+use Rattle.rules.specs.Setting.{Setting}
+use Rattle.std.specs.Prelude.{None, Some}
 use Rattle.rules.specs.declared.Settings.{Settings}
-use Rattle.rules.specs.declared.Verdict.TheVariants.{Accepted}
+use Rattle.rules.specs.Verdict.{Accepted}
 use Rattle.rules.proofs.OutOfRange.{MeetsOutOfRange, AllWorked, settle_worked}
 use Rattle.rules.proofs.Rowed.{written_suits}
 use Rattle.rules.proofs.WellFormed.{WrittenAt, ActsIn, WellFormed, WellFormedClauses, sequence_formed}
@@ -245,8 +245,8 @@ module _ (v : View) (t : List ℕ) where
       by_reports (list first count) = wrong_kind p h
 
       numbered_reports : (x : Setting) → Reports v t (pick_numbered v p m cs c next on x)
-      numbered_reports Absent = argument_reports p h m c next (λ x. pick_by v p m cs c next on x) by_reports
-      numbered_reports (Is n) = r (pick_number cs n) next (number_formed t k cs n w)
+      numbered_reports None = argument_reports p h m c next (λ x. pick_by v p m cs c next on x) by_reports
+      numbered_reports (Some n) = r (pick_number cs n) next (number_formed t k cs n w)
 
       picked : (b : Bool) → WellFormed t k (cond b end (clause_at cs 0 end))
       picked true = end_formed t k

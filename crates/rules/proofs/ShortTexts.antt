@@ -11,7 +11,7 @@ use Rattle.rules.specs.Number.{digits_of, magnitude_of, sign_of, pad_left}
 use Rattle.rules.specs.Piece.{or_else, padding_of, bare_of, text_of}
 use Rattle.rules.specs.Table.{Value, integer, string}
 use Rattle.rules.specs.declared.Form.TheVariants.{Object, Numeral, Repeat}
-use Rattle.rules.specs.declared.Setting.TheVariants.{Absent}
+use Rattle.std.specs.Prelude.{None}
 use Rattle.rules.specs.declared.Settings.{Settings}
 use Rattle.rules.proofs.Padding.{times_enough, times_most}
 
@@ -22,7 +22,7 @@ padding_single width size =
     omega (arith, times_enough 1 n (omega arith), times_most 1 n (omega arith))
 
 module _ (colon : Bool) (s : Settings) where
-  pub object_text : (w : List ℕ) → s.second ≡ Absent → s.third ≡ Absent → s.fourth ≡ Absent
+  pub object_text : (w : List ℕ) → s.second ≡ None → s.third ≡ None → s.fourth ≡ None
       → text_of (Object false) colon false s (string w) ≡ w ++ replicate (or_else s.first 0 - length w) 32
   unfolding text_of bare_of
   object_text w e₂ e₃ e₄ = rw (e₂, e₃, e₄, padding_single (or_else s.first 0) (length w))

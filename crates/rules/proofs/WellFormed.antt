@@ -15,7 +15,7 @@ use Rattle.rules.specs.declared.Code.TheVariants.{Writes, Jump, Escape, Opens, S
 use Rattle.rules.specs.declared.Directive.{Directive}
 use Rattle.rules.specs.declared.Item.{Item}
 use Rattle.rules.specs.declared.Item.TheVariants.{End, Literal, Written, BadNumber, Unfinished}
-use Rattle.rules.specs.declared.Verdict.TheVariants.{Accepted}
+use Rattle.rules.specs.Verdict.{Accepted}
 use Rattle.rules.proofs.TextLaws.{stands, next_inside, levels_end, levels_literal, levels_writes, levels_jump, levels_escape, levels_iteration, levels_conditional, levels_separator, levels_closer, Sound, sound_start, sound_literal, sound_bad, sound_unfinished, sound_known, sound_writes, sound_jump, sound_escape, sound_opener, sound_separator, sound_closer}
 
 -- the directive d stands at p in the text t, and is well written

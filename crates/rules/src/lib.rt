@@ -3,25 +3,19 @@
 
 pub mod codes;
 pub mod limits;
+pub mod refusal;
 pub mod scalars;
 
-// How a check ends: all is well, or the first fault has this code and position.
-#[derive(Clone, Copy)]
-pub enum Verdict {
-    Accepted,
-    Refused { code: u32, position: usize },
-}
-
 // The number of an entry of the table, from 0.
-#[derive(Clone, Copy)]
+#[derive(Clone, Copy, Debug, PartialEq, Eq)]
 pub struct EntryIndex(pub usize);
 
 // The number of an argument in the list of arguments at hand, from 0.
-#[derive(Clone, Copy)]
+#[derive(Clone, Copy, Debug, PartialEq, Eq)]
 pub struct ArgumentPosition(pub usize);
 
 // What an entry holds. A string is given by its place: the bytes of the table from start to end.
-#[derive(Clone, Copy)]
+#[derive(Clone, Copy, Debug, PartialEq, Eq)]
 pub enum Argument {
     Boolean(bool),
     Integer(i64),
@@ -31,7 +25,7 @@ pub enum Argument {
 }
 
 // A directive that writes a text of its own and leaves the order of reading alone.
-#[derive(Clone, Copy)]
+#[derive(Clone, Copy, Debug, PartialEq, Eq)]
 pub enum Form {
     // ~a, and with true ~s
     Object(bool),
@@ -48,7 +42,7 @@ pub enum Form {
 }
 
 // What a block is.
-#[derive(Clone, Copy)]
+#[derive(Clone, Copy, Debug, PartialEq, Eq)]
 pub enum Bracket {
     // ~[ ~]
     Conditional,
@@ -57,7 +51,7 @@ pub enum Bracket {
 }
 
 // The role of a directive, by its code.
-#[derive(Clone, Copy)]
+#[derive(Clone, Copy, Debug, PartialEq, Eq)]
 pub enum Code {
     Writes(Form),
     // ~*
@@ -75,7 +69,7 @@ pub enum Code {
 }
 
 // A parameter as it is written.
-#[derive(Clone, Copy)]
+#[derive(Clone, Copy, Debug, PartialEq, Eq)]
 pub enum Parameter {
     // nothing is written
     Default,
@@ -90,7 +84,7 @@ pub enum Parameter {
 }
 
 // The parameters of a directive: how many are written, empty ones included, and the first five of them.
-#[derive(Clone, Copy)]
+#[derive(Clone, Copy, Debug, PartialEq, Eq)]
 pub struct Parameters {
     pub count: usize,
     pub first: Parameter,
@@ -101,7 +95,7 @@ pub struct Parameters {
 }
 
 // A place for a parameter.
-#[derive(Clone, Copy)]
+#[derive(Clone, Copy, Debug, PartialEq, Eq)]
 pub enum Place {
     // nothing may be written: there is no such place
     Empty,
@@ -110,7 +104,7 @@ pub enum Place {
 }
 
 // The places of a directive: how many there are, and five of them, those behind the last being empty.
-#[derive(Clone, Copy)]
+#[derive(Clone, Copy, Debug, PartialEq, Eq)]
 pub struct Places {
     pub count: usize,
     pub first: Place,
@@ -121,7 +115,7 @@ pub struct Places {
 }
 
 // The modifiers that a directive takes.
-#[derive(Clone, Copy)]
+#[derive(Clone, Copy, Debug, PartialEq, Eq)]
 pub enum Modifiers {
     Neither,
     Colon,
@@ -132,7 +126,7 @@ pub enum Modifiers {
 }
 
 // The kinds of argument that a directive takes.
-#[derive(Clone, Copy)]
+#[derive(Clone, Copy, Debug, PartialEq, Eq)]
 pub enum Kinds {
     Any,
     NoList,
@@ -141,7 +135,7 @@ pub enum Kinds {
 }
 
 // Where the argument of a directive comes from.
-#[derive(Clone, Copy)]
+#[derive(Clone, Copy, Debug, PartialEq, Eq)]
 pub enum Origin {
     // it takes none
     Nowhere,
@@ -154,7 +148,7 @@ pub enum Origin {
 }
 
 // Whether a format with a directive is plain.
-#[derive(Clone, Copy)]
+#[derive(Clone, Copy, Debug, PartialEq, Eq)]
 pub enum Plainness {
     Plain,
     // it is, but for this
@@ -163,7 +157,7 @@ pub enum Plainness {
 }
 
 // What a directive is.
-#[derive(Clone, Copy)]
+#[derive(Clone, Copy, Debug, PartialEq, Eq)]
 pub struct Row {
     pub places: Places,
     pub modifiers: Modifiers,
@@ -173,7 +167,7 @@ pub struct Row {
 }
 
 // A directive as it is written. The text goes on at next.
-#[derive(Clone, Copy)]
+#[derive(Clone, Copy, Debug, PartialEq, Eq)]
 pub struct Directive {
     pub code: Code,
     pub colon: bool,
@@ -183,7 +177,7 @@ pub struct Directive {
 }
 
 // What stands at a position of a format text.
-#[derive(Clone, Copy)]
+#[derive(Clone, Copy, Debug, PartialEq, Eq)]
 pub enum Item {
     // the end of the text
     End,
@@ -196,14 +190,10 @@ pub enum Item {
 }
 
 // A parameter that is worked out: absent, or its number, which for a character is its byte.
-#[derive(Clone, Copy)]
-pub enum Setting {
-    Absent,
-    Is(usize),
-}
+pub type Setting = Option<usize>;
 
 // The parameters of a directive, worked out.
-#[derive(Clone, Copy)]
+#[derive(Clone, Copy, Debug, PartialEq, Eq)]
 pub struct Settings {
     pub first: Setting,
     pub second: Setting,

@@ -59,7 +59,7 @@ pub fn number_or(setting: Setting, default: usize) -> usize
     ensures { result ≡ or_else setting default }
 {
     match setting {
-        Setting::Absent => default,
-        Setting::Is(n) => n,
+        None => default,
+        Some(n) => n,
     }
 }

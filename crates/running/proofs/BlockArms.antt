@@ -11,7 +11,7 @@ use Rattle.rules.specs.Text.{Sequence, end, Level, innermost, outer, as_clauses,
 use Rattle.rules.specs.Working.{Context, none_remain}
 use Rattle.rules.specs.Run.{Flow, refused, begin, nested, Frame, iteration, conditional, Outside, same_arguments, other, afterwards, used_up, one_less, run}
 use Rattle.rules.specs.declared.Directive.{Directive}
-use Rattle.rules.specs.declared.Setting.{Setting}
+use Rattle.rules.specs.Setting.{Setting}
 use Rattle.rules.proofs.RunLaws.{begin_yes, begin_no, run_clause_end, run_passes_over, run_pass, run_chooses, run_iterates}
 use Rattle.actions.specs.declared.state.Stop.{Stop}
 use Rattle.actions.specs.declared.state.Stop.TheVariants.{Ended, Escaped, Refused}

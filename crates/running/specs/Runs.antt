@@ -9,7 +9,7 @@ use Rattle.rules.specs.declared.Code.TheVariants.{Writes, Jump, Escape, Opens, S
 use Rattle.rules.specs.declared.Directive.{Directive}
 use Rattle.rules.specs.declared.Item.{Item}
 use Rattle.rules.specs.declared.Item.TheVariants.{Written}
-use Rattle.rules.specs.declared.Setting.{Setting}
+use Rattle.rules.specs.Setting.{Setting}
 use Rattle.rules.specs.declared.Settings.{Settings}
 use Rattle.actions.specs.declared.state.Stop.TheVariants.{Ended}
 use Rattle.actions.specs.declared.state.Ran.{Ran}

@@ -1,7 +1,7 @@
 -- One item of a sequence that opens no block, from the answer that its code gives. Assumes nothing.
 use Prim.Native.Nat.{ℕ, ◌+◌, ◌-◌, ◌<◌, ◌≤◌}
 use mathlib.Core.Path.{◌≡◌, refl, sym, ap, subst, ◌∙◌}
-use mathlib.Core.Bool.{Bool, true, cond}
+use mathlib.Core.Bool.{Bool, cond}
 use mathlib.Core.List.{List, [], ◌∷◌}
 use native.Mathlib.Omega.{arith}
 use native.Mathlib.Decide.{dec_le}
@@ -21,15 +21,12 @@ use Rattle.rules.specs.declared.Item.TheVariants.{Literal}
 use Rattle.rules.specs.Run.{item_acts}
 use Rattle.rules.specs.contracts.Code as code_declared
 use Rattle.rules.proofs.Reading.{item_literal}
-use Rattle.rules.proofs.Tests.{not_both_ways}
-use Rattle.actions.specs.declared.state.Stop.{Stop}
-use Rattle.actions.specs.declared.state.Stop.TheVariants.{Ended, Escaped, Refused}
 use Rattle.actions.specs.declared.state.Ran.{Ran}
 use Rattle.actions.specs.declared.state.Spot.{Spot}
 use Rattle.actions.specs.Acting.{Performed}
 use Rattle.actions.specs.Ran.{refused_ran, ended_ran, begun, hand}
 use Rattle.running.specs.Runs.{ActsAt, EscapesAt, AloneAt, Ahead, Steps}
-use Rattle.stepping.specs.Stepping.{ActsAlone, PutsLiterals, escaped_ran, escaped, is_ended}
+use Rattle.stepping.specs.Stepping.{ActsAlone, PutsLiterals, escaped_ran, escaped}
 use Rattle.running.proofs.Arms.{literal_acts, literal_full, steps_acts_none, steps_acts, steps_escape_none, steps_escape_left, steps_escape_on}
 use Rattle.running.proofs.Strides.{strides, strides_none, strides_on}
 use Rattle.running.proofs.Places.{literal_at, literal_ahead}
@@ -96,9 +93,6 @@ pub begun_inside : (spot met : Spot) (b : List ℕ) → spot ≡ begun met → m
 begun_inside spot met b o l = subst (λ (y : Spot). y.at ≤ length b) (sym o) l
 
 -- literal bytes one after another
-pub one_nearer : (most k : ℕ) → k < most → most - (k + 1) < most - k
-one_nearer most k h = omega arith
-
 pub ended_is : {i l l₂ a a₂ q q₂ : ℕ} → l ≡ l₂ → a ≡ a₂ → q ≡ q₂ → ended_ran i l a q ≡ ended_ran i l₂ a₂ q₂
 ended_is x y z = rw (x, y, z)
 
@@ -139,9 +133,3 @@ only_escape keys (Opens b) q a o = absurd a
 only_escape keys Separator q a o = absurd a
 only_escape keys (Closes b) q a o = absurd a
 only_escape keys Unknown q a o = absurd a
-
--- how a run stopped
-pub is_ended_lem : (x : Stop) → is_ended x ≡ true → x ≡ Ended
-is_ended_lem Ended h = refl
-is_ended_lem Escaped h = absurd (not_both_ways h refl)
-is_ended_lem (Refused code p) h = absurd (not_both_ways h refl)

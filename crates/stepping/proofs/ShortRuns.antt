@@ -1,14 +1,13 @@
 -- A short directive does what the definition has it do, with the settings that are read. Assumes nothing.
 use Prim.Native.Nat.{ℕ, ◌+◌, ◌-◌, ◌<◌, ◌≤◌}
 use mathlib.Core.Path.{◌≡◌, refl, sym, ap, subst, ◌∙◌}
-use mathlib.Core.Bool.{true, false}
+use mathlib.Core.Bool.{false}
 use mathlib.Core.List.{List}
 use native.Mathlib.Decide.{ℕ_discrete as dec_eq}
 use native.Mathlib.Omega.{arith}
-use borrow.Author.Tests.{eq-eqb, ne_eqb, eqb-true}
+use borrow.Author.Tests.{eq-eqb, ne_eqb}
 use lib.Dec.{eqb}
 use lib.ListN.{length}
-use Rattle.rules.specs.Choice.{both}
 use Rattle.rules.specs.Rows.{any_number, form_places}
 use Rattle.rules.specs.declared.Place.TheVariants.{Character as CharacterPlace}
 use Rattle.rules.specs.declared.Places.{Places}
@@ -20,10 +19,9 @@ use Rattle.rules.specs.declared.Directive.{Directive}
 use Rattle.rules.specs.declared.Form.{Form}
 use Rattle.rules.specs.declared.Form.TheVariants.{Object, Numeral, Repeat}
 use Rattle.rules.specs.declared.Item.TheVariants.{Written}
-use Rattle.rules.specs.declared.Setting.{Setting}
-use Rattle.rules.specs.declared.Setting.TheVariants.{Absent, Is}
+use Rattle.rules.specs.Setting.{Setting}
+use Rattle.std.specs.Prelude.{None, Some}
 use Rattle.rules.specs.declared.Settings.{Settings}
-use Rattle.rules.proofs.Tests.{both_true}
 use Rattle.reader.specs.Shorts.{Brief, object, numeral, repeats, form_of, brief_of, setting_of, short_form, short_parameters, short_directive, NumberIn, CharacterIn, NoneIn, ShortIn}
 use Rattle.reader.proofs.ShortLaws.{short_well}
 use Rattle.actions.specs.declared.state.Ran.{Ran}
@@ -40,19 +38,19 @@ use Rattle.stepping.specs.Stepping.{short_settings, Unbegun, HeldUp}
 use Rattle.stepping.proofs.ItemLaws.{acts_begun, ended_is}
 
 in_number : (x : Setting) → NumberIn x → InPlace any_number x
-in_number Absent h = tt
-in_number (Is n) h = (omega arith, h)
+in_number None h = tt
+in_number (Some n) h = (omega arith, h)
 
 in_character : (y : Setting) → CharacterIn y → InPlace CharacterPlace y
-in_character Absent h = tt
-in_character (Is c) h = h
+in_character None h = tt
+in_character (Some c) h = h
 
 in_range_lem : (b : Brief) (x y : Setting) → ShortIn b x y → InPlaces (form_places (form_of b)) (short_settings x y)
-in_range_lem (object q) x Absent s = record { first = in_number x s.0; second = tt; third = tt; fourth = tt; fifth = tt }
-in_range_lem (object q) x (Is c) s = absurd s.1
+in_range_lem (object q) x None s = record { first = in_number x s.0; second = tt; third = tt; fourth = tt; fifth = tt }
+in_range_lem (object q) x (Some c) s = absurd s.1
 in_range_lem (numeral base) x y s = record { first = in_number x s.0; second = in_character y s.1; third = tt; fourth = tt; fifth = tt }
-in_range_lem (repeats b) x Absent s = record { first = in_number x s.0; second = tt; third = tt; fourth = tt; fifth = tt }
-in_range_lem (repeats b) x (Is c) s = absurd s.1
+in_range_lem (repeats b) x None s = record { first = in_number x s.0; second = tt; third = tt; fourth = tt; fifth = tt }
+in_range_lem (repeats b) x (Some c) s = absurd s.1
 
 pub short_worked : (b : Brief) (x y a c : Setting) (g : Form) → a ≡ x → c ≡ y → g ≡ form_of b → FormRight (form_of b) → ShortIn b x y → WellSet g (short_settings a c)
 short_worked b x y a c g q w k r s = rw (q, w, k) (worked_in (form_of b) (short_settings x y) r (in_range_lem b x y s))
@@ -61,10 +59,10 @@ short_worked b x y a c g q w k r s = rw (q, w, k) (worked_in (form_of b) (short_
 settled : (v : View) (c : Context) (ys : Places) (x y : Setting) (p m : ℕ) (on : Settings → ℕ → Flow)
     → on_settled p m (settle_all v c ys (short_parameters x y) c.next) on ≡ on (short_settings x y) c.next
 unfolding settle work_out
-settled v c ys Absent Absent p m on = refl
-settled v c ys (Is n) Absent p m on = refl
-settled v c ys Absent (Is k) p m on = refl
-settled v c ys (Is n) (Is k) p m on = refl
+settled v c ys None None p m on = refl
+settled v c ys (Some n) None p m on = refl
+settled v c ys None (Some k) p m on = refl
+settled v c ys (Some n) (Some k) p m on = refl
 
 -- a short directive, once it is begun, at the place `here` of whatever gives the sequences
 pub short_begun : (s : ℕ → List Level) (n : ℕ) (v : View) (first count level here i left at : ℕ) (b : List ℕ) (w : Brief) (x y : Setting) {p place : ℕ} → ShortIn w x y
@@ -120,15 +118,11 @@ module _ (v : View) (k : Context) (i count : ℕ) (spot : Spot) (d : Directive) 
 pub repeat_form : (kind detail : ℕ) → 1 < kind → short_form kind detail ≡ Repeat detail
 repeat_form kind detail h = rw (ne_eqb kind 0 (λ z. omega (arith, z)), ne_eqb kind 1 (λ z. omega (arith, z)))
 
-pub object_form : (kind detail : ℕ) → both (eqb kind 0) (eqb detail 0) ≡ true → short_form kind detail ≡ Object false
-object_form kind detail e =
-    let h = both_true (eqb kind 0) (eqb detail 0) e in
-    rw (eqb-true kind 0 h.0, eqb-true detail 0 h.1)
+pub object_form : (kind detail : ℕ) → kind ≡ 0 → detail ≡ 0 → short_form kind detail ≡ Object false
+object_form kind detail h k = rw (h, k)
 
-pub decimal_form : (kind detail : ℕ) → both (eqb kind 1) (eqb detail 10) ≡ true → short_form kind detail ≡ Numeral 10
-decimal_form kind detail e =
-    let h = both_true (eqb kind 1) (eqb detail 10) e in
-    rw (eqb-true kind 1 h.0, eqb-true detail 10 h.1)
+pub decimal_form : (kind detail : ℕ) → kind ≡ 1 → detail ≡ 10 → short_form kind detail ≡ Numeral 10
+decimal_form kind detail h k = rw (h, k)
 
 -- a directive of the first two kinds takes the next argument
 pub own_source : (kind detail : ℕ) (s : Settings) → kind ≤ 1 → source_of (short_form kind detail) false s ≡ own
@@ -144,14 +138,13 @@ own_none v k i p m kind detail s d on h l =
     ∙ from_own_none v p m d k (short_form kind detail) s on i l
 
 -- what suits a form
-none_absent : (y : Setting) → NoneIn y → y ≡ Absent
-none_absent Absent h = refl
-none_absent (Is c) h = absurd h
+none_absent : (y : Setting) → NoneIn y → y ≡ None
+none_absent None h = refl
+none_absent (Some c) h = absurd h
 
-pub object_alone : (kind detail : ℕ) (x y : Setting) → both (eqb kind 0) (eqb detail 0) ≡ true → ShortIn (brief_of kind detail) x y → y ≡ Absent
-object_alone kind detail x y e s =
-    let h = both_true (eqb kind 0) (eqb detail 0) e in
-    let k : ShortIn (object (eqb detail 1)) x y = rw h.0 at s in
+pub object_alone : (kind detail : ℕ) (x y : Setting) → kind ≡ 0 → ShortIn (brief_of kind detail) x y → y ≡ None
+object_alone kind detail x y h s =
+    let k : ShortIn (object (eqb detail 1)) x y = rw h at s in
     none_absent y k.1
 
 character_few : (byte : ℕ) → CharacterIn (setting_of 256 byte) → byte ≤ 256
@@ -160,9 +153,7 @@ character_few byte h = elim (dec_eq byte 256) [
   | no z ↦ let k : byte < 256 = rw (ne_eqb byte 256 z) at h in omega arith
 ]
 
-pub pad_few : (kind detail byte : ℕ) (x : Setting) → both (eqb kind 1) (eqb detail 10) ≡ true → ShortIn (brief_of kind detail) x (setting_of 256 byte) → byte ≤ 256
-pad_few kind detail byte x e s =
-    let h = both_true (eqb kind 1) (eqb detail 10) e in
-    let q = eqb-true kind 1 h.0 in
-    let k : ShortIn (numeral detail) x (setting_of 256 byte) = rw q at s in
+pub pad_few : (kind detail byte : ℕ) (x : Setting) → kind ≡ 1 → ShortIn (brief_of kind detail) x (setting_of 256 byte) → byte ≤ 256
+pad_few kind detail byte x h s =
+    let k : ShortIn (numeral detail) x (setting_of 256 byte) = rw h at s in
     character_few byte k.1

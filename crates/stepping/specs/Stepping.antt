@@ -13,8 +13,8 @@ use Rattle.actions.specs.declared.state.Stop.{Stop}
 use Rattle.actions.specs.declared.state.Stop.TheVariants.{Ended, Escaped, Refused}
 use Rattle.rules.specs.Working.{Context, source_of}
 use Rattle.rules.specs.declared.Directive.{Directive}
-use Rattle.rules.specs.declared.Setting.{Setting}
-use Rattle.rules.specs.declared.Setting.TheVariants.{Absent}
+use Rattle.rules.specs.Setting.{Setting}
+use Rattle.std.specs.Prelude.{None}
 use Rattle.rules.specs.declared.Settings.{Settings}
 use Rattle.reader.specs.Shorts.{setting_of, short_form, short_at}
 use Rattle.reader.specs.declared.short.Short.TheVariants.{Other}
@@ -58,7 +58,7 @@ is_ended (Refused code p) = false
 
 -- a number x and a character y as settings
 abbrev pub short_settings : Setting → Setting → Settings
-short_settings x y = record { first = x; second = y; third = Absent; fourth = Absent; fifth = Absent }
+short_settings x y = record { first = x; second = y; third = None; fourth = None; fifth = None }
 
 -- what a short directive does once it is begun, where i is the next argument
 abbrev pub WritesShort : List ℕ → Hand → ℕ → ℕ → ℕ → ℕ → ℕ → Spot → List ℕ → List ℕ → Ran → Type 0

@@ -1,5 +1,5 @@
 // The parts of a run that open no block: a literal byte, and a directive that acts alone.
-ghost use Rattle.std.specs.Prelude.{◌≡◌, List, ℕ, ◌+◌, ◌-◌, ◌≤◌, ◌<◌, length, get_or};
+ghost use Rattle.std.specs.Prelude.{◌≡◌, List, ℕ, ◌+◌, ◌≤◌, ◌<◌, length, get_or};
 ghost use Rattle.rules.specs.Letters.{letter};
 ghost use Rattle.rules.specs.Table.{View, view_of};
 ghost use Rattle.rules.specs.Text.{Level};
@@ -7,12 +7,12 @@ ghost use Rattle.rules.specs.declared.Item.TheVariants.{Literal};
 ghost use Rattle.parameters.specs.Settling.{hand_at};
 ghost use Rattle.actions.specs.Ran.{Stands};
 ghost use Rattle.running.specs.Runs.{ActsAt, AloneAt, Ahead, Steps};
-ghost use Rattle.stepping.specs.Stepping.{is_ended, escaped, ActsAlone, PutsLiterals};
+ghost use Rattle.stepping.specs.Stepping.{escaped, ActsAlone, PutsLiterals};
 
 use actions::acting::{act_form, act_jump};
-use actions::state::{Ran, Spot, Stand, Stop, begin, go_on, refuse};
+use actions::state::{Ran, Spot, Stand, Stop};
 use parameters::Hand;
-use rules::codes::{NO_ROOM, STEP_LIMIT};
+use rules::refusal::Refusal;
 use rules::{ArgumentPosition, Code, Directive};
 
 // A literal byte of the position p, wherever it stands: the place may be one of the text or of what it was read into.
@@ -22,33 +22,21 @@ pub fn put_literal(p: usize, byte: u8, stand: Stand, out: &mut [u8]) -> Ran
     requires p_bound { p < 18446744073709551615 }
     ensures { (s : ℕ → List Level) (n : ℕ) (v : View) (level here : ℕ) → ActsAt s here p (Literal byte) (p + 1) → Ahead n here (p + 1) → Steps s n v (hand_at stand.hand) level here stand.next.0 stand.left stand.at out.old out.new result }
 {
-    let next = stand.next;
-    let at = stand.at;
-    let place = p + 1;
     let met = Spot {
         position: p,
-        place,
+        place: p + 1,
         left: stand.left,
-        at,
+        at: stand.at,
     };
     if stand.left == 0 {
-        return refuse(met, STEP_LIMIT, next);
+        return met.refuse(Refusal::StepLimit, stand.next);
     }
-    let spot = begin(met);
-    if out.len() <= at {
-        return refuse(spot, NO_ROOM, next);
+    let spot = met.begin();
+    if out.len() <= stand.at {
+        return spot.refuse(Refusal::NoRoom, stand.next);
     }
-    out[at] = byte;
-    go_on(spot, next, at + 1)
-}
-
-fn smaller(a: usize, b: usize) -> usize
-    ensures { result ≡ a - (a - b) }
-{
-    if a <= b {
-        return a;
-    }
-    b
+    out[stand.at] = byte;
+    spot.go_on(stand.next, stand.at + 1)
 }
 
 // Literal bytes from p on, as many as stand there and as steps and room allow. Answers how many.
@@ -59,17 +47,15 @@ pub fn put_literals(text: &[u8], p: usize, left: usize, out: &mut [u8], at: usiz
     ensures all { result < left → p + result < length text.now → at + result < length out.old → get_or text.now (p + result) 0 ≡ letter "~" }
 {
     // the least bound first, so that a turn of the loop asks it and the byte alone
-    let most = smaller(left, smaller(text.len() - p, out.len() - at));
-    let mut k: usize = 0;
-    while k < most {
+    let most = left.min(text.len() - p).min(out.len() - at);
+    for k in 0..most {
         let byte = text[p + k];
         if byte == b'~' {
             return k;
         }
         out[at + k] = byte;
-        k += 1;
     }
-    k
+    most
 }
 
 // An escape that is begun.
@@ -85,7 +71,7 @@ fn escape(spot: Spot, hand: Hand, next: ArgumentPosition) -> Ran
             place: spot.place,
         };
     }
-    go_on(spot, next, spot.at)
+    spot.go_on(next, spot.at)
 }
 
 // A directive of the position p that opens no block and ends no sequence, wherever it stands.
@@ -94,9 +80,6 @@ pub fn act(p: usize, d: Directive, table: &[u8], stand: Stand, out: &mut [u8]) -
     requires stands { Stands table.now stand out.old }
     ensures { (s : ℕ → List Level) (n level here : ℕ) → AloneAt s here p d d.code → Ahead n here d.after → Steps s n (view_of table.now) (hand_at stand.hand) level here stand.next.0 stand.left stand.at out.old out.new result }
 {
-    let code = d.code;
-    let hand = stand.hand;
-    let next = stand.next;
     let met = Spot {
         position: p,
         place: d.after,
@@ -104,26 +87,12 @@ pub fn act(p: usize, d: Directive, table: &[u8], stand: Stand, out: &mut [u8]) -
         at: stand.at,
     };
     if stand.left == 0 {
-        return refuse(met, STEP_LIMIT, next);
+        return met.refuse(Refusal::StepLimit, stand.next);
     }
-    let spot = begin(met);
-    match code {
-        Code::Writes(form) => act_form(spot, form, d, table, hand, next, out),
-        Code::Jump => act_jump(spot, d, table, hand, next),
-        _ => escape(spot, hand, next),
-    }
-}
-
-// Whether a run stopped at its end.
-pub fn is_ended(stop: Stop) -> bool
-    ensures { result ≡ is_ended stop }
-{
-    match stop {
-        Stop::Ended => true,
-        Stop::Escaped => false,
-        Stop::Refused {
-            code: _,
-            position: _,
-        } => false,
+    let spot = met.begin();
+    match d.code {
+        Code::Writes(form) => act_form(spot, form, d, table, stand.hand, stand.next, out),
+        Code::Jump => act_jump(spot, d, table, stand.hand, stand.next),
+        _ => escape(spot, stand.hand, stand.next),
     }
 }

@@ -1,6 +1,5 @@
 // Literal bytes and short directives, of which most texts are made, done one after another without an item for each.
-ghost use Rattle.std.specs.Prelude.{◌≡◌, List, ℕ, ◌≤◌, ◌<◌, length, eqb};
-ghost use Rattle.rules.specs.Choice.{both};
+ghost use Rattle.std.specs.Prelude.{◌≡◌, List, ℕ, ◌≤◌, ◌<◌, length};
 ghost use Rattle.rules.specs.Piece.{or_else};
 ghost use Rattle.rules.specs.Table.{view_of};
 ghost use Rattle.rules.specs.Text.{Level, levels_at};
@@ -15,23 +14,29 @@ ghost use Rattle.rules.specs.Directive.{FormRight};
 ghost use Rattle.running.specs.Runs.{ActsAt, Ahead, Steps, Strides};
 ghost use Rattle.stepping.specs.Stepping.{WritesShort, NotShort, Unbegun, HeldUp};
 
-use crate::items::{is_ended, put_literals};
+use crate::items::put_literals;
 use actions::acting::write_form;
 use actions::direct::{put_decimal, put_run, put_text};
-use actions::state::{Ran, Spot, Stand, Stop, begin, refuse};
+use actions::state::{Ran, Spot, Stand, Stop};
 use parameters::{Hand, argument_at};
 use reader::short::{NO_BYTE, NO_NUMBER, NUMERAL, OBJECT, Short, read_short, short_form};
-use rules::codes::{NO_ARGUMENT, STEP_LIMIT};
+use rules::refusal::Refusal;
 use rules::{Argument, ArgumentPosition, Setting, Settings};
+
+// A short directive as it is read, with NO_NUMBER and NO_BYTE for parameters that are not written.
+#[derive(Clone, Copy)]
+struct Words {
+    kind: u8,
+    detail: u8,
+    number: usize,
+    byte: usize,
+}
 
 // A parameter as its setting, where none stands for one that is not written.
 fn setting_of(n: usize, none: usize) -> Setting
     ensures { result ≡ setting_of none n }
 {
-    if n == none {
-        return Setting::Absent;
-    }
-    Setting::Is(n)
+    if n == none { None } else { Some(n) }
 }
 
 // The number of a parameter, or the default where none is written.
@@ -46,52 +51,34 @@ fn pad_or(byte: usize) -> u8
     requires { byte ≤ 256 }
     ensures { result ≡ or_else (setting_of 256 byte) 32 }
 {
-    if byte == NO_BYTE {
-        return b' ';
-    }
-    byte as u8
-}
-
-fn is_both(kind: u8, wanted: u8, detail: u8, exactly: u8) -> bool
-    ensures { result ≡ both (eqb kind wanted) (eqb detail exactly) }
-{
-    if kind == wanted {
-        detail == exactly
-    } else {
-        false
-    }
+    if byte == NO_BYTE { b' ' } else { byte as u8 }
 }
 
 // A short directive that is begun, by way of its settings and its piece.
 fn write_piece(
     spot: Spot,
-    kind: u8,
-    detail: u8,
-    number: usize,
-    byte: usize,
+    short: Words,
     table: &[u8],
     hand: Hand,
     i: ArgumentPosition,
     out: &mut [u8],
 ) -> Ran
-    requires form_right { FormRight (short_form kind detail) }
-    requires short_in { ShortIn (brief_of kind detail) (setting_of 4097 number) (setting_of 256 byte) }
+    requires form_right { FormRight (short_form short.kind short.detail) }
+    requires short_in { ShortIn (brief_of short.kind short.detail) (setting_of 4097 short.number) (setting_of 256 short.byte) }
     requires in_hand { InHand table.now hand }
     requires i_le_count { i.0 ≤ hand.count }
     requires at_in_bounds { spot.at ≤ length out.old }
-    ensures writes { WritesShort table.now hand i.0 kind detail number byte spot out.old out.new result }
+    ensures writes { WritesShort table.now hand i.0 short.kind short.detail short.number short.byte spot out.old out.new result }
     ensures untouched { Untouched spot i.0 out.old out.new result }
 {
-    let first = setting_of(number, NO_NUMBER);
-    let second = setting_of(byte, NO_BYTE);
     let settings = Settings {
-        first,
-        second,
-        third: Setting::Absent,
-        fourth: Setting::Absent,
-        fifth: Setting::Absent,
+        first: setting_of(short.number, NO_NUMBER),
+        second: setting_of(short.byte, NO_BYTE),
+        third: None,
+        fourth: None,
+        fifth: None,
     };
-    let form = short_form(kind, detail);
+    let form = short_form(short.kind, short.detail);
     write_form(spot, form, false, false, settings, table, hand, i, out)
 }
 
@@ -99,69 +86,53 @@ fn write_piece(
 // the buffer.
 fn write_argument(
     spot: Spot,
-    kind: u8,
-    detail: u8,
-    number: usize,
-    byte: usize,
+    short: Words,
     table: &[u8],
     hand: Hand,
     i: ArgumentPosition,
     out: &mut [u8],
 ) -> Ran
-    requires form_right { FormRight (short_form kind detail) }
-    requires short_in { ShortIn (brief_of kind detail) (setting_of 4097 number) (setting_of 256 byte) }
-    requires kind_bound { kind ≤ 1 }
+    requires form_right { FormRight (short_form short.kind short.detail) }
+    requires short_in { ShortIn (brief_of short.kind short.detail) (setting_of 4097 short.number) (setting_of 256 short.byte) }
+    requires kind_bound { short.kind ≤ 1 }
     requires in_hand { InHand table.now hand }
     requires i_le_count { i.0 ≤ hand.count }
     requires at_in_bounds { spot.at ≤ length out.old }
-    ensures writes { WritesShort table.now hand i.0 kind detail number byte spot out.old out.new result }
+    ensures writes { WritesShort table.now hand i.0 short.kind short.detail short.number short.byte spot out.old out.new result }
     ensures untouched { Untouched spot i.0 out.old out.new result }
 {
-    let k = i.0;
-    if hand.count <= k {
-        return refuse(spot, NO_ARGUMENT, i);
+    if hand.count <= i.0 {
+        return spot.refuse(Refusal::NoArgument, i);
     }
-    let argument = argument_at(table, hand, i);
-    let after = ArgumentPosition(k + 1);
-    let width = number_or(number, 0);
-    match argument {
-        Argument::Text { start, end } => {
-            if is_both(kind, OBJECT, detail, 0) {
-                return put_text(spot, width, start, end, table, i, after, out);
-            }
-            write_piece(spot, kind, detail, number, byte, table, hand, i, out)
+    let after = ArgumentPosition(i.0 + 1);
+    let width = number_or(short.number, 0);
+    match argument_at(table, hand, i) {
+        Argument::Text { start, end } if short.kind == OBJECT && short.detail == 0 => {
+            put_text(spot, width, start, end, table, i, after, out)
         }
-        Argument::Integer(x) => {
-            if is_both(kind, NUMERAL, detail, 10) {
-                return put_decimal(spot, width, pad_or(byte), x, i, after, out);
-            }
-            write_piece(spot, kind, detail, number, byte, table, hand, i, out)
+        Argument::Integer(x) if short.kind == NUMERAL && short.detail == 10 => {
+            put_decimal(spot, width, pad_or(short.byte), x, i, after, out)
         }
-        _ => write_piece(spot, kind, detail, number, byte, table, hand, i, out),
+        _ => write_piece(spot, short, table, hand, i, out),
     }
 }
 
 // A short directive of the position p, wherever it stands, after which the run goes on at place.
 fn act_short(
     p: usize,
-    kind: u8,
-    detail: u8,
-    number: usize,
-    byte: usize,
+    short: Words,
     place: usize,
     table: &[u8],
     stand: Stand,
     out: &mut [u8],
 ) -> Ran
-    requires form_right { FormRight (short_form kind detail) }
-    requires short_in { ShortIn (brief_of kind detail) (setting_of 4097 number) (setting_of 256 byte) }
+    requires form_right { FormRight (short_form short.kind short.detail) }
+    requires short_in { ShortIn (brief_of short.kind short.detail) (setting_of 4097 short.number) (setting_of 256 short.byte) }
     requires stands { Stands table.now stand out.old }
-    ensures steps { (s : ℕ → List Level) (n level here : ℕ) → ActsAt s here p (Written (short_directive (short_form kind detail) (setting_of 4097 number) (setting_of 256 byte) place)) place → Ahead n here place → Steps s n (view_of table.now) (hand_at stand.hand) level here stand.next.0 stand.left stand.at out.old out.new result }
+    ensures steps { (s : ℕ → List Level) (n level here : ℕ) → ActsAt s here p (Written (short_directive (short_form short.kind short.detail) (setting_of 4097 short.number) (setting_of 256 short.byte) place)) place → Ahead n here place → Steps s n (view_of table.now) (hand_at stand.hand) level here stand.next.0 stand.left stand.at out.old out.new result }
     ensures held { Unbegun p stand.next.0 stand.left stand.at out.old out.new result }
     ensures stays { result.stop ≡ Escaped → ⊥ }
 {
-    let hand = stand.hand;
-    let next = stand.next;
     let met = Spot {
         position: p,
         place,
@@ -169,13 +140,19 @@ fn act_short(
         at: stand.at,
     };
     if stand.left == 0 {
-        return refuse(met, STEP_LIMIT, next);
+        return met.refuse(Refusal::StepLimit, stand.next);
     }
-    let spot = begin(met);
-    if NUMERAL < kind {
-        return put_run(spot, detail, number_or(number, 1), next, out);
+    let spot = met.begin();
+    if NUMERAL < short.kind {
+        return put_run(
+            spot,
+            short.detail,
+            number_or(short.number, 1),
+            stand.next,
+            out,
+        );
     }
-    write_argument(spot, kind, detail, number, byte, table, hand, next, out)
+    write_argument(spot, short, table, stand.hand, stand.next, out)
 }
 
 // The short directive at p; any other item is left for the general way.
@@ -187,12 +164,10 @@ fn run_one(text: &[u8], table: &[u8], p: usize, stand: Stand, out: &mut [u8]) ->
     ensures held { HeldUp (levels_at text.now) (length text.now) (view_of table.now) (hand_at stand.hand) p stand.next.0 stand.left stand.at out.old out.new result }
     ensures stays { result.stop ≡ Escaped → ⊥ }
 {
-    let next = stand.next;
-    let short = read_short(text, p);
-    match short {
+    match read_short(text, p) {
         Short::Other => Ran {
             stop: Stop::Ended,
-            next,
+            next: stand.next,
             left: stand.left,
             at: stand.at,
             place: p,
@@ -202,8 +177,16 @@ fn run_one(text: &[u8], table: &[u8], p: usize, stand: Stand, out: &mut [u8]) ->
             detail,
             number,
             byte,
-            after: place,
-        } => act_short(p, kind, detail, number, byte, place, table, stand, out),
+            after,
+        } => {
+            let short = Words {
+                kind,
+                detail,
+                number,
+                byte,
+            };
+            act_short(p, short, after, table, stand, out)
+        }
     }
 }
 
@@ -231,8 +214,7 @@ pub fn run_short(text: &[u8], table: &[u8], start: usize, first: Stand, out: &mu
             at: at + k,
         };
         let r = run_one(text, table, p, met, out);
-        let stop = r.stop;
-        if !is_ended(stop) {
+        if r.stop != Stop::Ended {
             return r;
         }
         if r.place == p {

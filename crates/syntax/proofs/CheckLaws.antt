@@ -5,12 +5,12 @@ use mathlib.Core.Path.{◌≡◌, refl, sym, ap, subst, ◌∙◌}
 use mathlib.Core.Bool.{Bool, true, false, cond, not}
 use mathlib.Core.List.{List, [], ◌∷◌}
 use native.Mathlib.Omega.{arith}
-use native.Mathlib.Decide.{dec_lt, ℕ_discrete as dec_eq}
+use native.Mathlib.Decide.{dec_lt}
 use native.Mathlib.Numerals.{add-one}
 use lib.Dec.{ltb, eqb}
 use lib.ListN.{length}
-use borrow.Author.Tests.{lt-ltb, le-ltb, ltb-true, ne_eqb}
-use Rattle.rules.specs.Choice.{both, either}
+use borrow.Author.Tests.{lt-ltb, le-ltb, ltb-true}
+use Rattle.rules.specs.Choice.{both}
 use Rattle.rules.specs.Directive.{blank, item_at}
 use Rattle.rules.specs.Rows.{well_written}
 use Rattle.rules.specs.Text.{Block, opened, opens_conditional, may_separate, right_count, is_closer_of, provided, deepest, directive_met, verdict_at, longest, text_verdict}
@@ -21,19 +21,22 @@ use Rattle.rules.specs.declared.Code.TheVariants.{Writes, Jump, Escape, Opens, S
 use Rattle.rules.specs.declared.Directive.{Directive}
 use Rattle.rules.specs.declared.Item.{Item}
 use Rattle.rules.specs.declared.Item.TheVariants.{End, Literal, Written, BadNumber, Unfinished}
-use Rattle.rules.specs.declared.Verdict.{Verdict}
-use Rattle.rules.specs.declared.Verdict.TheVariants.{Accepted, Refused}
+use Rattle.rules.specs.Verdict.{Verdict, Accepted, Refused, verdict_as}
+use Rattle.rules.specs.Refusals.{code_of}
+use Rattle.rules.specs.declared.refusal.Fault.{Fault}
+use Rattle.rules.specs.declared.refusal.Refusal.{Refusal}
+use Rattle.rules.specs.declared.refusal.Refusal.TheVariants.{BadBlock, BadParameter}
+use Rattle.std.specs.Prelude.{Option, None, Some, Result, Ok, Err}
 use Rattle.rules.proofs.TextLaws.{Within, stands, next_inside, verdict_end, verdict_literal, verdict_bad, verdict_unfinished, verdict_written}
 use Rattle.syntax.specs.declared.meeting.Around.{Around}
 use Rattle.syntax.specs.declared.meeting.Around.TheVariants.{Top, Numbered, TwoClauses, OneClause, Repeated}
 use Rattle.syntax.specs.declared.meeting.Scope.{Scope}
 use Rattle.syntax.specs.declared.meeting.Met.{Met}
-use Rattle.syntax.specs.declared.meeting.Met.TheVariants.{Wrong, Ends, Stays, Enters, Parts, Leaves}
-use Rattle.syntax.specs.declared.text.Checked.{Checked}
-use Rattle.syntax.specs.declared.text.Checked.TheVariants.{Ended, Closed}
+use Rattle.syntax.specs.declared.meeting.Met.TheVariants.{Ends, Stays, Enters, Parts, Leaves}
 use Rattle.reader.specs.Shorts.{Skips}
 use Rattle.reader.specs.Marks.{mark_size, mark_directive, IsMark}
-use Rattle.syntax.specs.Checks.{has_clauses, is_repeated, may_part, count_in, block_by, block_of_mark, unless, met_opener, met_separator, met_end_conditional, met_end_iteration, met_by, met_mark, met_end, met_item, block_of, blocks, levels, Kind, Opener, onward, Room, Goes, Checks}
+use Rattle.reader.specs.declared.marks.Mark.{Mark}
+use Rattle.syntax.specs.Checks.{has_clauses, is_repeated, may_part, count_in, block_by, unless, met_separator, met_end_conditional, met_end_iteration, met_by, met_mark, met_end, met_item, block_of, blocks, levels, Kind, Opener, onward, Room, Goes, Checks}
 
 -- 1. What a block is asked for depends on the kind of its opener, not on the opener.
 
@@ -86,13 +89,13 @@ record Entered (t : List ℕ) (p : ℕ) (bs : List Block) (v : Verdict) (block :
   same : v ≡ verdict_at t (blocks block p opener 0 false bs) after
 
 -- v is found after an item at p that does m, inside the blocks bs, which are ps after a `~;` and os after a closer
-abbrev After : List ℕ → ℕ → List Block → (Bool → List Block) → List Block → Verdict → Met → Type 0
-After t p bs ps os v (Wrong code q) = v ≡ Refused code q
-After t p bs ps os v Ends = v ≡ Accepted
-After t p bs ps os v (Stays after) = v ≡ verdict_at t bs after
-After t p bs ps os v (Enters block after) = Entered t p bs v block after
-After t p bs ps os v (Parts colon after) = v ≡ verdict_at t (ps colon) after
-After t p bs ps os v (Leaves after) = v ≡ verdict_at t os after
+abbrev After : List ℕ → ℕ → List Block → (Bool → List Block) → List Block → Verdict → Result Met Fault → Type 0
+After t p bs ps os v (Err f) = v ≡ verdict_as (Err f)
+After t p bs ps os v (Ok Ends) = v ≡ Accepted
+After t p bs ps os v (Ok (Stays after)) = v ≡ verdict_at t bs after
+After t p bs ps os v (Ok (Enters block after)) = Entered t p bs v block after
+After t p bs ps os v (Ok (Parts colon after)) = v ≡ verdict_at t (ps colon) after
+After t p bs ps os v (Ok (Leaves after)) = v ≡ verdict_at t os after
 
 room_same : (l room : ℕ) → l + room ≡ deepest → ltb l deepest ≡ ltb 0 room
 room_same l room h = by (dec_lt 0 room)
@@ -109,22 +112,22 @@ depth_same OneClause q o n f os = refl
 depth_same Repeated q o n f os = refl
 
 module _ (t : List ℕ) (p : ℕ) (bs : List Block) (ps : Bool → List Block) (os : List Block) where
-  unless_after : (y : Bool) (code q : ℕ) (m : Met) (v : Verdict) → After t p bs ps os v m
-      → After t p bs ps os (provided y code q (λ _. v)) (unless y code q m)
-  unless_after true code q m v e = e
-  unless_after false code q m v e = refl
+  unless_after : (y : Bool) (r : Refusal) (q : ℕ) (m : Result Met Fault) (v : Verdict) → After t p bs ps os v m
+      → After t p bs ps os (provided y (code_of r) q (λ _. v)) (unless y r q m)
+  unless_after true r q m v e = e
+  unless_after false r q m v e = refl
 
-  two_after : (y z : Bool) (m : Met) (v : Verdict) → After t p bs ps os v m
-      → After t p bs ps os (provided y 4 p (λ _. provided z 5 p (λ _. v))) (unless y 4 p (unless z 5 p m))
-  two_after y z m v e = unless_after y 4 p (unless z 5 p m) (provided z 5 p (λ _. v)) (unless_after z 5 p m v e)
+  two_after : (y z : Bool) (m : Result Met Fault) (v : Verdict) → After t p bs ps os v m
+      → After t p bs ps os (provided y 4 p (λ _. provided z 5 p (λ _. v))) (unless y BadBlock p (unless z BadParameter p m))
+  two_after y z m v e = unless_after y BadBlock p (unless z BadParameter p m) (provided z 5 p (λ _. v)) (unless_after z BadParameter p m v e)
 
   three_after : (x y w z : Bool) (q after : ℕ) → (x ≡ true → w ≡ y)
       → After t p bs ps os (provided x 4 p (λ _. provided w 4 q (λ _. provided z 5 p (λ _. verdict_at t os after))))
-      (unless x 4 p (unless y 4 q (unless z 5 p (Leaves after))))
+      (unless x BadBlock p (unless y BadBlock q (unless z BadParameter p (Ok (Leaves after)))))
   three_after true y w z q after e =
       rw (e refl)
-      (unless_after y 4 q (unless z 5 p (Leaves after)) (provided z 5 p (λ _. verdict_at t os after))
-      (unless_after z 5 p (Leaves after) (verdict_at t os after) refl))
+      (unless_after y BadBlock q (unless z BadParameter p (Ok (Leaves after))) (provided z 5 p (λ _. verdict_at t os after))
+      (unless_after z BadParameter p (Ok (Leaves after)) (verdict_at t os after) refl))
   three_after false y w z q after e = refl
 
   module _ (d : Directive) where
@@ -143,7 +146,7 @@ abbrev pub scope_of : Around → ℕ → ℕ → ℕ → Bool → ℕ → Scope
 scope_of a q start n f room = record { around = a; opened = q; start = start; separators = n; fallback = f; room = room }
 
 module _ (t : List ℕ) (p q start n : ℕ) (f : Bool) (room : ℕ) (o : Directive) (os : List Block) where
-  abbrev Does : Around → Verdict → Met → Type 0
+  abbrev Does : Around → Verdict → Result Met Fault → Type 0
   Does a v m = After t p (blocks a q o n f os) (λ colon. blocks a q o (n + 1) colon os) os v m
 
   module _ (d : Directive) where
@@ -157,7 +160,7 @@ module _ (t : List ℕ) (p q start n : ℕ) (f : Bool) (room : ℕ) (o : Directi
       unfolding directive_met
       part_in e =
           rw (may_part_lem q o n f a l k.kind d)
-          (two_after t p bs ps os (may_part a f d.colon) (well_written d) (Parts d.colon d.after) _
+          (two_after t p bs ps os (may_part a f d.colon) (well_written d) (Ok (Parts d.colon d.after)) _
           (ap (λ (x : ℕ). verdict_at t (block_of q o x d.colon ∷ os) d.after) (sym (add-one n)) ∙ ap (λ bs₂. verdict_at t bs₂ d.after) (sym e)))
 
       iteration_in : After t p bs ps os (found (Closes Iteration) (block_of q o n f ∷ os)) (met_end_iteration p d.after (well_written d) a q start)
@@ -215,12 +218,12 @@ module _ (t : List ℕ) (p q start n : ℕ) (f : Bool) (room : ℕ) (o : Directi
     directive_is : (a : Around) → Opener a start o → Room a os room → (c : Code) → d.code ≡ c
         → Does a (found c (blocks a q o n f os)) (met_by p d.after (well_written d) d.colon d.atsign c (scope_of a q start n f room))
     unfolding directive_met met_by
-    directive_is a k h (Writes x) e = unless_after t p _ _ os (well_written d) 5 p (Stays d.after) _ refl
-    directive_is a k h Jump e = unless_after t p _ _ os (well_written d) 5 p (Stays d.after) _ refl
-    directive_is a k h Escape e = unless_after t p _ _ os (well_written d) 5 p (Stays d.after) _ refl
+    directive_is a k h (Writes x) e = unless_after t p _ _ os (well_written d) BadParameter p (Ok (Stays d.after)) _ refl
+    directive_is a k h Jump e = unless_after t p _ _ os (well_written d) BadParameter p (Ok (Stays d.after)) _ refl
+    directive_is a k h Escape e = unless_after t p _ _ os (well_written d) BadParameter p (Ok (Stays d.after)) _ refl
     directive_is a k h (Opens b) e =
         rw (depth_same a q o n f os, room_same (levels a os) room h.is)
-        (two_after t p _ _ os (ltb 0 room) (well_written d) (Enters (block_by b d.colon d.atsign) d.after) _
+        (two_after t p _ _ os (ltb 0 room) (well_written d) (Ok (Enters (block_by b d.colon d.atsign) d.after)) _
         (opens_is t p (blocks a q o n f os) (λ colon. blocks a q o (n + 1) colon os) os d b d.colon d.atsign refl refl e))
     directive_is a k h Separator e = separator_is a k
     directive_is a k h (Closes Conditional) e = conditional_is a k
@@ -244,26 +247,26 @@ module _ (t : List ℕ) (p q start n : ℕ) (f : Bool) (room : ℕ) (o : Directi
 
 -- 3. Where the text goes on. A block is opened only where there is room, and only a block is closed.
 
-abbrev Fair : List ℕ → Around → ℕ → ℕ → Met → Type 0
-Fair t a room p (Wrong code q) = Unit
-Fair t a room p Ends = Unit
-Fair t a room p (Stays after) = Within p (length t) after
-Fair t a room p (Enters block after) = (0 < room) × Within p (length t) after
-Fair t a room p (Parts colon after) = Within p (length t) after
-Fair t a room p (Leaves after) = (levels a [] ≡ 1) × Within p (length t) after
+abbrev Fair : List ℕ → Around → ℕ → ℕ → Result Met Fault → Type 0
+Fair t a room p (Err f) = Unit
+Fair t a room p (Ok Ends) = Unit
+Fair t a room p (Ok (Stays after)) = Within p (length t) after
+Fair t a room p (Ok (Enters block after)) = (0 < room) × Within p (length t) after
+Fair t a room p (Ok (Parts colon after)) = Within p (length t) after
+Fair t a room p (Ok (Leaves after)) = (levels a [] ≡ 1) × Within p (length t) after
 
 module _ (t : List ℕ) (room p : ℕ) where
-  unless_fair : (a : Around) (y : Bool) (code q : ℕ) (m : Met) → (y ≡ true → Fair t a room p m) → Fair t a room p (unless y code q m)
-  unless_fair a true code q m e = e refl
-  unless_fair a false code q m e = tt
+  unless_fair : (a : Around) (y : Bool) (r : Refusal) (q : ℕ) (m : Result Met Fault) → (y ≡ true → Fair t a room p m) → Fair t a room p (unless y r q m)
+  unless_fair a true r q m e = e refl
+  unless_fair a false r q m e = tt
 
   module _ (after : ℕ) (w : Within p (length t) after) where
     closes_fair : (a : Around) → levels a [] ≡ 1 → (x y z : Bool) (q : ℕ)
-        → Fair t a room p (unless x 4 p (unless y 4 q (unless z 5 p (Leaves after))))
+        → Fair t a room p (unless x BadBlock p (unless y BadBlock q (unless z BadParameter p (Ok (Leaves after)))))
     closes_fair a l x y z q =
-        unless_fair a x 4 p (unless y 4 q (unless z 5 p (Leaves after)))
-        (λ _. unless_fair a y 4 q (unless z 5 p (Leaves after))
-        (λ _. unless_fair a z 5 p (Leaves after) (λ _. (l, w))))
+        unless_fair a x BadBlock p (unless y BadBlock q (unless z BadParameter p (Ok (Leaves after))))
+        (λ _. unless_fair a y BadBlock q (unless z BadParameter p (Ok (Leaves after)))
+        (λ _. unless_fair a z BadParameter p (Ok (Leaves after)) (λ _. (l, w))))
 
     conditional_fair : (a : Around) (z : Bool) (q n : ℕ) → Fair t a room p (met_end_conditional p after z a q n)
     conditional_fair Top z q n = tt
@@ -282,15 +285,15 @@ module _ (t : List ℕ) (room p : ℕ) where
     directive_fair : (a : Around) (q start n : ℕ) (f : Bool) (z colon atsign : Bool) (c : Code)
         → Fair t a room p (met_by p after z colon atsign c (scope_of a q start n f room))
     unfolding met_by
-    directive_fair a q start n f z colon atsign (Writes x) = unless_fair a z 5 p (Stays after) (λ _. w)
-    directive_fair a q start n f z colon atsign Jump = unless_fair a z 5 p (Stays after) (λ _. w)
-    directive_fair a q start n f z colon atsign Escape = unless_fair a z 5 p (Stays after) (λ _. w)
+    directive_fair a q start n f z colon atsign (Writes x) = unless_fair a z BadParameter p (Ok (Stays after)) (λ _. w)
+    directive_fair a q start n f z colon atsign Jump = unless_fair a z BadParameter p (Ok (Stays after)) (λ _. w)
+    directive_fair a q start n f z colon atsign Escape = unless_fair a z BadParameter p (Ok (Stays after)) (λ _. w)
     directive_fair a q start n f z colon atsign (Opens b) =
-        unless_fair a (ltb 0 room) 4 p (unless z 5 p (Enters (block_by b colon atsign) after))
-        (λ y. unless_fair a z 5 p (Enters (block_by b colon atsign) after) (λ _. (ltb-true 0 room y, w)))
+        unless_fair a (ltb 0 room) BadBlock p (unless z BadParameter p (Ok (Enters (block_by b colon atsign) after)))
+        (λ y. unless_fair a z BadParameter p (Ok (Enters (block_by b colon atsign) after)) (λ _. (ltb-true 0 room y, w)))
     directive_fair a q start n f z colon atsign Separator =
-        unless_fair a (may_part a f colon) 4 p (unless z 5 p (Parts colon after))
-        (λ _. unless_fair a z 5 p (Parts colon after) (λ _. w))
+        unless_fair a (may_part a f colon) BadBlock p (unless z BadParameter p (Ok (Parts colon after)))
+        (λ _. unless_fair a z BadParameter p (Ok (Parts colon after)) (λ _. w))
     directive_fair a q start n f z colon atsign (Closes Conditional) = conditional_fair a z q n
     directive_fair a q start n f z colon atsign (Closes Iteration) = iteration_fair a z q start
     directive_fair a q start n f z colon atsign Unknown = tt
@@ -324,7 +327,7 @@ pub record Checking (t : List ℕ) (start room : ℕ) (a : Around) (q p n : ℕ)
 pub check_start : (t : List ℕ) (start room : ℕ) (a : Around) (q : ℕ) → Checking t start room a q start 0 false
 check_start t start room a q = record { same = λ o z os h. refl; from = omega arith; few = omega arith }
 
-pub check_skips : {t : List ℕ} {start room : ℕ} {a : Around} {q p n : ℕ} {f : Bool} {p₂ : ℕ} → Checking t start room a q p n f → Skips t p p₂
+check_skips : {t : List ℕ} {start room : ℕ} {a : Around} {q p n : ℕ} {f : Bool} {p₂ : ℕ} → Checking t start room a q p n f → Skips t p p₂
     → Checking t start room a q p₂ n f
 check_skips {a = a} {q = q} {n = n} {f = f} k s = record {
   same = λ o z os r. k.same o z os r ∙ s.same (blocks a q o n f os);
@@ -332,99 +335,81 @@ check_skips {a = a} {q = q} {n = n} {f = f} k s = record {
   few = omega (arith, k.few, s.least);
 }
 
-module _ {t : List ℕ} {start room : ℕ} {a : Around} {q p n : ℕ} {f : Bool} (k : Checking t start room a q p n f) {m : Met}
-    (met : m ≡ met_item p (item_at t p) (scope_of a q start n f room)) where
-  module _ {m₂ : Met} (h : m ≡ m₂) where
+-- reading stood at p₀, and goes on at p behind literal bytes and short directives
+module _ {t : List ℕ} {start room : ℕ} {a : Around} {q p₀ p n : ℕ} {f : Bool} (before : Checking t start room a q p₀ n f) (over : Skips t p₀ p) where
+  k : Checking t start room a q p n f
+  k = check_skips before over
+
+  module _ {r : Result Met Fault} (met : r ≡ met_item p (item_at t p) (scope_of a q start n f room)) where
     did : (o : Directive) → Opener a start o → (os : List Block) → Room a os room
-        → Does t p q start n f room o os a (verdict_at t (blocks a q o 0 false os) start) m₂
-    did o z os r =
-        subst (Does t p q start n f room o os a (verdict_at t (blocks a q o 0 false os) start)) (sym met ∙ h)
-        (rw (k.same o z os r) (item_is t p q start n f room o os a z r (item_at t p) refl))
+        → Does t p q start n f room o os a (verdict_at t (blocks a q o 0 false os) start) r
+    did o z os h =
+        subst (Does t p q start n f room o os a (verdict_at t (blocks a q o 0 false os) start)) (sym met)
+        (rw (k.same o z os h) (item_is t p q start n f room o os a z h (item_at t p) refl))
 
-    was : Fair t a room p m₂
-    was = subst (Fair t a room p) (sym met ∙ h) (fair t room p a q start n f (item_at t p) refl)
+    was : Fair t a room p r
+    was = subst (Fair t a room p) (sym met) (fair t room p a q start n f (item_at t p) refl)
 
-  pub check_wrong : {code pos : ℕ} → m ≡ Wrong code pos → Checks t start room a q (Ended (Refused code pos))
-  check_wrong h = record { same = did h; goes = tt }
+  pub check_wrong : {fault : Fault} → Err fault ≡ met_item p (item_at t p) (scope_of a q start n f room) → Checks t start room a q (Err fault)
+  check_wrong e = record { same = did e; goes = tt }
 
-  pub check_ends : m ≡ Ends → Checks t start room a q (Ended Accepted)
-  check_ends h = record { same = did h; goes = tt }
+  module _ {m : Met} (met : Ok m ≡ met_item p (item_at t p) (scope_of a q start n f room)) where
+    -- the same, where the item is known
+    does : {m₂ : Met} → m ≡ m₂ → Ok m₂ ≡ met_item p (item_at t p) (scope_of a q start n f room)
+    does h = sym (ap Ok h) ∙ met
 
-  pub stays_inside : {after : ℕ} → m ≡ Stays after → Within p (length t) after
-  stays_inside h = was h
+    pub check_ends : m ≡ Ends → Checks t start room a q (Ok None)
+    check_ends h = record { same = did (does h); goes = tt }
 
-  pub check_stays : {after : ℕ} → m ≡ Stays after → Checking t start room a q after n f
-  check_stays h = let w = was h in record { same = did h; from = omega (arith, k.from); few = omega (arith, k.few) }
+    pub stays_inside : {after : ℕ} → m ≡ Stays after → Within p (length t) after
+    stays_inside h = was (does h)
 
-  pub parts_inside : {colon : Bool} {after : ℕ} → m ≡ Parts colon after → Within p (length t) after
-  parts_inside h = was h
+    pub check_stays : {after : ℕ} → m ≡ Stays after → Checking t start room a q after n f
+    check_stays h = let w = was (does h) in record { same = did (does h); from = omega (arith, k.from); few = omega (arith, k.few) }
 
-  pub check_parts : {colon : Bool} {after : ℕ} → m ≡ Parts colon after → Checking t start room a q after (n + 1) colon
-  check_parts h = let w = was h in record { same = did h; from = omega (arith, k.from); few = omega (arith, k.few) }
+    pub parts_inside : {colon : Bool} {after : ℕ} → m ≡ Parts colon after → Within p (length t) after
+    parts_inside h = was (does h)
 
-  pub check_leaves : {after : ℕ} → m ≡ Leaves after → Checks t start room a q (Closed after)
-  check_leaves h = let w = was h in record { same = did h; goes = (w.0, (omega (arith, k.from, w.1), w.1.most)) }
+    pub check_parts : {colon : Bool} {after : ℕ} → m ≡ Parts colon after → Checking t start room a q after (n + 1) colon
+    check_parts h = let w = was (does h) in record { same = did (does h); from = omega (arith, k.from); few = omega (arith, k.few) }
 
-  module _ {block : Around} {after : ℕ} (h : m ≡ Enters block after) where
-    pub check_room : 0 < room
-    check_room = (was h).0
+    pub check_leaves : {after : ℕ} → m ≡ Leaves after → Checks t start room a q (Ok (Some after))
+    check_leaves h = let w = was (does h) in record { same = did (does h); goes = (w.0, (omega (arith, k.from, w.1), w.1.most)) }
 
-    module _ {c : Checked} (i : Checks t after (room - 1) block p c) where
-      inner : (o : Directive) → Opener a start o → (os : List Block) → Room a os room
-          → verdict_at t (blocks a q o 0 false os) start ≡ onward t c (blocks a q o n f os)
-      inner o z os r =
-          let g = did h o z os r in
-          let l = check_room in
-          g.same ∙ i.same g.opener g.is (blocks a q o n f os) (record { is = omega (arith, r.is, g.deeper, depth_same a q o n f os) })
+    module _ {block : Around} {after : ℕ} (h : m ≡ Enters block after) where
+      pub check_room : 0 < room
+      check_room = (was (does h)).0
 
-      pub check_ended : {v : Verdict} → c ≡ Ended v → Checks t start room a q (Ended v)
-      check_ended g = record { same = λ o z os r. inner o z os r ∙ ap (λ x. onward t x (blocks a q o n f os)) g; goes = tt }
+      module _ {c : Result (Option ℕ) Fault} (i : Checks t after (room - 1) block p c) where
+        inner : (o : Directive) → Opener a start o → (os : List Block) → Room a os room
+            → verdict_at t (blocks a q o 0 false os) start ≡ onward t c (blocks a q o n f os)
+        inner o z os r =
+            let g = did (does h) o z os r in
+            let l = check_room in
+            g.same ∙ i.same g.opener g.is (blocks a q o n f os) (record { is = omega (arith, r.is, g.deeper, depth_same a q o n f os) })
 
-      pub closed_inside : {p₂ : ℕ} → c ≡ Closed p₂ → Within p (length t) p₂
-      closed_inside g =
-          let l = subst (Goes t after block) g i.goes in
-          record { above = omega (arith, (was h).1.above, l.1.0); most = l.1.1 }
+        pub check_failed : {fault : Fault} → c ≡ Err fault → Checks t start room a q (Err fault)
+        check_failed g = record { same = λ o z os r. inner o z os r ∙ ap (λ x. onward t x (blocks a q o n f os)) g; goes = tt }
 
-      pub check_closed : {p₂ : ℕ} → c ≡ Closed p₂ → Checking t start room a q p₂ n f
-      check_closed g = let w = closed_inside g in record {
-        same = λ o z os r. inner o z os r ∙ ap (λ x. onward t x (blocks a q o n f os)) g;
-        from = omega (arith, k.from);
-        few = omega (arith, k.few);
-      }
+        pub check_ended : c ≡ Ok None → Checks t start room a q (Ok None)
+        check_ended g = record { same = λ o z os r. inner o z os r ∙ ap (λ x. onward t x (blocks a q o n f os)) g; goes = tt }
 
--- 5. A directive by its code, and a mark.
+        pub closed_inside : {p₂ : ℕ} → c ≡ Ok (Some p₂) → Within p (length t) p₂
+        closed_inside g =
+            let l = subst (Goes t after block) g i.goes in
+            record { above = omega (arith, (was (does h)).1.above, l.1.0); most = l.1.1 }
 
-pub directive_by : {r : Met} (p : ℕ) (d : Directive) (s : Scope) (c : Code) → d.code ≡ c → {w : Bool} → w ≡ well_written d
-    → r ≡ met_by p d.after w d.colon d.atsign c s → r ≡ met_by p d.after (well_written d) d.colon d.atsign d.code s
-directive_by p d s c k g e =
-    e ∙ ap (λ (x : Bool). met_by p d.after x d.colon d.atsign c s) g
-    ∙ ap (λ (x : Code). met_by p d.after (well_written d) d.colon d.atsign x s) (sym k)
+        pub check_closed : {p₂ : ℕ} → c ≡ Ok (Some p₂) → Checking t start room a q p₂ n f
+        check_closed g = let w = closed_inside g in record {
+          same = λ o z os r. inner o z os r ∙ ap (λ x. onward t x (blocks a q o n f os)) g;
+          from = omega (arith, k.from);
+          few = omega (arith, k.few);
+        }
 
--- where the text ends inside a block or not
-pub end_by : (a : Around) (q : ℕ) → unless (not (either (has_clauses a) (is_repeated a))) 4 q Ends ≡ met_end a q
-end_by Top q = refl
-end_by Numbered q = refl
-end_by TwoClauses q = refl
-end_by OneClause q = refl
-end_by Repeated q = refl
-
--- a mark that does not part or close a block opens one
-pub mark_opens : (p after m : ℕ) (s : Scope) → (m ≡ 1 → ⊥) → (m ≡ 2 → ⊥) → (m ≡ 3 → ⊥)
-    → met_opener p after true (block_of_mark m) s.room ≡ met_mark p after m s
-unfolding met_by
-mark_opens p after m s x y z = elim (dec_eq m 4) [
-  | yes e ↦ rw e
-  | no a ↦ elim (dec_eq m 5) [
-    | yes e ↦ rw e
-    | no b ↦ elim (dec_eq m 6) [
-      | yes e ↦ rw e
-      | no c ↦ rw (ne_eqb m 1 x, ne_eqb m 2 y, ne_eqb m 3 z, ne_eqb m 4 a, ne_eqb m 5 b, ne_eqb m 6 c)
-    ]
-  ]
-]
+-- 5. A mark.
 
 -- what a mark at p does is what the item there does
-pub mark_met : (t : List ℕ) (p m : ℕ) (s : Scope) → IsMark t p m → met_mark p (p + mark_size m) m s ≡ met_item p (item_at t p) s
+pub mark_met : (t : List ℕ) (p : ℕ) (m : Mark) (s : Scope) → IsMark t p m → met_mark p (p + mark_size m) m s ≡ met_item p (item_at t p) s
 unfolding mark_directive
 mark_met t p m s i = rw (i.item, i.well (p + mark_size m))
 
@@ -434,12 +419,11 @@ pub text_long : (t : List ℕ) → longest < length t → Refused 2 longest ≡ 
 unfolding text_verdict
 text_long t h = rw (lt-ltb longest (length t) h)
 
-module _ {t : List ℕ} {c : Checked} (k : Checks t 0 deepest Top 0 c) where
-  pub text_ended : length t ≤ longest → {v : Verdict} → c ≡ Ended v → v ≡ text_verdict t
-  unfolding text_verdict
-  text_ended h e =
-      rw (le-ltb longest (length t) h)
-      (sym (k.same blank (record { kind = tt; after = refl }) [] (record { is = refl }) ∙ ap (λ x. onward t x []) e))
+pub text_fault : {t : List ℕ} {f : Fault} → Checks t 0 deepest Top 0 (Err f) → length t ≤ longest → verdict_as (Err f) ≡ text_verdict t
+unfolding text_verdict
+text_fault {t} k h = rw (le-ltb longest (length t) h) (sym (k.same blank (record { kind = tt; after = refl }) [] (record { is = refl })))
 
-  pub text_open : {q : ℕ} → c ≡ Closed q → ⊥
-  text_open e = let l = subst (Goes t 0 Top) e k.goes in no_block l.0
+pub text_right : {t : List ℕ} (o : Option ℕ) → Checks t 0 deepest Top 0 (Ok o) → length t ≤ longest → Accepted ≡ text_verdict t
+unfolding text_verdict
+text_right {t} None k h = rw (le-ltb longest (length t) h) (sym (k.same blank (record { kind = tt; after = refl }) [] (record { is = refl })))
+text_right (Some q) k h = absurd (no_block k.goes.0)

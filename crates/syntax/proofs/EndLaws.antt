@@ -1,14 +1,11 @@
 -- How the search for the end of a clause or a block goes on by one item. Assumes nothing.
 use Prim.Native.Nat.{ℕ, zero, suc, ◌+◌, ◌-◌, ◌<◌, ◌≤◌}
 use mathlib.Core.Path.{◌≡◌, refl, sym, ap, subst, ◌∙◌}
-use mathlib.Core.Bool.{Bool, true, false, cond}
+use mathlib.Core.Bool.{Bool, false}
 use mathlib.Core.List.{List, [], ◌∷◌}
-use native.Mathlib.Decide.{ℕ_discrete as dec_eq}
 use native.Mathlib.Omega.{arith}
 use native.Mathlib.Numerals.{add-one}
-use lib.Dec.{eqb}
 use lib.ListN.{length, drop}
-use borrow.Author.Tests.{ne_eqb}
 use lib.Seq.{drop-nil}
 use Rattle.rules.specs.Directive.{item_at}
 use Rattle.rules.specs.Text.{Sequence, end, acts, escapes, iterates, chooses, Clauses, none, Level, innermost, outer, before, as_clauses, levels_at}
@@ -21,9 +18,8 @@ use Rattle.rules.specs.declared.Item.TheVariants.{End, Literal, Written, BadNumb
 use Rattle.rules.proofs.TextLaws.{Within, stands, next_inside, levels_end, levels_literal, levels_bad, levels_unfinished, levels_written}
 use Rattle.syntax.specs.declared.ends.Shape.{Shape}
 use Rattle.syntax.specs.declared.ends.Shape.TheVariants.{Stops, Passes, Begins, Splits, Finishes}
-use Rattle.reader.specs.Marks.{mark_code}
 use Rattle.reader.specs.Shorts.{Skips}
-use Rattle.syntax.specs.Ends.{shape_of_code, shape_of, AfterBlock, ClauseAt, LastClause, AnotherClause}
+use Rattle.syntax.specs.Ends.{shape_of_code, shape_of, ClauseAt, LastClause, AnotherClause}
 
 -- 1. What the shape of an item says of the sequences that are open there.
 
@@ -202,34 +198,3 @@ pub record InBlock (t : List ℕ) (start z : ℕ) : Type 0 where
   pub outside : outer (levels_at t z) ≡ outer (levels_at t start)
   pub least : start ≤ z
   pub most : z ≤ length t
-
-pub block_start : (t : List ℕ) (start : ℕ) → start ≤ length t → InBlock t start start
-block_start t start h = record { outside = refl; least = omega arith; most = h }
-
-module _ {t : List ℕ} {start z : ℕ} (k : InBlock t start z) where
-  pub block_on : {q after : ℕ} {colon : Bool} → AnotherClause t z q colon after → InBlock t start after
-  block_on a = record { outside = a.on ∙ k.outside; least = omega (arith, k.least, a.here.least, a.least); most = a.most }
-
-  pub block_after : {q after : ℕ} → LastClause t z q after → AfterBlock t start after
-  block_after a = record { is = a.on ∙ k.outside; least = omega (arith, k.least, a.here.least, a.least); most = a.most }
-
--- 4. The shape of a mark.
-
-opens_shape : (x y z colon : Bool) (after : ℕ)
-    → Begins after ≡ shape_of_code (cond x (Opens Conditional) (cond y (Opens Conditional) (cond z (Opens Conditional) (Opens Iteration)))) colon after
-opens_shape true y z colon after = refl
-opens_shape false true z colon after = refl
-opens_shape false false true colon after = refl
-opens_shape false false false colon after = refl
-
-module _ (m after : ℕ) where
-  pub mark_finishes : (m ≡ 0 → ⊥) → (m ≡ 1 → ⊥) → m ≤ 3 → Finishes after ≡ shape_of_code (mark_code m) (eqb m 5) after
-  mark_finishes a b c = elim (dec_eq m 2) [
-    | yes z ↦ rw z
-    | no z ↦ let y : m ≡ 3 = omega arith in rw y
-  ]
-
-  pub mark_begins : 3 < m → Begins after ≡ shape_of_code (mark_code m) (eqb m 5) after
-  mark_begins h =
-      rw (ne_eqb m 1 (λ z. omega (arith, z)), ne_eqb m 2 (λ z. omega (arith, z)), ne_eqb m 3 (λ z. omega (arith, z)))
-      (opens_shape (eqb m 4) (eqb m 5) (eqb m 6) (eqb m 5) after)

@@ -1,11 +1,11 @@
 // Where the clauses and blocks of a text end.
-ghost use Rattle.std.specs.Prelude.{◌≡◌, ◌≤◌, eqb, length};
+ghost use Rattle.std.specs.Prelude.{◌≡◌, ◌≤◌, length};
 ghost use Rattle.rules.specs.Directive.{item_at};
-ghost use Rattle.reader.specs.Marks.{mark_code};
+ghost use Rattle.reader.specs.Marks.{mark_code, mark_colon};
 ghost use Rattle.syntax.specs.Ends.{shape_of_code, shape_of, AfterBlock, EndsClause};
 
 use reader::directive::item_at;
-use reader::marks::{END_ITERATION, NO_MARK, SEPARATOR, after_mark, mark_at};
+use reader::marks::{Mark, after_mark, mark_at};
 use reader::short::skip_short;
 use rules::{Code, Item};
 
@@ -23,9 +23,7 @@ fn shape_of(code: Code, colon: bool, after: usize) -> Shape
     ensures { result ≡ shape_of_code code colon after }
 {
     match code {
-        Code::Writes(_) => Shape::Passes(after),
-        Code::Jump => Shape::Passes(after),
-        Code::Escape => Shape::Passes(after),
+        Code::Writes(_) | Code::Jump | Code::Escape => Shape::Passes(after),
         Code::Opens(_) => Shape::Begins(after),
         Code::Separator => Shape::Splits { colon, after },
         Code::Closes(_) => Shape::Finishes(after),
@@ -34,40 +32,30 @@ fn shape_of(code: Code, colon: bool, after: usize) -> Shape
 }
 
 // The shape of a mark, after which the text goes on at next.
-fn shape_of_mark(mark: u8, after: usize) -> Shape
-    requires { mark ≡ 0 → ⊥ }
-    ensures { result ≡ shape_of_code (mark_code mark) (eqb mark 5) after }
+fn shape_of_mark(mark: Mark, after: usize) -> Shape
+    ensures { result ≡ shape_of_code (mark_code mark) (mark_colon mark) after }
 {
-    if mark == SEPARATOR {
-        return Shape::Splits {
+    match mark {
+        Mark::Separator => Shape::Splits {
             colon: false,
             after,
-        };
+        },
+        Mark::EndConditional | Mark::EndIteration => Shape::Finishes(after),
+        _ => Shape::Begins(after),
     }
-    if mark <= END_ITERATION {
-        return Shape::Finishes(after);
-    }
-    Shape::Begins(after)
 }
 
 // The shape of the item at p.
 pub fn shape_at(text: &[u8], p: usize) -> Shape
     ensures { result ≡ shape_of p (item_at text.now p) }
 {
-    let mark = mark_at(text, p);
-    if mark != NO_MARK {
+    if let Some(mark) = mark_at(text, p) {
         return shape_of_mark(mark, after_mark(mark, p));
     }
-    let i = item_at(text, p);
-    match i {
-        Item::End => Shape::Stops,
+    match item_at(text, p) {
+        Item::End | Item::BadNumber | Item::Unfinished => Shape::Stops,
         Item::Literal(_) => Shape::Passes(p + 1),
-        Item::Written(d) => {
-            let code = d.code;
-            shape_of(code, d.colon, d.after)
-        }
-        Item::BadNumber => Shape::Stops,
-        Item::Unfinished => Shape::Stops,
+        Item::Written(d) => shape_of(d.code, d.colon, d.after),
     }
 }
 
@@ -94,8 +82,7 @@ pub fn next_clause(text: &[u8], start: usize) -> ClauseEnd
     let mut depth: usize = 0;
     loop {
         p = skip_short(text, p);
-        let s = shape_at(text, p);
-        match s {
+        match shape_at(text, p) {
             Shape::Stops => return ClauseEnd::Last {
                 position: p,
                 after: p,
@@ -134,16 +121,11 @@ pub fn after_block(text: &[u8], start: usize) -> usize
     requires { start ≤ length text.now }
     ensures { AfterBlock text.now start result }
 {
-    let mut z = start;
+    let mut p = start;
     loop {
-        let e = next_clause(text, z);
-        match e {
-            ClauseEnd::Last { position: _, after } => return after,
-            ClauseEnd::Another {
-                position: _,
-                colon: _,
-                after,
-            } => z = after,
+        match next_clause(text, p) {
+            ClauseEnd::Last { after, .. } => return after,
+            ClauseEnd::Another { after, .. } => p = after,
         }
     }
 }

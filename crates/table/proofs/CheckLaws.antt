@@ -1,50 +1,30 @@
 -- The table check a step at a time: what each test of the code says of the verdict. Assumes nothing.
 use Prim.Native.Nat.{ℕ, suc, ◌+◌, ◌-◌, ◌*◌, ◌≤◌, ◌<◌}
 use mathlib.Core.Path.{◌≡◌, sym, ◌∙◌}
-use mathlib.Core.Bool.{Bool, true, false, not}
+use mathlib.Core.Bool.{true, false}
 use mathlib.Core.List.{List}
 use native.Mathlib.Omega.{arith}
-use lib.ListN.{length, get_or}
-use borrow.Author.Tests.{lt-ltb, le-ltb, eq-eqb, ne_eqb, not-true, not-false}
-use Rattle.rules.specs.Table.{be32_at, entry_count, argument_count, pool_length, entry_place, zeros_after, entry_at, right_for, is_right, first_bad, table_verdict}
-use Rattle.rules.specs.declared.Verdict.TheVariants.{Accepted, Refused}
+use lib.ListN.{length}
+use borrow.Author.Tests.{lt-ltb, le-ltb, eq-eqb, ne_eqb}
+use Rattle.rules.specs.Table.{entry_count, argument_count, pool_length, entry_place, entry_at, is_right, first_bad, table_verdict}
+use Rattle.rules.specs.Verdict.{Accepted, Refused}
 
--- one entry, of which the code has read the three bytes after the tag
-module _ (t : List ℕ) (n pool i zeros : ℕ) (is_zeros : zeros ≡ zeros_after t (entry_place i)) where
-  pub zeros_wrong : (zeros ≡ 0 → ⊥) → false ≡ is_right n pool i (entry_at t i)
-  unfolding entry_at
-  zeros_wrong h = rw (ne_eqb (zeros_after t (entry_place i)) 0 (λ e. h (is_zeros ∙ e)))
-
-  pub by_tag : zeros ≡ 0 → (high low : ℕ) → high ≡ be32_at t (entry_place i + 4) → low ≡ be32_at t (entry_place i + 8) → (right : Bool)
-      → right ≡ right_for (get_or t (entry_place i) 0) n pool i high low → right ≡ is_right n pool i (entry_at t i)
-  unfolding entry_at
-  by_tag z high low is_high is_low right test_is =
-      rw (test_is, eq-eqb (zeros_after t (entry_place i)) 0 (sym is_zeros ∙ z), is_high, is_low)
-
--- the loop over the entries: it begins with all of them, and i is the next to look at
-pub whole : (t : List ℕ) (n pool : ℕ) → first_bad t n pool (n - 0) 0 ≡ first_bad t n pool n 0
-whole t n pool =
-    let all : n - 0 ≡ n = omega arith in
-    rw all
-
+-- the loop over the entries: i is the next to look at
 module _ (t : List ℕ) (n pool i : ℕ) (next : i < n) where
   left_over : n - i ≡ suc (n - (i + 1))
   left_over = omega arith
 
-  -- `right` is what the test of entry i answers
-  module _ (right : Bool) (test_is : right ≡ is_right n pool i (entry_at t i)) (from_here : first_bad t n pool (n - i) i ≡ first_bad t n pool n 0) where
-    pub right_next : not right ≡ false → first_bad t n pool (n - (i + 1)) (i + 1) ≡ first_bad t n pool n 0
+  module _ (from_here : first_bad t n pool (n - i) i ≡ first_bad t n pool n 0) where
+    pub right_next : is_right n pool i (entry_at t i) ≡ true → first_bad t n pool (n - (i + 1)) (i + 1) ≡ first_bad t n pool n 0
     unfolding first_bad
-    right_next r =
+    right_next e =
         let one : suc i ≡ i + 1 = omega arith in
-        let e : is_right n pool i (entry_at t i) ≡ true = sym test_is ∙ not-false right r in
         let step : first_bad t n pool (n - i) i ≡ first_bad t n pool (n - (i + 1)) (i + 1) = rw (left_over, first_bad, e, one) in
         sym step ∙ from_here
 
-    pub wrong_here : not right ≡ true → Refused 1 (entry_place i) ≡ first_bad t n pool n 0
+    pub wrong_here : is_right n pool i (entry_at t i) ≡ false → Refused 1 (entry_place i) ≡ first_bad t n pool n 0
     unfolding first_bad
-    wrong_here r =
-        let e : is_right n pool i (entry_at t i) ≡ false = sym test_is ∙ not-true right r in
+    wrong_here e =
         let step : first_bad t n pool (n - i) i ≡ Refused 1 (entry_place i) = rw (left_over, first_bad, e) in
         sym step ∙ from_here
 

@@ -40,8 +40,16 @@ pub extern "C" fn tilde_vet(
 ) -> u32
     ensures { Promised format.now kinds.now longest (vetted result position.new count.new) }
 {
-    let vetted = vet_format(format, kinds, longest);
-    *position = vetted.position;
-    *count = vetted.count;
-    vetted.code
+    match vet_format(format, kinds, longest) {
+        Ok(bytes) => {
+            *position = 0;
+            *count = bytes;
+            0
+        }
+        Err(fault) => {
+            *position = fault.position;
+            *count = 0;
+            fault.refusal.code()
+        }
+    }
 }

@@ -1,56 +1,22 @@
 -- What may be asked of a vet, test by test, and what then follows. Assumes nothing.
-use Prim.Native.Nat.{ℕ, suc, ◌+◌, ◌≤◌, ◌<◌}
+use Prim.Native.Nat.{ℕ}
 use mathlib.Core.Path.{◌≡◌, refl, sym, ap, ◌∙◌}
 use mathlib.Core.Bool.{Bool, true, false}
-use mathlib.Core.List.{List}
-use native.Mathlib.Numerals.{add-one}
-use native.Mathlib.Omega.{arith}
+use mathlib.Core.List.{List, [], ◌∷◌}
+use Rattle.std.specs.List.{list_all}
 use lib.Dec.{leb}
-use lib.ListN.{length, drop, get_or, drop_of_length-le}
-use lib.Seq.{drop-cons}
-use borrow.Author.Tests.{le-leb, lt-leb}
 use Rattle.rules.specs.Choice.{both}
 use Rattle.rules.specs.Text.{text_verdict, provided}
-use Rattle.rules.specs.declared.Verdict.{Verdict}
-use Rattle.rules.specs.declared.Verdict.TheVariants.{Accepted, Refused}
+use Rattle.rules.specs.Verdict.{Verdict, Accepted, Refused}
 use Rattle.vet_rules.specs.Plain.{vettable_verdict}
-use Rattle.vet_rules.specs.Vet.{known_tags, may_ask, asked_verdict, declined, unless_declined, run_answer, vet_of}
-use Rattle.vet_rules.specs.declared.Vetted.{Vetted}
+use Rattle.vet_rules.specs.Vet.{known_tags, may_ask, asked_verdict, declined, unless_declined, run_answer, vet_of, Vetted}
 use Rattle.vet_rules.specs.Demand.{Promised}
 use Rattle.vet_rules.proofs.Promise.{promised}
 
--- kinds of which the first i are known
-pub record KnownTo (kinds : List ℕ) (i : ℕ) : Type 0 where
-  pub inside : i ≤ length kinds
-  pub rest : known_tags kinds ≡ known_tags (drop i kinds)
-
-pub known_start : (kinds : List ℕ) → KnownTo kinds 0
-known_start kinds = record { inside = omega arith; rest = refl }
-
-module _ {kinds : List ℕ} {i : ℕ} (l : KnownTo kinds i) where
-  pub known_done : length kinds ≤ i → true ≡ known_tags kinds
-  known_done h = sym (l.rest ∙ ap known_tags (drop_of_length-le kinds h))
-
-  step : i < length kinds → known_tags kinds ≡ both (leb (get_or kinds i 0) 4) (known_tags (drop (suc i) kinds))
-  step h = l.rest ∙ ap known_tags (drop-cons kinds i 0 h)
-
-  pub known_not : i < length kinds → 4 < get_or kinds i 0 → false ≡ known_tags kinds
-  known_not h k = sym (step h ∙ rw (lt-leb (get_or kinds i 0) 4 k))
-
-  pub known_more : i < length kinds → get_or kinds i 0 ≤ 4 → KnownTo kinds (i + 1)
-  known_more h k = record { inside = omega arith; rest = step h ∙ rw (le-leb (get_or kinds i 0) 4 k, add-one) }
-
-module _ (kinds : List ℕ) (longest : ℕ) where
-  pub ask_many : 1024 < length kinds → false ≡ may_ask kinds longest
-  ask_many h = rw (lt-leb (length kinds) 1024 h)
-
-  pub ask_long : length kinds ≤ 1024 → (known : Bool) → known ≡ known_tags kinds → known ≡ true
-      → leb longest 4096 ≡ may_ask kinds longest
-  ask_long h known e k = rw (le-leb (length kinds) 1024 h, ← e, k)
-
-  pub ask_unknown : length kinds ≤ 1024 → (known : Bool) → known ≡ known_tags kinds → known ≡ false
-      → false ≡ may_ask kinds longest
-  ask_unknown h known e k = rw (le-leb (length kinds) 1024 h, ← e, k)
+-- the tags one by one
+pub known_all : (kinds : List ℕ) → list_all (λ k. leb k 4) kinds ≡ known_tags kinds
+known_all [] = refl
+known_all (k ∷ ks) = ap (both (leb k 4)) (known_all ks)
 
 -- the answer, stage by stage
 module _ (format kinds : List ℕ) (longest : ℕ) where

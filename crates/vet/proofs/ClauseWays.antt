@@ -14,33 +14,21 @@ use Rattle.rules.specs.declared.Code.TheVariants.{Opens}
 use Rattle.rules.specs.declared.Directive.{Directive}
 use Rattle.rules.specs.declared.Item.TheVariants.{Written}
 use Rattle.rules.proofs.TextLaws.{Within, next_inside, levels_written}
-use Rattle.syntax.specs.declared.ends.ClauseEnd.{ClauseEnd}
 use Rattle.syntax.specs.declared.ends.ClauseEnd.TheVariants.{Last, Another}
 use Rattle.vet_rules.specs.Plain.{Opener}
 use Rattle.vet_rules.specs.Ways.{Way, leads, fails, Ways, ending, on_way, on_turn, on_ways, on_ends, meeting, with_none, has_fallback, start_of, way_of, ways_of}
 use Rattle.vet_rules.specs.declared.Ends.{Ends}
 use Rattle.vet_rules.specs.declared.Ends.TheVariants.{Nowhere, Equal, Unequal}
-use Rattle.vet_rules.specs.declared.Turn.{Turn}
-use Rattle.vet_rules.specs.declared.Turn.TheVariants.{Goes, Stops}
+use Rattle.vet_rules.specs.Turns.{Turn, Goes, Stops}
 use Rattle.vet_rules.specs.Worst.{most_piece}
 use Rattle.vet_rules.proofs.Sizes.{EndsSized, none_sized}
 use Rattle.vet_rules.proofs.Starts.{Started, start_turned}
-use Rattle.vet.specs.Counting.{VettableAt, closed_by, way_at, EndsIn, Walked, SequenceIs, clauses_way, Through, ElementIs}
-use Rattle.vet.specs.declared.counting.Element.{Element}
-use Rattle.vet.specs.declared.counting.Counted.{Counted}
-use Rattle.vet.specs.declared.counting.Counted.TheVariants.{Leads as LeadsAll}
-use Rattle.vet.proofs.EndsBy.{sized_in, meet_sized}
+use Rattle.vet.specs.Counting.{VettableAt, way_at, Onward, EndsIn, Walked, clauses_way, Through}
+use Rattle.vet.proofs.EndsBy.{parted, sized_in, meet_sized}
 
 -- the clauses of the block whose inside is at p
 abbrev clauses_at : List ℕ → ℕ → Clauses
 clauses_at t p = as_clauses false (levels_at t p)
-
--- what is said of a sequence that was counted, in other words
-pub walked_by : (t kinds : List ℕ) (longest start first : ℕ) (r : Counted) → SequenceIs t kinds longest start first r
-    → {next : ArgumentPosition} {size : ℕ} {end same : ClauseEnd} → r ≡ LeadsAll next size end → end ≡ same
-    → Walked t kinds longest start first next.0 size same
-walked_by t kinds longest start first r s {next} {size} e f =
-    subst (Walked t kinds longest start first next.0 size) f (subst (SequenceIs t kinds longest start first) e s)
 
 -- The clauses before z are counted, with these ends; the one at z stands after a `~:;` or not
 pub record Gathering (t kinds : List ℕ) (longest : ℕ) (d : Directive) (start z : ℕ) (colon : Bool) (e : Ends) : Type 0 where
@@ -152,12 +140,12 @@ module _ {t kinds : List ℕ} {longest : ℕ} {d : Directive} {start z : ℕ} {c
       }
 
 -- the conditional d at p
-module _ (t kinds : List ℕ) (longest p next : ℕ) (d : Directive) (e : item_at t p ≡ Written d) (o : Opener d) where
+module _ (t kinds : List ℕ) (longest p next : ℕ) (d : Directive) (e₀ : item_at t p ≡ Written d) (o : Opener d) where
   follows : (ℕ → ℕ → ℕ → Way)
   follows sum n s = way_of kinds longest (innermost (outer (levels_at t d.after))).rest n (sum + s)
 
   opens : levels_at t p ≡ before (chooses p d (clauses_at t d.after)) (outer (levels_at t d.after))
-  opens = levels_written t p d e (Opens Conditional) o.code
+  opens = levels_written t p d e₀ (Opens Conditional) o.code
 
   block_way : (x : Turn) → start_of kinds longest d next ≡ x → (sum : ℕ)
       → way_at t kinds longest p next sum ≡ on_turn p x sum (λ start sum₂. clauses_way t kinds longest d start p (follows sum₂))
@@ -188,30 +176,30 @@ module _ (t kinds : List ℕ) (longest p next : ℕ) (d : Directive) (e : item_a
         → (sum : ℕ) → way_at t kinds longest p next sum ≡ fails code position
     block_fails c sum = on sum ∙ c p (follows sum)
 
-    pub block_closes : (f : Ends) (q : ℕ) → Through t kinds longest d start.0 f q → (r : Element) → r ≡ closed_by f p q
-        → ElementIs t kinds longest p next r
-    unfolding follows
-    block_closes f q c r same = subst (ElementIs t kinds longest p next) (sym same) (by f (c.way p) c.within)
-      where
-        place : Within (p + 1) (length t) d.after
-        place = next_inside t p d e
+    module _ (f : Ends) (q : ℕ) (c : Through t kinds longest d start.0 f q) where
+      pub block_leads : (n : ArgumentPosition) (s : ℕ) → f ≡ Equal n s → Onward t kinds longest p next n.0 s q
+      unfolding follows
+      block_leads n s e =
+          let i : EndsIn (length kinds) (most_piece * (q - d.after)) (Equal n s) = subst (EndsIn (length kinds) (most_piece * (q - d.after))) e c.within in
+          record {
+            way = λ sum.
+                on sum ∙ c.way p (follows sum)
+                ∙ ap (λ (x : Ends). on_ends p x (follows sum)) e
+                ∙ ap (λ (ys : List Level). way_of kinds longest (innermost ys).rest n.0 (sum + s)) (sym c.behind.is);
+            more =
+                ap (λ (ys : List Level). (innermost ys).more) opens
+                ∙ ap (λ (ys : List Level). (innermost ys).more) (sym c.behind.is);
+            outside = ap outer opens ∙ ap outer (sym c.behind.is);
+            ahead = omega (arith, place.above, c.behind.least);
+            reaches = record {
+              reached = i.0;
+              small = omega (arith, place.above, c.behind.least, i.1);
+              vettable = c.vettable;
+            };
+          }
+        where
+          place : Within (p + 1) (length t) d.after
+          place = next_inside t p d e₀
 
-        by : (f : Ends) → ((on : ℕ → ℕ → Way) → clauses_way t kinds longest d start.0 p on ≡ on_ends p f on)
-            → EndsIn (length kinds) (most_piece * (q - d.after)) f → ElementIs t kinds longest p next (closed_by f p q)
-        by Nowhere w i = λ sum. on sum ∙ w (follows sum)
-        by (Equal n s) w i = record {
-          way = λ sum.
-              on sum ∙ w (follows sum)
-              ∙ ap (λ (ys : List Level). way_of kinds longest (innermost ys).rest n.0 (sum + s)) (sym c.behind.is);
-          more =
-              ap (λ (ys : List Level). (innermost ys).more) opens
-              ∙ ap (λ (ys : List Level). (innermost ys).more) (sym c.behind.is);
-          outside = ap outer opens ∙ ap outer (sym c.behind.is);
-          ahead = omega (arith, place.above, c.behind.least);
-          reaches = record {
-            reached = i.0;
-            small = omega (arith, place.above, c.behind.least, i.1);
-            vettable = c.vettable;
-          };
-        }
-        by Unequal w i = λ sum. on sum ∙ w (follows sum)
+      pub block_parts : ((n : ArgumentPosition) (s : ℕ) → f ≡ Equal n s → ⊥) → (sum : ℕ) → way_at t kinds longest p next sum ≡ fails 11 p
+      block_parts o sum = on sum ∙ c.way p (follows sum) ∙ parted f p o (follows sum)

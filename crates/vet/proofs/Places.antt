@@ -1,20 +1,17 @@
 -- Where a text goes on after an item, and what an item is to the test whether a vet takes it. Assumes nothing.
 use Prim.Native.Nat.{ℕ, ◌≤◌, ◌<◌}
-use mathlib.Core.Path.{◌≡◌, refl, sym, ap, ◌∙◌}
-use mathlib.Core.Bool.{Bool, true, false, not}
+use mathlib.Core.Path.{◌≡◌, refl, sym, ◌∙◌}
+use mathlib.Core.Bool.{Bool, true, false}
 use mathlib.Core.List.{List}
 use native.Mathlib.Omega.{arith}
 use lib.ListN.{length}
-use Rattle.rules.specs.Choice.{both}
 use Rattle.rules.specs.Directive.{item_at}
-use Rattle.rules.specs.Rows.{in_order}
 use Rattle.rules.specs.Text.{tokens_at, place_after}
-use Rattle.rules.specs.declared.Directive.{Directive}
 use Rattle.rules.specs.declared.Item.{Item}
 use Rattle.rules.specs.declared.Item.TheVariants.{End, Literal, Written, BadNumber, Unfinished}
-use Rattle.rules.specs.declared.Verdict.TheVariants.{Accepted, Refused}
+use Rattle.rules.specs.Verdict.{Accepted, Refused}
 use Rattle.rules.proofs.TextLaws.{Stands, stands, tokens_is}
-use Rattle.vet_rules.specs.Plain.{plain_code, is_next, none_next, plain_item, plain_from, vettable_verdict}
+use Rattle.vet_rules.specs.Plain.{plain_item, plain_from, vettable_verdict}
 use Rattle.vet_rules.proofs.Loop.{Follows, plain_on, plain_not, plain_end}
 
 -- the text goes on after the item's first byte, inside the text
@@ -58,18 +55,3 @@ module _ {t : List ℕ} {p : ℕ} (l : VettableTo t p) where
       inside = (goes_later t p q i h is f).inside;
       rest = l.rest ∙ plain_on t p q i (follows t p q i h is f) true (sym test ∙ e);
     }
-
-both_end : (b : Bool) → both b true ≡ b
-both_end true = refl
-both_end false = refl
-
--- a directive, from the tests of its code and of its five parameters
-pub directive_vettable : (d : Directive) {k s₁ s₂ s₃ s₄ s₅ a b c e r : Bool} → k ≡ plain_code true d.code
-    → s₁ ≡ not (is_next d.parameters.first) → s₂ ≡ not (is_next d.parameters.second)
-    → s₃ ≡ not (is_next d.parameters.third) → s₄ ≡ not (is_next d.parameters.fourth)
-    → s₅ ≡ not (is_next d.parameters.fifth)
-    → a ≡ both s₄ s₅ → b ≡ both s₃ a → c ≡ both s₂ b → e ≡ both s₁ c → r ≡ both k e
-    → r ≡ both (plain_code true d.code) (none_next (in_order d.parameters))
-directive_vettable d {k} {s₁} {s₂} {s₃} {s₄} {s₅} ek e₁ e₂ e₃ e₄ e₅ ea eb ec ee er =
-    er ∙ rw (ee, ec, eb, ea, ← ek, ← e₁, ← e₂, ← e₃, ← e₄, ← e₅)
-    (ap (λ (x : Bool). both k (both s₁ (both s₂ (both s₃ (both s₄ x))))) (sym (both_end s₅)))

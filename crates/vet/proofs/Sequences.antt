@@ -4,17 +4,17 @@ use mathlib.Core.Path.{◌≡◌, refl, sym, ap, subst, ◌∙◌}
 use mathlib.Core.List.{List}
 use native.Mathlib.Omega.{arith}
 use lib.ListN.{length}
-use Rattle.rules.specs.declared.ArgumentPosition.{ArgumentPosition}
+use Rattle.std.specs.Prelude.{Ok, Err}
+use Rattle.rules.specs.declared.refusal.Fault.{Fault}
 use Rattle.rules.specs.Text.{Sequence, innermost, outer, levels_at}
 use Rattle.syntax.specs.Ends.{ClauseAt, EndsClause}
 use Rattle.syntax.specs.declared.ends.ClauseEnd.{ClauseEnd}
 use Rattle.syntax.specs.declared.ends.ClauseEnd.TheVariants.{Last, Another}
 use Rattle.vet_rules.specs.Ways.{fails, way_of}
 use Rattle.vet_rules.specs.Worst.{most_piece}
-use Rattle.vet_rules.specs.Vet.{declined, counted, answer_by, run_answer}
+use Rattle.vet_rules.specs.Vet.{vetted_as, answer_by, run_answer}
 use Rattle.vet.specs.Counting.{VettableAt, way_at, Onward, AtEnd, Walked, SequenceIs}
 use Rattle.vet.specs.declared.counting.Counted.{Counted}
-use Rattle.vet.specs.declared.counting.Counted.TheVariants.{Leads, Fails}
 
 -- from `start` with the argument `first` on, the elements before p are counted: `sum` bytes at the most, and the argument
 -- `next` comes next
@@ -81,9 +81,9 @@ module _ {t kinds : List ℕ} {longest start first p next sum : ℕ} (w : Walkin
   }
 
 -- the whole text, from the first argument on
-module _ (t kinds : List ℕ) (longest : ℕ) (r : Counted) (s : SequenceIs t kinds longest 0 0 r) where
-  pub answer_fails : {code position : ℕ} → r ≡ Fails code position → declined code position ≡ run_answer t kinds longest
-  answer_fails e = sym (ap answer_by (subst (SequenceIs t kinds longest 0 0) e s))
+module _ (t kinds : List ℕ) (longest : ℕ) where
+  pub answer_fails : (f : Fault) → SequenceIs t kinds longest 0 0 (Err f) → vetted_as (Err f) ≡ run_answer t kinds longest
+  answer_fails f e = sym (ap answer_by e)
 
-  pub answer_leads : {next : ArgumentPosition} {size : ℕ} {end : ClauseEnd} → r ≡ Leads next size end → counted size ≡ run_answer t kinds longest
-  answer_leads e = sym (ap answer_by (subst (SequenceIs t kinds longest 0 0) e s).way)
+  pub answer_leads : (c : Counted) → SequenceIs t kinds longest 0 0 (Ok c) → vetted_as (Ok c.reach.size) ≡ run_answer t kinds longest
+  answer_leads c w = sym (ap answer_by w.way)

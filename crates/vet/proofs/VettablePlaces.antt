@@ -14,7 +14,7 @@ use Rattle.rules.specs.declared.Code.TheVariants.{Writes, Jump, Escape, Opens, U
 use Rattle.rules.specs.declared.Directive.{Directive}
 use Rattle.rules.specs.declared.Form.{Form}
 use Rattle.rules.specs.declared.Item.TheVariants.{Literal, Written}
-use Rattle.rules.specs.declared.Verdict.TheVariants.{Accepted}
+use Rattle.rules.specs.Verdict.{Accepted}
 use Rattle.rules.proofs.AcceptedAt.{AcceptedAt, accepted_literal, accepted_known, accepted_written}
 use Rattle.rules.proofs.Bases.{code_right}
 use Rattle.rules.proofs.Tests.{both_true, not_both_ways}

@@ -1,9 +1,11 @@
 -- What the parts of a count promise, in terms of the ways through the sequences that are open at a place of the text.
 -- Assumes nothing: these are definitions.
-use Rattle.std.specs.Prelude.{ℕ, ◌+◌, ◌*◌, ◌-◌, ◌≤◌, ◌<◌, ◌≡◌, true, false, List, length}
+use Rattle.std.specs.Prelude.{ℕ, ◌+◌, ◌*◌, ◌-◌, ◌≤◌, ◌<◌, ◌≡◌, true, false, List, Result, Ok, Err, length}
+use Rattle.rules.specs.Refusals.{code_of}
 use Rattle.rules.specs.Text.{Block, tokens_at, verdict_at, end, innermost, outer, as_clauses, levels_at}
 use Rattle.rules.specs.declared.Directive.{Directive}
-use Rattle.rules.specs.declared.Verdict.TheVariants.{Accepted}
+use Rattle.rules.specs.declared.refusal.Fault.{Fault}
+use Rattle.rules.specs.Verdict.{Accepted}
 use Rattle.syntax.specs.Ends.{AfterBlock, EndsClause}
 use Rattle.syntax.specs.declared.ends.ClauseEnd.{ClauseEnd}
 use Rattle.syntax.specs.declared.ends.ClauseEnd.TheVariants.{Last, Another}
@@ -11,15 +13,11 @@ use Rattle.vet_rules.specs.Plain.{plain_from}
 use Rattle.vet_rules.specs.Ways.{Way, leads, fails, with_none, has_fallback, on_ends, on_ways, way_of, ways_of}
 use Rattle.vet_rules.specs.declared.Ends.{Ends}
 use Rattle.vet_rules.specs.declared.Ends.TheVariants.{Nowhere, Equal, Unequal}
-use Rattle.vet_rules.specs.declared.Turn.{Turn}
-use Rattle.vet_rules.specs.declared.Turn.TheVariants.{Goes, Stops}
 use Rattle.vet_rules.specs.Worst.{most_piece}
-use Rattle.vet.specs.declared.counting.Element.{Element}
-use Rattle.vet.specs.declared.counting.Element.TheVariants.{Leads as element_leads, Fails as element_fails, Ends as element_ends}
 use Rattle.vet.specs.declared.counting.Clauses.{Clauses}
-use Rattle.vet.specs.declared.counting.Clauses.TheVariants.{End, Fail}
 use Rattle.vet.specs.declared.counting.Counted.{Counted}
-use Rattle.vet.specs.declared.counting.Counted.TheVariants.{Leads, Fails}
+use Rattle.vet.specs.declared.counting.Element.{Element}
+use Rattle.vet.specs.declared.counting.Element.TheVariants.{Leads, Ends as ElementEnds}
 
 -- Reading on from p meets no fault inside some open blocks, and nothing that a vet does not take
 pub record VettableAt (t : List ℕ) (p : ℕ) : Type 0 where
@@ -28,16 +26,6 @@ pub record VettableAt (t : List ℕ) (p : ℕ) : Type 0 where
   pub plain : plain_from true (tokens_at t p) ≡ Accepted
   pub inside : p ≤ length t
   pub short : length t ≤ 4096
-
--- what a directive at p does, after which the text goes on at `place`, and what a block there comes to
-abbrev pub element_by : Turn → ℕ → ℕ → Element
-element_by (Goes next size) p place = element_leads next size place
-element_by (Stops code) p place = element_fails code p
-
-abbrev pub closed_by : Ends → ℕ → ℕ → Element
-closed_by Nowhere p place = element_fails 11 p
-closed_by (Equal next size) p place = element_leads next size place
-closed_by Unequal p place = element_fails 11 p
 
 -- what the ways through a block come to: an argument that there is, and no more bytes than that
 abbrev pub EndsIn : ℕ → ℕ → Ends → Type 0
@@ -81,10 +69,13 @@ module _ (t kinds : List ℕ) (longest : ℕ) where
     pub ahead : p < q
     pub reaches : Reaches p q after size
 
-  abbrev pub ElementIs : ℕ → ℕ → Element → Type 0
-  ElementIs p next (element_leads after size q) = Onward p next after.0 size q
-  ElementIs p next (element_fails code position) = (sum : ℕ) → way_at p next sum ≡ fails code position
-  ElementIs p next (element_ends e) = AtEnd t p e
+  abbrev pub LeadsTo : ℕ → ℕ → Element → Type 0
+  LeadsTo p next (Leads r q) = Onward p next r.next.0 r.size q
+  LeadsTo p next (ElementEnds e) = AtEnd t p e
+
+  abbrev pub ElementIs : ℕ → ℕ → Result Element Fault → Type 0
+  ElementIs p next (Ok e) = LeadsTo p next e
+  ElementIs p next (Err f) = (sum : ℕ) → way_at p next sum ≡ fails (code_of f.refusal) f.position
 
   -- the sequence at start from the argument `first`, to its end
   pub record Walked (start first next size : ℕ) (e : ClauseEnd) : Type 0 where
@@ -95,9 +86,9 @@ module _ (t kinds : List ℕ) (longest : ℕ) where
     pub small : size ≤ most_piece * (stop_of e - start)
     pub vettable : VettableAt t (after_of e)
 
-  abbrev pub SequenceIs : ℕ → ℕ → Counted → Type 0
-  SequenceIs start first (Leads next size e) = Walked start first next.0 size e
-  SequenceIs start first (Fails code position) = way_at start first 0 ≡ fails code position
+  abbrev pub SequenceIs : ℕ → ℕ → Result Counted Fault → Type 0
+  SequenceIs start first (Ok c) = Walked start first c.reach.next.0 c.reach.size c.end
+  SequenceIs start first (Err f) = way_at start first 0 ≡ fails (code_of f.refusal) f.position
 
   -- the clauses of the conditional d, whose inside is at its next place, from the argument `start`: where their ways end,
   -- the one by which none runs among them
@@ -112,7 +103,7 @@ module _ (t kinds : List ℕ) (longest : ℕ) where
     pub within : EndsIn (length kinds) (most_piece * (q - d.after)) e
     pub vettable : VettableAt t q
 
-  abbrev pub ClausesAre : Directive → ℕ → Clauses → Type 0
-  ClausesAre d start (End e q) = Through d start e q
-  ClausesAre d start (Fail code position) =
-      (p : ℕ) (on : ℕ → ℕ → Way) → clauses_way d start p on ≡ fails code position
+  abbrev pub ClausesAre : Directive → ℕ → Result Clauses Fault → Type 0
+  ClausesAre d start (Ok c) = Through d start c.ends c.place
+  ClausesAre d start (Err f) =
+      (p : ℕ) (on : ℕ → ℕ → Way) → clauses_way d start p on ≡ fails (code_of f.refusal) f.position

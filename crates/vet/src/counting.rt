@@ -3,123 +3,71 @@
 ghost use Rattle.std.specs.Prelude.{◌≡◌, ◌≤◌, length};
 ghost use Rattle.rules.specs.Directive.{item_at};
 ghost use Rattle.rules.specs.Text.{text_verdict};
+ghost use Rattle.rules.specs.Verdict.{Accepted};
 ghost use Rattle.rules.specs.declared.Item.TheVariants.{Written};
-ghost use Rattle.rules.specs.declared.Verdict.TheVariants.{Accepted};
 ghost use Rattle.vet_rules.specs.Plain.{Opener, vettable_verdict};
-ghost use Rattle.vet_rules.specs.Vet.{Asked, run_answer};
-ghost use Rattle.vet.specs.Counting.{VettableAt, element_by, closed_by, ElementIs, SequenceIs, ClausesAre};
+ghost use Rattle.vet_rules.specs.Vet.{run_answer, vetted_as};
+ghost use Rattle.vet.specs.Counting.{VettableAt, ElementIs, SequenceIs, ClausesAre};
 
 use crate::ends::{meet, with_none};
 use reader::directive::item_at;
-use rules::codes::NOT_PLAIN;
+use rules::refusal::{Fault, Refusal};
 use rules::{ArgumentPosition, Code, Directive, Item};
 use syntax::ends::ClauseEnd;
-use vet_rules::{Ends, Turn, Vetted};
+use vet_rules::{Ends, Reach};
+use vet_turns::question::Question;
 use vet_turns::starts::start_of;
 use vet_turns::turns::turn_form;
 
-// One element of a sequence: it leads to the argument `next` with at most `size` bytes, and the text goes on at `place`;
-// it fails; or the sequence ends here.
+// One element of a sequence: it leads so far, and the text goes on at `place`; or the sequence ends here.
 #[derive(Clone, Copy)]
 pub enum Element {
-    Leads {
-        next: ArgumentPosition,
-        size: usize,
-        place: usize,
-    },
-    Fails {
-        code: u32,
-        position: usize,
-    },
+    Leads { reach: Reach, place: usize },
     Ends(ClauseEnd),
 }
 
-// A whole sequence: it leads to the argument `next` with at most `size` bytes, and so it ends; or it fails.
+// A whole sequence: it leads so far, and so it ends.
 #[derive(Clone, Copy)]
-pub enum Counted {
-    Leads {
-        next: ArgumentPosition,
-        size: usize,
-        end: ClauseEnd,
-    },
-    Fails {
-        code: u32,
-        position: usize,
-    },
+pub struct Counted {
+    pub reach: Reach,
+    pub end: ClauseEnd,
 }
 
-// The clauses of a block: their ways end so, and the text goes on at `place` after it; or one fails.
+// The clauses of a block: their ways end so, and the text goes on at `place` after it.
 #[derive(Clone, Copy)]
-pub enum Clauses {
-    End { ends: Ends, place: usize },
-    Fail { code: u32, position: usize },
-}
-
-// What a directive at p does, after which the text goes on at `place`.
-fn element_by(turn: Turn, p: usize, place: usize) -> Element
-    ensures { result ≡ element_by turn p place }
-{
-    match turn {
-        Turn::Goes { next, size } => Element::Leads { next, size, place },
-        Turn::Stops(code) => Element::Fails { code, position: p },
-    }
-}
-
-// The block at p is closed before `place`, and its ways end so.
-fn close_block(ends: Ends, p: usize, place: usize) -> Element
-    ensures { result ≡ closed_by ends p place }
-{
-    match ends {
-        Ends::Equal { next, size } => Element::Leads { next, size, place },
-        _ => Element::Fails {
-            code: NOT_PLAIN,
-            position: p,
-        },
-    }
+pub struct Clauses {
+    pub ends: Ends,
+    pub place: usize,
 }
 
 // The clauses of the conditional d, each from the argument `start`.
 #[cycle(counts)]
 fn count_clauses(
     format: &[u8],
-    kinds: &[u8],
-    longest: usize,
+    question: &Question,
     d: Directive,
     start: ArgumentPosition,
-) -> Clauses
-    requires asked { Asked kinds.now longest }
+) -> Result<Clauses, Fault>
     requires vettable_at { VettableAt format.now d.after }
-    requires start_in_bounds { start.0 ≤ length kinds.now }
-    ensures { ClausesAre format.now kinds.now longest d start.0 result }
+    requires start_in_bounds { start.0 ≤ length question.now.kinds.now }
+    ensures { ClausesAre format.now question.now.kinds.now question.now.longest d start.0 result }
 {
     let mut z = d.after;
     let mut fallback = false;
     let mut ends = Ends::Nowhere;
     loop {
-        let counted = count_sequence(format, kinds, longest, z, start);
-        match counted {
-            Counted::Fails { code, position } => return Clauses::Fail { code, position },
-            Counted::Leads { next, size, end } => {
-                ends = meet(ends, next, size);
-                match end {
-                    ClauseEnd::Another {
-                        position: _,
-                        colon,
-                        after: q,
-                    } => {
-                        fallback = colon;
-                        z = q;
-                    }
-                    ClauseEnd::Last {
-                        position: _,
-                        after: q,
-                    } => {
-                        return Clauses::End {
-                            ends: with_none(d, fallback, start, ends),
-                            place: q,
-                        };
-                    }
-                }
+        let counted = count_sequence(format, question, z, start)?;
+        ends = meet(ends, counted.reach);
+        match counted.end {
+            ClauseEnd::Another { colon, after, .. } => {
+                fallback = colon;
+                z = after;
+            }
+            ClauseEnd::Last { after, .. } => {
+                return Ok(Clauses {
+                    ends: with_none(d, fallback, start, ends),
+                    place: after,
+                });
             }
         }
     }
@@ -129,32 +77,34 @@ fn count_clauses(
 #[cycle(counts)]
 fn count_block(
     format: &[u8],
-    kinds: &[u8],
-    longest: usize,
+    question: &Question,
     p: usize,
     d: Directive,
     next: ArgumentPosition,
-) -> Element
-    requires asked { Asked kinds.now longest }
+) -> Result<Element, Fault>
     requires vettable_at { VettableAt format.now p }
     requires p_value { item_at format.now p ≡ Written d }
     requires opener { Opener d }
-    requires next_in_bounds { next.0 ≤ length kinds.now }
-    ensures { ElementIs format.now kinds.now longest p next.0 result }
+    requires next_in_bounds { next.0 ≤ length question.now.kinds.now }
+    ensures { ElementIs format.now question.now.kinds.now question.now.longest p next.0 result }
 {
-    let turn = start_of(d, kinds, next);
-    match turn {
-        Turn::Stops(code) => Element::Fails { code, position: p },
-        Turn::Goes {
-            next: start,
-            size: _,
-        } => {
-            let clauses = count_clauses(format, kinds, longest, d, start);
-            match clauses {
-                Clauses::Fail { code, position } => Element::Fails { code, position },
-                Clauses::End { ends, place } => close_block(ends, p, place),
-            }
-        }
+    let start = match start_of(question.kinds, d, next) {
+        Ok(reach) => reach.next,
+        Err(refusal) => return Err(Fault {
+            refusal,
+            position: p,
+        }),
+    };
+    let Clauses { ends, place } = count_clauses(format, question, d, start)?;
+    match ends {
+        Ends::Equal { next, size } => Ok(Element::Leads {
+            reach: Reach { next, size },
+            place,
+        }),
+        _ => Err(Fault {
+            refusal: Refusal::NotPlain,
+            position: p,
+        }),
     }
 }
 
@@ -163,47 +113,45 @@ fn count_block(
 #[cycle(counts)]
 fn count_element(
     format: &[u8],
-    kinds: &[u8],
-    longest: usize,
+    question: &Question,
     p: usize,
     next: ArgumentPosition,
-) -> Element
-    requires asked { Asked kinds.now longest }
+) -> Result<Element, Fault>
     requires vettable_at { VettableAt format.now p }
-    requires next_in_bounds { next.0 ≤ length kinds.now }
-    ensures { ElementIs format.now kinds.now longest p next.0 result }
+    requires next_in_bounds { next.0 ≤ length question.now.kinds.now }
+    ensures { ElementIs format.now question.now.kinds.now question.now.longest p next.0 result }
 {
-    let item = item_at(format, p);
-    match item {
-        Item::Literal(_) => Element::Leads {
-            next,
-            size: 1,
+    match item_at(format, p) {
+        Item::Literal(_) => Ok(Element::Leads {
+            reach: Reach { next, size: 1 },
             place: p + 1,
+        }),
+        Item::Written(d) => match d.code {
+            Code::Writes(form) => match turn_form(question, d, form, next) {
+                Ok(reach) => Ok(Element::Leads {
+                    reach,
+                    place: d.after,
+                }),
+                Err(refusal) => Err(Fault {
+                    refusal,
+                    position: p,
+                }),
+            },
+            Code::Opens(_) => count_block(format, question, p, d, next),
+            Code::Separator => Ok(Element::Ends(ClauseEnd::Another {
+                position: p,
+                colon: d.colon,
+                after: d.after,
+            })),
+            _ => Ok(Element::Ends(ClauseEnd::Last {
+                position: p,
+                after: d.after,
+            })),
         },
-        Item::Written(d) => {
-            let code = d.code;
-            match code {
-                Code::Writes(form) => element_by(
-                    turn_form(d, form, kinds, next, longest),
-                    p,
-                    d.after,
-                ),
-                Code::Opens(_) => count_block(format, kinds, longest, p, d, next),
-                Code::Separator => Element::Ends(ClauseEnd::Another {
-                    position: p,
-                    colon: d.colon,
-                    after: d.after,
-                }),
-                _ => Element::Ends(ClauseEnd::Last {
-                    position: p,
-                    after: d.after,
-                }),
-            }
-        }
-        _ => Element::Ends(ClauseEnd::Last {
+        _ => Ok(Element::Ends(ClauseEnd::Last {
             position: p,
             after: p,
-        }),
+        })),
     }
 }
 
@@ -211,65 +159,40 @@ fn count_element(
 #[cycle(counts)]
 fn count_sequence(
     format: &[u8],
-    kinds: &[u8],
-    longest: usize,
+    question: &Question,
     start: usize,
     first: ArgumentPosition,
-) -> Counted
-    requires asked { Asked kinds.now longest }
+) -> Result<Counted, Fault>
     requires vettable_at { VettableAt format.now start }
-    requires first_in_bounds { first.0 ≤ length kinds.now }
-    ensures { SequenceIs format.now kinds.now longest start first.0 result }
+    requires first_in_bounds { first.0 ≤ length question.now.kinds.now }
+    ensures { SequenceIs format.now question.now.kinds.now question.now.longest start first.0 result }
 {
     let mut p = start;
     let mut next = first;
     let mut sum: usize = 0;
     loop {
-        let e = count_element(format, kinds, longest, p, next);
-        match e {
-            Element::Fails { code, position } => return Counted::Fails { code, position },
-            Element::Ends(end) => {
-                return Counted::Leads {
-                    next,
-                    size: sum,
-                    end,
-                };
-            }
-            Element::Leads {
-                next: after,
-                size,
-                place,
-            } => {
-                next = after;
-                sum += size;
+        match count_element(format, question, p, next)? {
+            Element::Leads { reach, place } => {
+                next = reach.next;
+                sum += reach.size;
                 p = place;
+            }
+            Element::Ends(end) => {
+                return Ok(Counted {
+                    reach: Reach { next, size: sum },
+                    end,
+                });
             }
         }
     }
 }
 
 // The whole format, from the first argument on.
-pub fn count_format(format: &[u8], kinds: &[u8], longest: usize) -> Vetted
-    requires asked { Asked kinds.now longest }
+pub fn count_format(format: &[u8], question: &Question) -> Result<usize, Fault>
     requires format_value { text_verdict format.now ≡ Accepted }
     requires format_value_2 { vettable_verdict format.now ≡ Accepted }
-    ensures { result ≡ run_answer format.now kinds.now longest }
+    ensures { vetted_as result ≡ run_answer format.now question.now.kinds.now question.now.longest }
 {
-    let counted = count_sequence(format, kinds, longest, 0, ArgumentPosition(0));
-    match counted {
-        Counted::Fails { code, position } => Vetted {
-            code,
-            position,
-            count: 0,
-        },
-        Counted::Leads {
-            next: _,
-            size,
-            end: _,
-        } => Vetted {
-            code: 0,
-            position: 0,
-            count: size,
-        },
-    }
+    let counted = count_sequence(format, question, 0, ArgumentPosition(0))?;
+    Ok(counted.reach.size)
 }

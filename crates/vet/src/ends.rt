@@ -3,25 +3,23 @@ ghost use Rattle.std.specs.Prelude.{◌≡◌, ◌≤◌};
 ghost use Rattle.vet_rules.specs.Ways.{meeting, with_none};
 
 use rules::{ArgumentPosition, Directive};
-use vet_rules::Ends;
-use vet_turns::lengths::larger;
+use vet_rules::{Ends, Reach};
 
-// One way more, which ends at the argument `next` with `size` bytes.
-pub fn meet(ends: Ends, next: ArgumentPosition, size: usize) -> Ends
-    ensures { result ≡ meeting ends next.0 size }
+// One way more.
+#[tactic(auto, using(vet_rules::proofs::Padding::larger_max), unfolding(vet_rules::specs::Ways::meeting))]
+pub fn meet(ends: Ends, way: Reach) -> Ends
+    ensures { result ≡ meeting ends way.next.0 way.size }
 {
     match ends {
-        Ends::Nowhere => Ends::Equal { next, size },
-        Ends::Equal { next: n, size: s } => {
-            if n.0 == next.0 {
-                return Ends::Equal {
-                    next: n,
-                    size: larger(s, size),
-                };
-            }
-            Ends::Unequal
-        }
-        Ends::Unequal => Ends::Unequal,
+        Ends::Nowhere => Ends::Equal {
+            next: way.next,
+            size: way.size,
+        },
+        Ends::Equal { next, size } if next == way.next => Ends::Equal {
+            next,
+            size: size.max(way.size),
+        },
+        _ => Ends::Unequal,
     }
 }
 
@@ -34,10 +32,22 @@ pub fn with_none(d: Directive, fallback: bool, start: ArgumentPosition, ends: En
         return ends;
     }
     if d.atsign {
-        return meet(ends, ArgumentPosition(start.0 + 1), 0);
+        return meet(
+            ends,
+            Reach {
+                next: ArgumentPosition(start.0 + 1),
+                size: 0,
+            },
+        );
     }
     if fallback {
         return ends;
     }
-    meet(ends, start, 0)
+    meet(
+        ends,
+        Reach {
+            next: start,
+            size: 0,
+        },
+    )
 }

@@ -4,16 +4,14 @@ use mathlib.Core.Path.{◌≡◌}
 use mathlib.Core.List.{List}
 use native.Mathlib.Omega.{arith}
 use Rattle.rules.specs.Text.{Sequence, end, acts, escapes, iterates, chooses, Clauses, none, clause, deepest, text_verdict, sequence_of}
-use Rattle.rules.specs.declared.Verdict.TheVariants.{Accepted}
+use Rattle.rules.specs.Verdict.{Accepted}
 use Rattle.rules.proofs.WellFormed.{WellFormed, WellFormedClauses, sequence_formed}
 use Rattle.vet_rules.specs.Demand.{OpensAt}
 use Rattle.vet_rules.specs.Plain.{vettable_verdict}
-use Rattle.vet_rules.specs.Turns.{turn_of}
+use Rattle.vet_rules.specs.Turns.{turn_of, Turn, Goes, Stops}
 use Rattle.vet_rules.specs.Ways.{Way, leads, fails, Ways, ending, failing, on_turn, on_way, on_ends, on_ways, meeting, with_none, has_fallback, start_of, way_of, ways_of}
 use Rattle.vet_rules.specs.declared.Ends.{Ends}
 use Rattle.vet_rules.specs.declared.Ends.TheVariants.{Nowhere, Equal, Unequal}
-use Rattle.vet_rules.specs.declared.Turn.{Turn}
-use Rattle.vet_rules.specs.declared.Turn.TheVariants.{Goes, Stops}
 use Rattle.vet_rules.proofs.TurnLaws.{Low, item_low}
 use Rattle.vet_rules.proofs.Vettable.{Vettable, VettableClauses, text_vettable}
 

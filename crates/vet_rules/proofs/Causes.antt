@@ -7,11 +7,10 @@ use mathlib.Core.List.{List}
 use native.Mathlib.Omega.{arith}
 use lib.ListN.{length}
 use Rattle.rules.specs.Text.{text_verdict, sequence_of}
-use Rattle.rules.specs.declared.Verdict.TheVariants.{Accepted, Refused}
+use Rattle.rules.specs.Verdict.{Accepted, Refused}
 use Rattle.rules.proofs.Tests.{not_both_ways}
-use Rattle.vet_rules.specs.declared.Vetted.{Vetted}
+use Rattle.vet_rules.specs.Vet.{Vetted, may_ask, declined, counted, answer_by, vet_of}
 use Rattle.vet_rules.specs.Plain.{vettable_verdict}
-use Rattle.vet_rules.specs.Vet.{may_ask, declined, counted, answer_by, vet_of}
 use Rattle.vet_rules.specs.Ways.{Way, leads, fails, way_of}
 use Rattle.vet_rules.specs.Demand.{OpensAt, Causes}
 use Rattle.vet_rules.proofs.Blocks.{Blocked, text_blocked}

@@ -10,8 +10,7 @@ use lib.ListN.{length}
 use borrow.Author.Tests.{leb-true}
 use Rattle.rules.specs.Choice.{both}
 use Rattle.rules.specs.Text.{Token, provided, text_verdict}
-use Rattle.rules.specs.declared.Verdict.{Verdict}
-use Rattle.rules.specs.declared.Verdict.TheVariants.{Accepted, Refused}
+use Rattle.rules.specs.Verdict.{Verdict, Accepted, Refused}
 use Rattle.rules.proofs.Faults.{TextFault, text_fault}
 use Rattle.rules.proofs.Tests.{both_true}
 use Rattle.vet_rules.specs.Plain.{plain_item, plain_from}

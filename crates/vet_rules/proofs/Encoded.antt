@@ -9,7 +9,7 @@ use native.Mathlib.Omega.{arith}
 use lib.ListN.{length, length-append, get_or, drop, get_or-append}
 use lib.Seq.{get_or-append-add, drop_at}
 use Rattle.rules.specs.Table.{Entry, entry_at, entry_place, entry_count, argument_count, pool_length, pool_of, is_right, value_of, value_at, values_from, view_of, table_verdict}
-use Rattle.rules.specs.declared.Verdict.TheVariants.{Accepted}
+use Rattle.rules.specs.Verdict.{Accepted}
 use Rattle.rules.proofs.Bytes.{Bytes, bytes_append, bytes_at}
 use Rattle.rules.proofs.TableLaws.{sound_accepted}
 use Rattle.vet_rules.specs.Encode.{entry_bytes, entries_from, header_bytes, table_of, values_held}

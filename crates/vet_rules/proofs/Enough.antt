@@ -9,7 +9,7 @@ use Rattle.rules.specs.Flow.{given_text, finish_of}
 use Rattle.rules.specs.Run.{done_with, run}
 use Rattle.rules.specs.Table.{View, view_of}
 use Rattle.rules.specs.Text.{end, deepest, sequence_of, text_verdict}
-use Rattle.rules.specs.declared.Verdict.TheVariants.{Accepted}
+use Rattle.rules.specs.Verdict.{Accepted}
 use Rattle.rules.proofs.FlowLaws.{stretch_text, stretch_finish, finished, fit_all}
 use Rattle.rules.proofs.RunLaws.{run_done}
 use Rattle.vet_rules.specs.Demand.{Suits, run_of, Enough}

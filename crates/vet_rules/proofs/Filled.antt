@@ -20,11 +20,10 @@ use Rattle.rules.specs.declared.Directive.{Directive}
 use Rattle.rules.specs.declared.Form.{Form}
 use Rattle.rules.specs.declared.Origin.TheVariants.{NextOrBack}
 use Rattle.rules.specs.declared.Settings.{Settings}
-use Rattle.vet_rules.specs.declared.Turn.TheVariants.{Goes, Stops}
-use Rattle.vet_rules.specs.declared.Vetted.{Vetted}
+use Rattle.vet_rules.specs.Turns.{Goes, Stops, argument, kind_in, turn_by, turn_of}
+use Rattle.vet_rules.specs.Vet.{Vetted}
 use Rattle.vet_rules.specs.Use.{use_of}
 use Rattle.vet_rules.specs.Worst.{worst}
-use Rattle.vet_rules.specs.Turns.{argument, kind_in, turn_by, turn_of}
 use Rattle.vet_rules.proofs.PlainVet.{on_turn, vet_from}
 use Rattle.vet_rules.proofs.Choices.{marks, an_entry, Chosen, any}
 use Rattle.vet_rules.proofs.Forms.{piece_reached, again_fills}

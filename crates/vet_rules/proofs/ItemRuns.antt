@@ -15,11 +15,10 @@ use Rattle.rules.specs.Table.{Value, View}
 use Rattle.rules.specs.Text.{Sequence, acts}
 use Rattle.rules.specs.declared.Item.{Item}
 use Rattle.rules.proofs.RunLaws.{begin_yes, run_acts}
-use Rattle.vet_rules.specs.Turns.{argument, kind_in, turn_by, turn_of}
+use Rattle.vet_rules.specs.Turns.{argument, kind_in, turn_by, turn_of, Goes, Stops}
 use Rattle.vet_rules.specs.Use.{in_hand, use_of}
 use Rattle.vet_rules.specs.Ways.{Way, on_turn, way_of}
 use Rattle.vet_rules.specs.Worst.{worst}
-use Rattle.vet_rules.specs.declared.Turn.TheVariants.{Goes, Stops}
 use Rattle.vet_rules.proofs.Forms.{piece_bound}
 use Rattle.vet_rules.proofs.Meetings.{Led, led_on}
 use Rattle.vet_rules.proofs.Ordinary.{Ordinary}

@@ -7,7 +7,7 @@ use lib.ListN.{length}
 use Rattle.rules.proofs.TextLaws.{tokens_end}
 use Rattle.rules.specs.Text.{tokens_at}
 use Rattle.rules.specs.declared.Item.{Item}
-use Rattle.rules.specs.declared.Verdict.TheVariants.{Accepted, Refused}
+use Rattle.rules.specs.Verdict.{Accepted, Refused}
 use Rattle.vet_rules.specs.Plain.{plain_item, plain_from}
 
 -- item x stands at p, and the text goes on at q

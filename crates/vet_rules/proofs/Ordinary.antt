@@ -19,8 +19,7 @@ use Rattle.rules.specs.declared.Directive.{Directive}
 use Rattle.rules.specs.declared.Form.{Form}
 use Rattle.rules.specs.declared.Item.{Item}
 use Rattle.rules.specs.declared.Item.TheVariants.{End, Literal, Written, BadNumber, Unfinished}
-use Rattle.rules.specs.declared.Verdict.{Verdict}
-use Rattle.rules.specs.declared.Verdict.TheVariants.{Accepted, Refused}
+use Rattle.rules.specs.Verdict.{Verdict, Accepted, Refused}
 use Rattle.rules.proofs.Tests.{both_true, not_both_ways}
 use Rattle.vet_rules.specs.Plain.{plain_code, none_next, plain_item, plain_from, plain_verdict}
 use Rattle.vet_rules.proofs.Items.{Read, tokens_read, tokens_count}

@@ -1,11 +1,14 @@
 -- The greatest padded length of a span of lengths is a bound, and is reached. Assumes nothing.
-use Prim.Native.Nat.{ℕ, suc, ◌+◌, ◌*◌, ◌-◌, ◌/◌, ◌≤◌, ◌<◌}
+use Prim.Native.Nat.{ℕ, suc, ◌+◌, ◌*◌, ◌-◌, ◌/◌, ◌%◌, ◌≤◌, ◌<◌}
 use mathlib.Core.Path.{◌≡◌, sym, ap, ◌∙◌}
 use mathlib.Core.Logic.{◌⊎◌, inl, inr}
 use native.Mathlib.Nat.{div-mul-le_self, lt-div-mul-add, mul-le-mul_right, div-lt_iff_lt-mul, suc-mul, div-eq_of_eq-mul_left}
 use native.Mathlib.Decide.{dec_lt}
 use native.Mathlib.Omega.{arith}
 use borrow.Author.Tests.{lt-ltb, le-ltb, le-leb, lt-leb}
+use Rattle.std.proofs.Math.Nat.{mod-eq_of_lt, mod_self}
+use Rattle.std.specs.Int.{next_multiple_of}
+use Rattle.std.specs.Prelude.{max}
 use Rattle.rules.specs.Piece.{times_padded}
 use Rattle.vet_rules.specs.Worst.{larger, round_up, padded_size, top_of, greatest}
 
@@ -18,6 +21,10 @@ pub larger_right : (a b : ℕ) → b ≤ larger a b
 unfolding larger
 larger_right a b =
     elim (dec_lt b a) [ yes h ↦ rw (lt-leb a b h) (omega arith) | no h ↦ rw (le-leb a b (omega arith)) (omega arith) ]
+
+pub larger_max : (a b : ℕ) → max a b ≡ larger a b
+unfolding larger
+larger_max a b = elim (dec_lt b a) [ yes h ↦ rw (lt-leb a b h) (omega arith) | no h ↦ rw (le-leb a b (omega arith)) (omega arith) ]
 
 -- the larger is one of the two
 pub larger_one : (a b : ℕ) → (larger a b ≡ a) ⊎ (larger a b ≡ b)
@@ -48,6 +55,36 @@ module _ (p : ℕ) (h : 1 ≤ p) where
       let k = (x + (p - 1)) / p in
       let e : suc (k * p) + (p - 1) ≡ suc k * p = rw suc-mul (omega arith) in
       ap (λ (y : ℕ). y * p) (div-eq_of_eq-mul_left h e) ∙ suc-mul k p
+
+  -- no two multiples of p are as near to x
+  near_below : (x j k : ℕ) → x ≤ k * p → j * p ≤ x + (p - 1) → j ≤ k
+  near_below x j k a b =
+      elim (dec_lt k j) [
+        | yes t ↦ absurd (let m : suc k * p ≤ j * p = mul-le-mul_right p t in omega (arith, suc-mul k p))
+        | no t ↦ omega arith
+      ]
+
+  multiple_is : (x j : ℕ) → x ≤ j * p → j * p ≤ x + (p - 1) → j * p ≡ round_up p x
+  unfolding times_padded
+  multiple_is x j a b =
+      let k = (x + (p - 1)) / p in
+      let same : j ≡ k = omega (arith, near_below x j k (up_least x) b, near_below x k j a (up_near x)) in
+      ap (λ (y : ℕ). y * p) same
+
+  pub next_is : (x : ℕ) → next_multiple_of x p ≡ round_up p x
+  next_is x =
+      elim (dec_lt 0 (x % p)) [
+        | yes t ↦
+            let small : (p - x % p) % p ≡ p - x % p = mod-eq_of_lt (omega arith) in
+            let is : x + (p - x % p) % p ≡ suc (x / p) * p = omega (arith, small, suc-mul (x / p) p) in
+            is ∙ multiple_is x (suc (x / p)) (omega (arith, is)) (omega (arith, is, small))
+        | no t ↦
+            let none : x % p ≡ 0 = omega arith in
+            let whole : p - x % p ≡ p = omega arith in
+            let small : (p - x % p) % p ≡ 0 = ap (λ (y : ℕ). y % p) whole ∙ mod_self p in
+            let is : x + (p - x % p) % p ≡ x / p * p = omega (arith, small) in
+            is ∙ multiple_is x (x / p) (omega (arith, is)) (omega (arith, is, small))
+      ]
 
   module _ (w m : ℕ) where
     pub pad_bound : (lo hi n : ℕ) → lo ≤ n → n ≤ hi → padded_size w p m n ≤ greatest w p m lo hi

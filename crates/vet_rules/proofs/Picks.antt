@@ -15,17 +15,13 @@ use Rattle.rules.specs.Run.{Flow, clause_at, is_false, on_settled, with_settings
 use Rattle.rules.specs.Table.{Value, boolean, integer, character, string, list, View}
 use Rattle.rules.specs.Text.{Sequence, end, Clauses}
 use Rattle.rules.specs.Working.{Context, Settled, settled, unsettled, settings_of}
-use Rattle.rules.specs.declared.Bracket.TheVariants.{Conditional}
-use Rattle.rules.specs.declared.Code.TheVariants.{Opens}
 use Rattle.rules.specs.declared.Directive.{Directive}
-use Rattle.rules.specs.declared.Setting.{Setting}
-use Rattle.rules.specs.declared.Setting.TheVariants.{Absent, Is}
+use Rattle.rules.specs.Setting.{Setting}
+use Rattle.std.specs.Prelude.{None, Some}
 use Rattle.rules.proofs.Rowed.{written_suits, none_settled}
-use Rattle.vet_rules.specs.Turns.{argument, kind_in}
+use Rattle.vet_rules.specs.Turns.{argument, kind_in, Turn, Goes, Stops}
 use Rattle.vet_rules.specs.Use.{in_hand}
 use Rattle.vet_rules.specs.Ways.{has_fallback, on_own, numbered_start, unmodified_places, settled_start, start_of}
-use Rattle.vet_rules.specs.declared.Turn.{Turn}
-use Rattle.vet_rules.specs.declared.Turn.TheVariants.{Goes, Stops}
 use Rattle.vet_rules.proofs.Clauses.{Each, each_within, each_number, each_integer}
 use Rattle.vet_rules.proofs.PlainRun.{value_in}
 use Rattle.vet_rules.proofs.Settling.{settle_plain}
@@ -69,7 +65,7 @@ module _ (kinds : List ℕ) (longest : ℕ) (v : View)
 
   -- with a modifier nothing is worked out
   modified : either d.colon d.atsign ≡ true
-      → flow ≡ pick v p m d cs here (settings_of (Absent ∷ Absent ∷ Absent ∷ Absent ∷ Absent ∷ [])) next on
+      → flow ≡ pick v p m d cs here (settings_of (None ∷ None ∷ None ∷ None ∷ None ∷ [])) next on
   modified e =
       let o = b.opener in
       let s : each_suits (in_row no_places) (in_order d.parameters) ≡ true = rw (o.code, e) at (written_suits d o.written) in
@@ -108,7 +104,7 @@ module _ (kinds : List ℕ) (longest : ℕ) (v : View)
 
     by_number : (i : ℕ) (s : Setting)
         → Begun (λ start. AnyRun start → P (pick_numbered v p m cs here i on s)) (numbered_start kinds longest i s)
-    by_number i Absent =
+    by_number i None =
         by_test Goal (ltb i count) _ (Stops 6)
         (λ t. by_test Goal (eqb (kind_in kinds i) 1) (Goes (argument (i + 1)) 0) (Stops 7)
         (λ k a. rw t (by_value i (value_in v count i) (agree i (ltb-true i count t) ∙ eqb-true (kind_in kinds i) 1 k) a))
@@ -116,8 +112,8 @@ module _ (kinds : List ℕ) (longest : ℕ) (v : View)
         (λ _. tt)
       where
         Goal : Turn → Type 0
-        Goal = Begun (λ start. AnyRun start → P (pick_numbered v p m cs here i on Absent))
-    by_number i (Is n) = λ a. each_number (λ x. P (on x i)) cs a.each (a.number e f) n
+        Goal = Begun (λ start. AnyRun start → P (pick_numbered v p m cs here i on None))
+    by_number i (Some n) = λ a. each_number (λ x. P (on x i)) cs a.each (a.number e f) n
 
     by_settled : (z : Settled) → flow ≡ on_settled p m z (λ s i. pick v p m d cs here s i on)
         → Picks (settled_start kinds longest z)

@@ -12,11 +12,10 @@ use Rattle.rules.specs.Piece.{text_of, kind_of}
 use Rattle.rules.specs.Rows.{accepts}
 use Rattle.rules.specs.Flow.{Flow, refused, put, finish_of}
 use Rattle.rules.specs.Run.{joined}
-use Rattle.vet_rules.specs.declared.Turn.TheVariants.{Goes, Stops}
-use Rattle.vet_rules.specs.declared.Vetted.{Vetted}
+use Rattle.vet_rules.specs.Turns.{Goes, Stops, argument, kind_in, turn_by, turn_of}
+use Rattle.vet_rules.specs.Vet.{Vetted}
 use Rattle.vet_rules.specs.Use.{use_of}
 use Rattle.vet_rules.specs.Worst.{worst}
-use Rattle.vet_rules.specs.Turns.{argument, kind_in, turn_by, turn_of}
 use Rattle.vet_rules.proofs.Ordinary.{AllOrdinary}
 use Rattle.vet_rules.proofs.PlainRun.{value_in, flow_from}
 use Rattle.vet_rules.proofs.PlainVet.{on_turn, vet_from}

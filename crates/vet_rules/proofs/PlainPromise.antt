@@ -8,10 +8,9 @@ use Rattle.rules.specs.Answer.{fit, limit, answer_of}
 use Rattle.rules.specs.Flow.{Flow, given_text, finish_of}
 use Rattle.rules.specs.Table.{View, view_of}
 use Rattle.rules.specs.Text.{Token, tokens_at, levels_at, text_verdict}
-use Rattle.rules.specs.declared.Verdict.TheVariants.{Accepted as accepted_verdict}
+use Rattle.rules.specs.Verdict.{Accepted as accepted_verdict}
 use Rattle.rules.proofs.FlowLaws.{finished, fit_all, fit_not}
-use Rattle.vet_rules.specs.Vet.{Asked}
-use Rattle.vet_rules.specs.declared.Vetted.{Vetted}
+use Rattle.vet_rules.specs.Vet.{Asked, Vetted}
 use Rattle.vet_rules.specs.Demand.{Suits, run_of, Enough, Filled, room_needed, Refused, IsPlain}
 use Rattle.vet_rules.proofs.Before.{plain_before}
 use Rattle.vet_rules.proofs.Filled.{Meets, Filling, plain_filling}

@@ -3,12 +3,9 @@
 use Prim.Native.Nat.{ℕ, ◌+◌}
 use mathlib.Core.List.{List, [], ◌∷◌}
 use Rattle.rules.specs.Text.{Token, tokens_at, text_verdict}
-use Rattle.vet_rules.specs.declared.Turn.{Turn}
-use Rattle.vet_rules.specs.declared.Turn.TheVariants.{Goes, Stops}
-use Rattle.vet_rules.specs.declared.Vetted.{Vetted}
+use Rattle.vet_rules.specs.Turns.{Turn, Goes, Stops, turn_of}
+use Rattle.vet_rules.specs.Vet.{Vetted, asked_verdict, declined, counted, unless_declined}
 use Rattle.vet_rules.specs.Plain.{plain_verdict}
-use Rattle.vet_rules.specs.Turns.{turn_of}
-use Rattle.vet_rules.specs.Vet.{asked_verdict, declined, counted, unless_declined}
 
 abbrev pub on_turn : ℕ → Turn → ℕ → (ℕ → ℕ → Vetted) → Vetted
 on_turn p (Goes next size) sum on = on next.0 (sum + size)

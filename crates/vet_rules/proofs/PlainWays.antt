@@ -10,16 +10,12 @@ use Rattle.rules.specs.declared.Item.{Item}
 use Rattle.rules.specs.declared.Item.TheVariants.{End, Literal, Written, BadNumber, Unfinished}
 use Rattle.rules.specs.declared.Plainness.{Plainness}
 use Rattle.rules.specs.declared.Plainness.TheVariants.{Plain, Conditional as PlainButFor, Never}
-use Rattle.rules.specs.declared.Verdict.{Verdict}
-use Rattle.rules.specs.declared.Verdict.TheVariants.{Accepted, Refused}
+use Rattle.rules.specs.Verdict.{Verdict, Accepted, Refused}
 use Rattle.rules.proofs.Tests.{both_true, true_both}
 use Rattle.vet_rules.specs.Plain.{plain_code, none_next, plain_item, plain_from, plain_verdict, vettable_verdict}
-use Rattle.vet_rules.specs.Turns.{turn_of}
-use Rattle.vet_rules.specs.Vet.{asked_verdict, unless_declined, answer_by, run_answer, vet_of}
+use Rattle.vet_rules.specs.Turns.{turn_of, Turn, Goes, Stops}
+use Rattle.vet_rules.specs.Vet.{asked_verdict, unless_declined, answer_by, run_answer, vet_of, Vetted}
 use Rattle.vet_rules.specs.Ways.{Way, on_turn, way_of}
-use Rattle.vet_rules.specs.declared.Turn.{Turn}
-use Rattle.vet_rules.specs.declared.Turn.TheVariants.{Goes, Stops}
-use Rattle.vet_rules.specs.declared.Vetted.{Vetted}
 use Rattle.vet_rules.proofs.Ordinary.{AllOrdinary, past_test, items_ordinary}
 use Rattle.vet_rules.proofs.PlainRun.{before_ordinary}
 use Rattle.vet_rules.proofs.PlainVet.{on_turn as on_item, vet_from, vet_plain}

@@ -7,9 +7,8 @@ use native.Mathlib.Omega.{arith}
 use lib.ListN.{length}
 use Rattle.rules.specs.Text.{sequence_of, tokens_at}
 use Rattle.vet_rules.specs.Demand.{Enough, Filled, Refused, IsPlain, Promised}
-use Rattle.vet_rules.specs.Vet.{declined, answer_by, run_answer, vet_of}
+use Rattle.vet_rules.specs.Vet.{declined, answer_by, run_answer, vet_of, Vetted}
 use Rattle.vet_rules.specs.Ways.{Way, leads, fails, way_of}
-use Rattle.vet_rules.specs.declared.Vetted.{Vetted}
 use Rattle.vet_rules.proofs.Causes.{exact_causes}
 use Rattle.vet_rules.proofs.Enough.{enough}
 use Rattle.vet_rules.proofs.PlainPromise.{filled_promise, refused_promise}

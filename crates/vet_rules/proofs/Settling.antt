@@ -22,8 +22,8 @@ use Rattle.rules.specs.declared.Form.{Form}
 use Rattle.rules.specs.declared.Parameter.{Parameter}
 use Rattle.rules.specs.declared.Parameter.TheVariants.{Default, Number, Character, Next, Remaining}
 use Rattle.rules.specs.declared.Parameters.{Parameters}
-use Rattle.rules.specs.declared.Setting.{Setting}
-use Rattle.rules.specs.declared.Setting.TheVariants.{Absent, Is}
+use Rattle.rules.specs.Setting.{Setting}
+use Rattle.std.specs.Prelude.{None, Some}
 use Rattle.rules.specs.declared.Settings.{Settings}
 use Rattle.rules.proofs.Rowed.{written_suits}
 use Rattle.rules.proofs.Tests.{both_true, not_both_ways}
@@ -60,7 +60,7 @@ In = InPlaceBy AnyCode
 
 -- settings in their places, one by one
 abbrev Placed : List Place → List Setting → Type 0
-Placed ys ss = (k : ℕ) → In (get_or ys k Empty) (get_or ss k Absent)
+Placed ys ss = (k : ℕ) → In (get_or ys k Empty) (get_or ss k None)
 
 -- parameters that are worked out: all in their places, with the same argument next; or a refusal
 abbrev SettlesIn : List Place → ℕ → Settled → Type 0
@@ -81,12 +81,12 @@ range least most n e =
     let h = both_true (leb least n) (leb n most) e in
     (leb-true least n h.0, leb-true n most h.1)
 
-number_placed : (y : Place) (n : ℕ) → suits y (Number n) ≡ true → In y (Is n)
+number_placed : (y : Place) (n : ℕ) → suits y (Number n) ≡ true → In y (Some n)
 number_placed Empty n e = absurd (not_both_ways e refl)
 number_placed (NumberPlace least most) n e = range least most n e
 number_placed CharacterPlace n e = tt
 
-character_placed : (y : Place) (b : ℕ) → suits y (Character b) ≡ true → In y (Is b)
+character_placed : (y : Place) (b : ℕ) → suits y (Character b) ≡ true → In y (Some b)
 character_placed Empty b e = absurd (not_both_ways e refl)
 character_placed (NumberPlace least most) b e = absurd (not_both_ways e refl)
 character_placed CharacterPlace b e = tt
@@ -98,8 +98,8 @@ count_placed Empty ys next n on h = (omega arith, omega arith)
 count_placed (NumberPlace least most) ys next n on h = pick (both (leb least n) (leb n most)) (range least most n)
   where
     pick : (t : Bool) → (t ≡ true → (least ≤ n) × (n ≤ most))
-        → SettlesIn (NumberPlace least most ∷ ys) next (after_one (cond t (worked (Is n) next) (wrong 8)) (λ s after. together s (on after)))
-    pick true i = with_one (NumberPlace least most) ys next (Is n) (on next) (i refl) h
+        → SettlesIn (NumberPlace least most ∷ ys) next (after_one (cond t (worked (Some n) next) (wrong 8)) (λ s after. together s (on after)))
+    pick true i = with_one (NumberPlace least most) ys next (Some n) (on next) (i refl) h
     pick false i = (omega arith, omega arith)
 count_placed CharacterPlace ys next n on h = (omega arith, omega arith)
 
@@ -110,15 +110,15 @@ unfolding settle work_out
 settle_each_lem c [] xs next h e = (refl, λ k. tt)
 settle_each_lem c (y ∷ ys) [] next h e = (refl, λ k. tt)
 settle_each_lem c (y ∷ ys) (Default ∷ xs) next h e =
-    with_one y ys next Absent (settle no_entries c ys xs next) tt
+    with_one y ys next None (settle no_entries c ys xs next) tt
     (settle_each_lem c ys xs next h (both_true (suits y Default) (each_suits ys xs) e).1)
 settle_each_lem c (y ∷ ys) (Number n ∷ xs) next h e =
     let f = both_true (suits y (Number n)) (each_suits ys xs) e in
-    with_one y ys next (Is n) (settle no_entries c ys xs next) (number_placed y n f.0)
+    with_one y ys next (Some n) (settle no_entries c ys xs next) (number_placed y n f.0)
     (settle_each_lem c ys xs next h f.1)
 settle_each_lem c (y ∷ ys) (Character b ∷ xs) next h e =
     let f = both_true (suits y (Character b)) (each_suits ys xs) e in
-    with_one y ys next (Is b) (settle no_entries c ys xs next) (character_placed y b f.0)
+    with_one y ys next (Some b) (settle no_entries c ys xs next) (character_placed y b f.0)
     (settle_each_lem c ys xs next h f.1)
 settle_each_lem c (y ∷ ys) (Next ∷ xs) next h e = absurd (not_both_ways h refl)
 settle_each_lem c (y ∷ ys) (Remaining ∷ xs) next h e =

@@ -10,13 +10,11 @@ use lib.Dec.{eqb}
 use lib.ListN.{length}
 use Rattle.rules.specs.Text.{Sequence, end, acts, escapes, iterates, chooses, Clauses, none, clause, deepest, sequence_of}
 use Rattle.rules.specs.declared.Directive.{Directive}
-use Rattle.vet_rules.specs.Turns.{argument, turn_of}
+use Rattle.vet_rules.specs.Turns.{argument, turn_of, Turn, Goes, Stops}
 use Rattle.vet_rules.specs.Vet.{answer_by, vet_of}
 use Rattle.vet_rules.specs.Ways.{Way, leads, fails, Ways, ending, failing, meeting, has_fallback, with_none, on_turn, on_way, on_ends, on_ways, start_of, way_of, ways_of}
 use Rattle.vet_rules.specs.declared.Ends.{Ends}
 use Rattle.vet_rules.specs.declared.Ends.TheVariants.{Nowhere, Equal, Unequal}
-use Rattle.vet_rules.specs.declared.Turn.{Turn}
-use Rattle.vet_rules.specs.declared.Turn.TheVariants.{Goes, Stops}
 use Rattle.vet_rules.proofs.Clauses.{Each, clauses_in}
 pub use Rattle.vet_rules.proofs.TurnLaws.{Turned, item_turned}
 use Rattle.vet_rules.specs.Worst.{most_piece}

@@ -6,11 +6,9 @@ use mathlib.Core.Bool.{Bool, true, false}
 use mathlib.Core.List.{List}
 use native.Mathlib.Omega.{arith}
 use Rattle.rules.specs.Text.{tokens_at, text_verdict, provided}
-use Rattle.rules.specs.declared.Verdict.{Verdict}
-use Rattle.rules.specs.declared.Verdict.TheVariants.{Accepted, Refused}
-use Rattle.vet_rules.specs.declared.Vetted.{Vetted}
+use Rattle.rules.specs.Verdict.{Verdict, Accepted, Refused}
+use Rattle.vet_rules.specs.Vet.{Vetted, Asked, may_ask, asked_verdict, declined, unless_declined, run_answer, vet_of}
 use Rattle.vet_rules.specs.Plain.{vettable_verdict}
-use Rattle.vet_rules.specs.Vet.{Asked, may_ask, asked_verdict, declined, unless_declined, run_answer, vet_of}
 use Rattle.vet_rules.proofs.Codes.{Between, text_codes, plain_codes, asked_of}
 
 module _ (format kinds : List ℕ) (longest : ℕ) where

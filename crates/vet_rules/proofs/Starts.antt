@@ -11,15 +11,13 @@ use borrow.Author.Tests.{ltb-true, eqb-true}
 use Rattle.rules.specs.Choice.{either}
 use Rattle.rules.specs.Working.{Settled, settled, unsettled, settings_of, settle_all}
 use Rattle.rules.specs.declared.Directive.{Directive}
-use Rattle.rules.specs.declared.Setting.{Setting}
-use Rattle.rules.specs.declared.Setting.TheVariants.{Absent, Is}
+use Rattle.rules.specs.Setting.{Setting}
+use Rattle.std.specs.Prelude.{None, Some}
 use Rattle.rules.proofs.Rowed.{written_suits}
 use Rattle.vet_rules.specs.Plain.{Opener}
-use Rattle.vet_rules.specs.Turns.{argument, kind_in}
+use Rattle.vet_rules.specs.Turns.{argument, kind_in, Turn, Goes, Stops}
 use Rattle.vet_rules.specs.Use.{in_hand, no_entries}
 use Rattle.vet_rules.specs.Ways.{on_own, numbered_start, unmodified_places, settled_start, start_of}
-use Rattle.vet_rules.specs.declared.Turn.{Turn}
-use Rattle.vet_rules.specs.declared.Turn.TheVariants.{Goes, Stops}
 use Rattle.vet_rules.proofs.Settling.{Settles, settle_placed}
 use Rattle.vet_rules.proofs.Uses.{by_test}
 
@@ -50,10 +48,10 @@ module _ (kinds : List ℕ) (longest : ℕ) where
       (λ _. inl (omega arith, omega arith))
 
   numbered_started : (next : ℕ) (s : Setting) → next ≤ count → Started count (numbered_start kinds longest next s)
-  numbered_started next Absent h =
+  numbered_started next None h =
       own_started next _
       (λ b. by_test (Started count) (eqb (kind_in kinds next) 1) _ _ (λ _. (b, refl)) (λ _. inl (omega arith, omega arith)))
-  numbered_started next (Is n) h = (h, refl)
+  numbered_started next (Some n) h = (h, refl)
 
   settled_started : (next : ℕ) (z : Settled) → next ≤ count → Settles unmodified_places next z
       → Started count (settled_start kinds longest z)

@@ -1,6 +1,6 @@
 -- What an item does to a vet, by what code finds out about it: a literal byte; or the worked-out parameters of a directive,
 -- where its argument comes from, and whether it takes the argument's kind. Assumes nothing.
-use Prim.Native.Nat.{ℕ, ◌-◌, ◌≤◌}
+use Prim.Native.Nat.{ℕ, ◌≤◌}
 use mathlib.Core.Path.{◌≡◌, refl, ap, ◌∙◌}
 use mathlib.Core.Logic.{inl, inr}
 use mathlib.Core.Bool.{Bool, true, false, cond}
@@ -16,13 +16,11 @@ use Rattle.rules.specs.declared.Directive.{Directive}
 use Rattle.rules.specs.declared.Form.{Form}
 use Rattle.rules.specs.declared.Item.{Item}
 use Rattle.rules.specs.declared.Item.TheVariants.{Literal, Written}
-use Rattle.rules.specs.declared.Setting.{Setting}
+use Rattle.rules.specs.Setting.{Setting}
 use Rattle.rules.specs.declared.Settings.{Settings}
-use Rattle.vet_rules.specs.declared.Turn.{Turn}
-use Rattle.vet_rules.specs.declared.Turn.TheVariants.{Goes, Stops}
+use Rattle.vet_rules.specs.Turns.{Turn, Goes, Stops, argument, kind_in, turn_by, turn_of}
 use Rattle.vet_rules.specs.Use.{in_hand, no_entries, use_of}
 use Rattle.vet_rules.specs.Worst.{most_piece, worst}
-use Rattle.vet_rules.specs.Turns.{argument, kind_in, turn_by, turn_of}
 use Rattle.vet_rules.proofs.Forms.{piece_most}
 use Rattle.vet_rules.proofs.Ordinary.{Ordinary}
 use Rattle.vet_rules.proofs.Uses.{Shown, Within, by_test, use_within}

@@ -20,8 +20,8 @@ use Rattle.rules.specs.declared.Item.{Item}
 use Rattle.rules.specs.declared.Item.TheVariants.{End, Literal, Written, BadNumber, Unfinished}
 use Rattle.rules.specs.declared.Origin.{Origin}
 use Rattle.rules.specs.declared.Origin.TheVariants.{Nowhere, Next as NextArgument, NextOrBack, NextOrNumber}
-use Rattle.rules.specs.declared.Setting.{Setting}
-use Rattle.rules.specs.declared.Setting.TheVariants.{Absent, Is}
+use Rattle.rules.specs.Setting.{Setting}
+use Rattle.std.specs.Prelude.{None, Some}
 use Rattle.rules.specs.declared.Settings.{Settings}
 use Rattle.rules.proofs.FormLaws.{takes_number}
 use Rattle.vet_rules.specs.Use.{in_hand, no_entries, use_of}
@@ -72,8 +72,8 @@ module _ (count : ℕ) (d : Directive) (s : Settings) (next : ℕ) (f : Form) (w
 
   number_within : (form_row f).origin ≡ NextOrNumber → (x : Setting) → s.first ≡ x
       → Within count next (act_from count f d s next (glyph_source x))
-  number_within o Absent e = own_within
-  number_within o (Is n) e =
+  number_within o None e = own_within
+  number_within o (Some n) e =
       let i : (0 ≤ n) × (n ≤ 127) = rw (e, (takes_number f o).place) at w.places.first in
       given_within (character n) (omega (arith, i.1))
 

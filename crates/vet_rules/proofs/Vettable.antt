@@ -19,7 +19,7 @@ use Rattle.rules.specs.declared.Code.TheVariants.{Writes, Jump, Escape, Opens, S
 use Rattle.rules.specs.declared.Directive.{Directive}
 use Rattle.rules.specs.declared.Item.{Item}
 use Rattle.rules.specs.declared.Item.TheVariants.{End, Literal, Written, BadNumber, Unfinished}
-use Rattle.rules.specs.declared.Verdict.TheVariants.{Accepted}
+use Rattle.rules.specs.Verdict.{Accepted}
 use Rattle.rules.proofs.Bases.{code_right}
 use Rattle.rules.proofs.Tests.{both_true, not_both_ways}
 use Rattle.rules.proofs.TextLaws.{stands, next_inside, tokens_is, levels_end, levels_literal, levels_writes, levels_conditional, levels_separator, levels_closer, Sound, sound_start, sound_end, sound_literal, sound_bad, sound_unfinished, sound_known, sound_writes, sound_opener, sound_separator, sound_closer}

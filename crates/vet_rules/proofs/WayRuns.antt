@@ -12,13 +12,11 @@ use Rattle.rules.specs.Table.{View}
 use Rattle.rules.specs.Text.{Sequence, end, acts, escapes, iterates, chooses, Clauses, none, clause}
 use Rattle.rules.specs.declared.Directive.{Directive}
 use Rattle.rules.proofs.RunLaws.{begin_yes, run_chooses, nested_yes}
-use Rattle.vet_rules.specs.Turns.{kind_in}
+use Rattle.vet_rules.specs.Turns.{kind_in, Turn, Goes, Stops}
 use Rattle.vet_rules.specs.Use.{in_hand}
 use Rattle.vet_rules.specs.Ways.{Way, Ways, ending, failing, has_fallback, with_none, on_turn, on_ends, on_ways, start_of, way_of, ways_of}
 use Rattle.vet_rules.specs.declared.Ends.{Ends}
 use Rattle.vet_rules.specs.declared.Ends.TheVariants.{Nowhere, Equal, Unequal}
-use Rattle.vet_rules.specs.declared.Turn.{Turn}
-use Rattle.vet_rules.specs.declared.Turn.TheVariants.{Goes, Stops}
 use Rattle.vet_rules.proofs.Clauses.{Each, each_on}
 use Rattle.vet_rules.proofs.ItemRuns.{acts_walks}
 use Rattle.vet_rules.proofs.Meetings.{Led, Met, AllMet, led_on, NoneEnds, clauses_met, none_met}

@@ -35,7 +35,7 @@ pub greatest_is : (w p m lo hi : ℕ) {less up top : ℕ} → less ≡ w - (hi +
 unfolding greatest
 greatest_is w p m lo hi e f g = ap₂ larger (ap (λ (x : ℕ). hi + (m + x)) (f ∙ ap (round_up p) e)) g
 
-larger_zero : (a : ℕ) → larger a 0 ≡ a
+pub larger_zero : (a : ℕ) → larger a 0 ≡ a
 larger_zero a = elim (larger_one a 0) [ inl e ↦ e | inr e ↦ omega (arith, larger_left a 0) ]
 
 -- `~a` and `~s`, by kinds

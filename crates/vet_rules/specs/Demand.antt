@@ -9,12 +9,11 @@ use Rattle.rules.specs.declared.Bracket.TheVariants.{Conditional}
 use Rattle.rules.specs.declared.Code.TheVariants.{Opens}
 use Rattle.rules.specs.declared.Directive.{Directive}
 use Rattle.rules.specs.declared.Item.TheVariants.{Written}
-use Rattle.rules.specs.declared.Verdict.TheVariants.{Accepted as accepted, Refused as refusal}
+use Rattle.rules.specs.Verdict.{Accepted as accepted, Refused as refusal}
 use Rattle.vet_rules.specs.Plain.{plain_verdict, vettable_verdict}
 use Rattle.vet_rules.specs.Turns.{kind_in}
-use Rattle.vet_rules.specs.Vet.{may_ask, declined, counted, vet_of}
+use Rattle.vet_rules.specs.Vet.{may_ask, declined, counted, vet_of, Vetted}
 use Rattle.vet_rules.specs.Ways.{fails, way_of}
-use Rattle.vet_rules.specs.declared.Vetted.{Vetted}
 
 -- "A valid table with exactly those kinds and no longer strings passes the table check, has as many arguments as there
 -- are kinds, each with the tag of its kind in order, and no string argument above L bytes; its other entries may be any."

@@ -9,13 +9,12 @@ use Rattle.rules.specs.Text.{tokens_from, tokens_at, directive_met, verdict_of, 
 use Rattle.rules.specs.Piece.{name_of, times_padded, text_of}
 use Rattle.rules.specs.Working.{work_out, settle}
 use Rattle.rules.specs.Act.{act_of}
-use Rattle.vet_rules.specs.declared.Vetted.{Vetted}
+use Rattle.vet_rules.specs.Vet.{Vetted, asked_verdict, counted, declined, vet_of}
 use Rattle.vet_rules.specs.Encode.{entry_bytes, entries_from, header_bytes, table_of}
 use Rattle.vet_rules.specs.Plain.{plain_item, plain_from}
 use Rattle.vet_rules.specs.Worst.{larger, top_of, greatest, spans_of, worst}
 use Rattle.vet_rules.specs.Turns.{turn_of}
 use Rattle.vet_rules.specs.Ways.{meeting, has_fallback, start_of, way_of}
-use Rattle.vet_rules.specs.Vet.{asked_verdict, counted, declined, vet_of}
 
 -- a format, the kinds, L, and the answer
 record Case : Type 0 where

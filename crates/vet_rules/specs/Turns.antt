@@ -1,17 +1,28 @@
 -- What an item of a plain format, or of a clause, does to a vet, by the kinds of the arguments. Assumes nothing: these are
 -- definitions.
-use Rattle.std.specs.Prelude.{ℕ, cond, List, length, get_or}
+use Rattle.std.specs.Prelude.{ℕ, cond, List, Result, Ok, Err, length, get_or}
 use Rattle.rules.specs.Act.{Act, writes, shows, moves, refuses}
+use Rattle.rules.specs.Refusals.{code_of}
 use Rattle.rules.specs.Rows.{accepts}
 use Rattle.rules.specs.declared.ArgumentPosition.{ArgumentPosition}
 use Rattle.rules.specs.declared.Directive.{Directive}
 use Rattle.rules.specs.declared.Form.{Form}
 use Rattle.rules.specs.declared.Item.{Item}
 use Rattle.rules.specs.declared.Settings.{Settings}
+use Rattle.rules.specs.declared.refusal.Refusal.{Refusal}
 use Rattle.vet_rules.specs.Use.{use_of}
 use Rattle.vet_rules.specs.Worst.{worst}
-use Rattle.vet_rules.specs.declared.Turn.{Turn}
-use Rattle.vet_rules.specs.declared.Turn.TheVariants.{Goes, Stops}
+use Rattle.vet_rules.specs.declared.Reach.{Reach}
+
+-- It goes on at the argument that comes next, with a piece of at most so many bytes; or it stops with a code
+pub data Turn : Type 0 where
+  Goes : ArgumentPosition → ℕ → Turn
+  Stops : ℕ → Turn
+
+-- what the answer of a directive says
+abbrev pub turn_as : Result Reach Refusal → Turn
+turn_as (Ok r) = Goes r.next r.size
+turn_as (Err refusal) = Stops (code_of refusal)
 
 -- the number i of an argument
 abbrev pub argument : ℕ → ArgumentPosition

@@ -1,14 +1,14 @@
 -- What a vet answers: the rules of 01 and of 02's Thirteen for it, in their order. Assumes nothing: these are definitions.
-use Rattle.std.specs.Prelude.{ℕ, ◌≤◌, ◌<◌, Bool, true, List, [], ◌∷◌, leb, length}
+use Rattle.std.specs.Prelude.{ℕ, ◌≤◌, ◌<◌, Bool, true, List, [], ◌∷◌, Result, Ok, Err, leb, length}
 use Rattle.rules.specs.Table.{last_kind}
 use Rattle.rules.specs.Choice.{both}
+use Rattle.rules.specs.Refusals.{code_of}
 use Rattle.rules.specs.Text.{sequence_of, text_verdict, provided}
-use Rattle.rules.specs.declared.Verdict.{Verdict}
-use Rattle.rules.specs.declared.Verdict.TheVariants.{Accepted, Refused}
+use Rattle.rules.specs.Verdict.{Verdict, Accepted, Refused}
+use Rattle.rules.specs.declared.refusal.Fault.{Fault}
 use Rattle.vet_rules.specs.Plain.{vettable_verdict}
 use Rattle.vet_rules.specs.Turns.{kind_in}
 use Rattle.vet_rules.specs.Ways.{Way, leads, fails, way_of}
-use Rattle.vet_rules.specs.declared.Vetted.{Vetted}
 
 -- "vet: more than 1,024 kinds, unknown tag, L above 4,096", at 0
 abbrev pub known_tags : List ℕ → Bool
@@ -27,12 +27,23 @@ pub record Asked (kinds : List ℕ) (longest : ℕ) : Type 0 where
 unfoldable pub asked_verdict : List ℕ → ℕ → Verdict
 asked_verdict kinds longest = provided (may_ask kinds longest) 12 0 (λ _. Accepted)
 
+-- 01's code and position, and the byte count
+pub record Vetted : Type 0 where
+  pub code : ℕ
+  pub position : ℕ
+  pub count : ℕ
+
 -- "a refusal's count is 0"
 abbrev pub declined : ℕ → ℕ → Vetted
 declined code position = record { code = code; position = position; count = 0 }
 
 abbrev pub counted : ℕ → Vetted
 counted count = record { code = 0; position = 0; count = count }
+
+-- what the answer of a vet says
+abbrev pub vetted_as : Result ℕ Fault → Vetted
+vetted_as (Ok count) = counted count
+vetted_as (Err f) = declined (code_of f.refusal) f.position
 
 abbrev pub unless_declined : Verdict → (Bool → Vetted) → Vetted
 unless_declined Accepted on = on true

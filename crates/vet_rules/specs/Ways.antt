@@ -1,6 +1,6 @@
 -- The ways through a format, conditionals included: where they end, and how long the longest is (02, Thirteen). Assumes
 -- nothing: these are definitions.
-use Rattle.std.specs.Prelude.{ℕ, ◌+◌, Bool, false, cond, List, ltb, eqb, length}
+use Rattle.std.specs.Prelude.{ℕ, ◌+◌, Bool, false, cond, List, ltb, eqb, length, None, Some}
 use Rattle.rules.specs.Rows.{row_of}
 use Rattle.rules.specs.Text.{Sequence, end, acts, escapes, iterates, chooses, Clauses, none, clause}
 use Rattle.rules.specs.Working.{Settled, settled, unsettled, settings_of, settle_all}
@@ -8,15 +8,12 @@ use Rattle.rules.specs.declared.Bracket.TheVariants.{Conditional}
 use Rattle.rules.specs.declared.Code.TheVariants.{Opens}
 use Rattle.rules.specs.declared.Directive.{Directive}
 use Rattle.rules.specs.declared.Places.{Places}
-use Rattle.rules.specs.declared.Setting.{Setting}
-use Rattle.rules.specs.declared.Setting.TheVariants.{Absent, Is}
-use Rattle.vet_rules.specs.Turns.{argument, kind_in, turn_of}
+use Rattle.rules.specs.Setting.{Setting}
+use Rattle.vet_rules.specs.Turns.{argument, kind_in, turn_of, Turn, Goes, Stops}
 use Rattle.vet_rules.specs.Use.{in_hand, no_entries}
 use Rattle.vet_rules.specs.Worst.{larger}
 use Rattle.vet_rules.specs.declared.Ends.{Ends}
 use Rattle.vet_rules.specs.declared.Ends.TheVariants.{Nowhere, Equal, Unequal}
-use Rattle.vet_rules.specs.declared.Turn.{Turn}
-use Rattle.vet_rules.specs.declared.Turn.TheVariants.{Goes, Stops}
 
 -- The ways through a sequence, joined: they lead to the argument `next` with at most `size` bytes, or fail with a code at a
 -- position
@@ -84,8 +81,8 @@ module _ (kinds : List ℕ) (longest : ℕ) where
 
   -- `~[`: "n, or an integer argument, picks a clause"
   abbrev pub numbered_start : ℕ → Setting → Turn
-  numbered_start next Absent = on_own next (cond (eqb (kind_in kinds next) 1) (Goes (argument (next + 1)) 0) (Stops 7))
-  numbered_start next (Is n) = Goes (argument next) 0
+  numbered_start next None = on_own next (cond (eqb (kind_in kinds next) 1) (Goes (argument (next + 1)) 0) (Stops 7))
+  numbered_start next (Some n) = Goes (argument next) 0
 
   abbrev pub settled_start : Settled → Turn
   settled_start (settled ss next) = numbered_start next (settings_of ss).first

@@ -1,5 +1,5 @@
 -- The greatest length of one piece over all values of a kind, in constant time. Assumes nothing: these are definitions.
-use Rattle.std.specs.Prelude.{ℕ, zero, suc, ◌+◌, ◌*◌, ◌-◌, Bool, true, false, cond, List, [], ◌∷◌, ltb, leb, ℤ, negsuc, length}
+use Rattle.std.specs.Prelude.{ℕ, ◌+◌, ◌*◌, ◌-◌, Bool, true, false, cond, List, [], ◌∷◌, ltb, leb, ℤ, negsuc, length}
 use Rattle.rules.specs.Number.{digits_of}
 use Rattle.rules.specs.Table.{Kind, a_boolean, an_integer, a_character, a_string, a_list, no_kind, kind_tagged}
 use Rattle.rules.specs.Piece.{or_else, times_padded, padding_of, numeral_of}

@@ -1,5 +1,5 @@
 -- What the parts of the code of a turn promise. Assumes nothing: these are definitions.
-use Rattle.std.specs.Prelude.{ℕ, ◌+◌, ◌-◌, ◌/◌, ◌≤◌, ◌≡◌, Bool, true, cond}
+use Rattle.std.specs.Prelude.{ℕ, ◌+◌, ◌-◌, ◌/◌, ◌≤◌, ◌≡◌, Bool, true, cond, Result}
 use Rattle.rules.specs.Directive.{FormRight}
 use Rattle.rules.specs.Rows.{form_places, in_row, in_order, each_suits, well_written}
 use Rattle.rules.specs.Working.{settle_all}
@@ -8,8 +8,7 @@ use Rattle.rules.specs.declared.Directive.{Directive}
 use Rattle.rules.specs.declared.Form.{Form}
 use Rattle.rules.specs.declared.Parameters.{Parameters}
 use Rattle.rules.specs.declared.Places.{Places}
-use Rattle.rules.specs.declared.Setting.TheVariants.{Absent, Is}
-use Rattle.rules.specs.declared.Settings.{Settings}
+use Rattle.rules.specs.declared.refusal.Refusal.{Refusal}
 use Rattle.vet_rules.specs.Plain.{none_next}
 use Rattle.vet_rules.specs.Use.{in_hand, no_entries}
 use Rattle.vet_rules.specs.Worst.{larger, least_digits}
@@ -25,7 +24,7 @@ pub record Writing (f : Form) (d : Directive) : Type 0 where
   pub based : FormRight f
 
 -- what working out parameters without `v` promises of its answer r, where there are so many arguments
-pub record SettledOn (count : ℕ) (ys : Places) (ps : Parameters) (next : ℕ) (r : SettledOut) : Type 0 where
+pub record SettledOn (count : ℕ) (ys : Places) (ps : Parameters) (next : ℕ) (r : Result SettledOut Refusal) : Type 0 where
   pub as_defined : settled_as r ≡ settle_all no_entries (in_hand count next) ys ps next
   pub lies : each_suits (in_row ys) (in_order ps) ≡ true → AllLie ys r
 
@@ -35,10 +34,6 @@ pub record Sizing (minwidth padinc minpad : ℕ) : Type 0 where
   pub least : 1 ≤ padinc
   pub most : padinc ≤ 4096
   pub pad : minpad ≤ 4096
-
--- the three of them as settings
-abbrev pub padding : ℕ → ℕ → ℕ → Settings
-padding minwidth padinc minpad = record { first = Is minwidth; second = Is padinc; third = Is minpad; fourth = Absent; fifth = Absent }
 
 -- the sign and the digits of the least integer, in groups of a width with true, or at least minwidth bytes
 abbrev pub numeral_most : ℕ → Bool → ℕ → ℕ → ℕ

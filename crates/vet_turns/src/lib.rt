@@ -3,5 +3,6 @@
 #![tactic(auto)]
 
 pub mod lengths;
+pub mod question;
 pub mod starts;
 pub mod turns;

@@ -1,109 +1,52 @@
 // The argument from which the clauses of a conditional run.
-ghost use Rattle.std.specs.Prelude.{◌≡◌, false, cond, ℕ, ◌+◌, ◌≤◌, eqb, length};
-ghost use Rattle.rules.specs.declared.Setting.TheVariants.{Absent};
-ghost use Rattle.vet_rules.specs.Turns.{argument, kind_in};
-ghost use Rattle.vet_rules.specs.Ways.{on_own, numbered_start, start_of};
-ghost use Rattle.vet_rules.specs.declared.Turn.TheVariants.{Goes, Stops};
+ghost use Rattle.std.specs.Prelude.{◌≡◌, ℕ, ◌≤◌, length};
 ghost use Rattle.vet_rules.specs.Plain.{Opener};
+ghost use Rattle.vet_rules.specs.Turns.{turn_as};
+ghost use Rattle.vet_rules.specs.Ways.{numbered_start, start_of};
 
+use crate::question::{Kind, take_tag};
 use crate::turns::settle_fixed;
-use parameters::SettledOut;
-use rules::codes::{NO_ARGUMENT, NOT_PLAIN, WRONG_KIND};
+use rules::refusal::Refusal;
 use rules::{ArgumentPosition, Directive, Setting};
-use vet_rules::Turn;
+use vet_rules::Reach;
 
-const BOOLEAN: u8 = 0;
-
-const INTEGER: u8 = 1;
-
-// ~:[
-fn start_two(kinds: &[u8], next: ArgumentPosition) -> Turn
+// ~[ picks a clause by its setting, which takes no argument, or by an integer.
+fn start_numbered(kinds: &[u8], setting: Setting, next: ArgumentPosition) -> Result<Reach, Refusal>
     requires { next.0 ≤ length kinds.now }
-    ensures { (longest : ℕ) → result ≡ on_own kinds.now longest next.0 (Goes (argument (next.0 + 1)) 0) }
+    ensures { (longest : ℕ) → turn_as result ≡ numbered_start kinds.now longest next.0 setting }
 {
-    let i = next.0;
-    if kinds.len() <= i {
-        return Turn::Stops(NO_ARGUMENT);
+    if setting.is_some() {
+        return Ok(Reach { next, size: 0 });
     }
-    Turn::Goes {
-        next: ArgumentPosition(i + 1),
-        size: 0,
-    }
-}
-
-// ~@[
-fn start_one(kinds: &[u8], next: ArgumentPosition) -> Turn
-    requires { next.0 ≤ length kinds.now }
-    ensures { (longest : ℕ) → result ≡ on_own kinds.now longest next.0 (cond (eqb (kind_in kinds.now next.0) 0) (Goes next 0) (Stops 11)) }
-{
-    let i = next.0;
-    if kinds.len() <= i {
-        return Turn::Stops(NO_ARGUMENT);
-    }
-    let kind = kinds[i];
-    if kind == BOOLEAN {
-        return Turn::Goes { next, size: 0 };
-    }
-    Turn::Stops(NOT_PLAIN)
-}
-
-// ~[ by an integer argument
-fn start_numbered(kinds: &[u8], next: ArgumentPosition) -> Turn
-    requires { next.0 ≤ length kinds.now }
-    ensures { (longest : ℕ) → result ≡ numbered_start kinds.now longest next.0 Absent }
-{
-    let i = next.0;
-    if kinds.len() <= i {
-        return Turn::Stops(NO_ARGUMENT);
-    }
-    let kind = kinds[i];
-    if kind == INTEGER {
-        return Turn::Goes {
-            next: ArgumentPosition(i + 1),
+    match take_tag(kinds, next)? {
+        (tag, after) if tag == Kind::Integer as u8 => Ok(Reach {
+            next: after,
             size: 0,
-        };
-    }
-    Turn::Stops(WRONG_KIND)
-}
-
-// ~[ by its setting, which picks a clause without an argument.
-fn start_settled(kinds: &[u8], next: ArgumentPosition, setting: Setting) -> Turn
-    requires { next.0 ≤ length kinds.now }
-    ensures { (longest : ℕ) → result ≡ numbered_start kinds.now longest next.0 setting }
-{
-    match setting {
-        Setting::Is(_) => Turn::Goes { next, size: 0 },
-        Setting::Absent => start_numbered(kinds, next),
+        }),
+        _ => Err(Refusal::WrongKind),
     }
 }
 
-// ~[ without a modifier
-fn start_plain(d: Directive, kinds: &[u8], next: ArgumentPosition) -> Turn
-    requires opener { Opener d }
-    requires colon_value { (d.colon ≡ false) × (d.atsign ≡ false) }
-    requires next_in_bounds { next.0 ≤ length kinds.now }
-    ensures { (longest : ℕ) → result ≡ start_of kinds.now longest d next.0 }
-{
-    let settled = settle_fixed(d, kinds, next);
-    match settled {
-        SettledOut::Is { settings, next: _ } => {
-            let first = settings.first;
-            start_settled(kinds, next, first)
-        }
-        SettledOut::Wrong(code) => Turn::Stops(code),
-    }
-}
-
-pub fn start_of(d: Directive, kinds: &[u8], next: ArgumentPosition) -> Turn
+// Of ~:[ one argument picks the clause; ~@[ leaves a boolean to its clause.
+#[tactic(auto, unfolding(vet_rules::specs::Ways::start_of))]
+pub fn start_of(kinds: &[u8], d: Directive, next: ArgumentPosition) -> Result<Reach, Refusal>
     requires opener { Opener d }
     requires next_in_bounds { next.0 ≤ length kinds.now }
-    ensures { (longest : ℕ) → result ≡ start_of kinds.now longest d next.0 }
+    ensures { (longest : ℕ) → turn_as result ≡ start_of kinds.now longest d next.0 }
 {
     if d.colon {
-        return start_two(kinds, next);
+        let (_, after) = take_tag(kinds, next)?;
+        return Ok(Reach {
+            next: after,
+            size: 0,
+        });
     }
     if d.atsign {
-        return start_one(kinds, next);
+        return match take_tag(kinds, next)? {
+            (tag, _) if tag == Kind::Boolean as u8 => Ok(Reach { next, size: 0 }),
+            _ => Err(Refusal::NotPlain),
+        };
     }
-    start_plain(d, kinds, next)
+    let settings = settle_fixed(kinds, d, next)?.settings;
+    start_numbered(kinds, settings.first, next)
 }

@@ -14,8 +14,8 @@ use Rattle.rules.specs.Answer.{fit, call_arguments, flow_of, unless_refused, ans
 use Rattle.rules.specs.Flow.{Flow, done, refused, put, limit, Finish, finish_of}
 use Rattle.rules.specs.Table.{View, view_of, table_verdict}
 use Rattle.rules.specs.Text.{text_verdict}
-use Rattle.rules.specs.declared.Verdict.{Verdict}
-use Rattle.rules.specs.declared.Verdict.TheVariants.{Accepted, Refused}
+use Rattle.rules.specs.Verdict.{Verdict}
+use Rattle.rules.specs.Verdict.{Accepted, Refused}
 use Rattle.rules.proofs.Faults.{TableFault, TextFault, table_fault, text_fault}
 use Rattle.rules.proofs.FlowLaws.{finished, fit_all, fit_not}
 use Rattle.rules.proofs.RunReports.{Reports, run_reports}

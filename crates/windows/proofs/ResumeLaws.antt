@@ -15,8 +15,8 @@ use Rattle.rules.specs.Choice.{either}
 use Rattle.rules.specs.Flow.{limit, Finish}
 use Rattle.rules.specs.Table.{entry_count, argument_count, view_of, table_verdict}
 use Rattle.rules.specs.Text.{text_verdict}
-use Rattle.rules.specs.declared.Verdict.{Verdict}
-use Rattle.rules.specs.declared.Verdict.TheVariants.{Accepted, Refused}
+use Rattle.rules.specs.Verdict.{Verdict}
+use Rattle.rules.specs.Verdict.{Accepted, Refused}
 use Rattle.rules.proofs.TableLaws.{accepted_sound}
 use Rattle.rules.proofs.TextLaws.{sound_start}
 use Rattle.rules.proofs.ViewLaws.{view_arguments}
@@ -27,7 +27,7 @@ use Rattle.pieces.proofs.Rests.{append_none, append_more, append_before, rest_do
 use Rattle.nesting.specs.Nest.{frames_of, all_lie}
 use Rattle.nesting.specs.Moves.{Told, told, told_over, comes, Sound}
 use Rattle.nesting.specs.declared.moves.Here.{Here}
-use Rattle.nesting.specs.declared.nests.Nest.{Nest}
+use Rattle.filling.specs.declared.giving.Progress.{Progress}
 use Rattle.filling.specs.declared.giving.Reach.{Reach}
 use Rattle.filling.specs.declared.giving.Reach.TheVariants.{On, Over, Full}
 use Rattle.filling.specs.declared.steps.Step.{Step}
@@ -38,17 +38,16 @@ use Rattle.windows.specs.declared.state.State.{State}
 use Rattle.windows.specs.declared.state.Resumed.{Resumed}
 use Rattle.windows.specs.States.{here_of, is_sound, to_come, if_sound, unless_wrong, remains, is_ended}
 use Rattle.windows.specs.Calls.{Shown, more, all, shown_in, Resumes}
-use Rattle.windows.specs.Continuing.{no_blocks, start_of, ended_state, ended_with, begun_state, more_with, resumed_by, resumed_at, Halts, over, full, Continues}
+use Rattle.windows.specs.Continuing.{no_blocks, start_of, ended_state, ended_with, begun_state, more_with, more_on, resumed_by, resumed_at, Halts, over, full, Continues}
 use Rattle.windows.proofs.CallLaws.{as_ended, ended_remains, ended_shown, idle_shown}
 use Rattle.windows.proofs.StateLaws.{in_range_lem, begun_remains}
 
 -- the answer of steps that are not over
-pub resumed_more : (keys : List ℕ) (step : Step) → keys ≡ 0 ∷ 2 ∷ [] → OneOf keys (tag_of reach_declared.the_type step.reach) → {st : State} {r : Resumed}
-    → st ≡ begun_state step.here step.nest step.given step.rest → r ≡ more_with step.at st → r ≡ resumed_at step
-resumed_more keys step q o {st} {r} same is = is ∙ ap (more_with step.at) same ∙ by step.reach refl o
+pub resumed_more : (keys : List ℕ) (step : Step) → keys ≡ 0 ∷ 2 ∷ [] → OneOf keys (tag_of reach_declared.the_type step.put.reach) → {r : Resumed}
+    → r ≡ more_on step → r ≡ resumed_at step
+resumed_more keys step q o {r} is = is ∙ by step.put.reach refl o
   where
-    by : (y : Reach) → step.reach ≡ y → OneOf keys (tag_of reach_declared.the_type y)
-        → more_with step.at (begun_state step.here step.nest step.given step.rest) ≡ resumed_at step
+    by : (y : Reach) → step.put.reach ≡ y → OneOf keys (tag_of reach_declared.the_type y) → more_on step ≡ resumed_at step
     by On k o = sym (ap (λ (x : Reach). resumed_by x step) k)
     by (Over code p) k o = absurd (miss (0 ∷ 2 ∷ []) 1 tt (subst (λ (i : List ℕ). OneOf i 1) q o))
     by Full k o = sym (ap (λ (x : Reach). resumed_by x step) k)
@@ -62,10 +61,10 @@ module _ (t table : List ℕ) where
 
   module _ {x : Told} {left heavy from : ℕ} {b e : List ℕ} {step : Step} {r : Resumed} (a : table_verdict table ≡ Accepted)
       (w : Advances t table x left heavy from b e step) where
-    pub filled : is_on step.reach ≡ false → r ≡ resumed_at step → Continues t table x from b e r
-    filled off is = by step.reach refl off is
+    pub filled : is_on step.put.reach ≡ false → r ≡ resumed_at step → Continues t table x from b e r
+    filled off is = by step.put.reach refl off is
       where
-        by : (y : Reach) → step.reach ≡ y → is_on y ≡ false → r ≡ resumed_by y step → Continues t table x from b e r
+        by : (y : Reach) → step.put.reach ≡ y → is_on y ≡ false → r ≡ resumed_by y step → Continues t table x from b e r
         by On q off is = let z : ◌≡◌ {A = ℕ} 0 1 = cc in absurd (omega arith)
         by (Over code p) q off is =
             subst (Continues t table x from b e) (sym is)
@@ -76,7 +75,7 @@ module _ (t table : List ℕ) where
             })
         by Full q off is =
             let f = w.full q in
-            let m = begun_remains t table step.given (w.sound (rw q)) f.1.1 a in
+            let m = begun_remains t table step.put.progress.given (w.sound (rw q)) f.1.1 a in
             subst (Continues t table x from b e) (sym is)
             (record {
               written = rw m (rw q at w.written);
@@ -105,18 +104,17 @@ module _ (t table : List ℕ) where
 
   -- 3. A fresh state
 
-  module _ {m : ℕ} {h : Here} {o : Nest} (counts : m ≡ argument_count table) (here : h ≡ start_of m) (none : o ≡ no_blocks) where
-    starts_as : comes t table h o ≡ flow_of t (view_of table)
+  module _ {m : ℕ} {p : Progress} (counts : m ≡ argument_count table) (is : p ≡ record { here = start_of m; given = 0; at = 0 }) where
+    starts_as : comes t table p.here no_blocks ≡ flow_of t (view_of table)
     unfolding frames_of
-    starts_as = rw (here, none, counts, view_arguments)
+    starts_as = rw (is, counts, view_arguments)
 
-    pub start_stands : {v : Verdict} {b : List ℕ} → table_verdict table ≡ Accepted → v ≡ text_verdict t → v ≡ Accepted → Standing t table h o 0 b
+    pub start_stands : {v : Verdict} {b : List ℕ} → table_verdict table ≡ Accepted → v ≡ text_verdict t → v ≡ Accepted → Standing t table p.here no_blocks p.at b
     unfolding all_lie
     start_stands a q e = record {
       accepted = a;
       sound =
-          subst (λ (y : Here). Sound (length t) table y o) (sym here)
-          (subst (Sound (length t) table (start_of m)) (sym none)
+          subst (λ (y : Progress). Sound (length t) table y.here no_blocks) (sym is)
           (record {
             short = (sound_start t (sym q ∙ e)).0;
             depth = omega arith;
@@ -124,13 +122,16 @@ module _ (t table : List ℕ) where
             place = omega arith;
             hand = true_both (le-leb (0 + m) (entry_count table) (omega (arith, counts, (accepted_sound table a).arguments))) (le-leb 0 m (omega arith));
             blocks = refl;
-          }));
-      room = omega arith;
+          });
+      room = omega (arith, ap (λ (y : Progress). y.at) is);
     }
 
     pub starts : {v : Verdict} {b e : List ℕ} {r : Resumed} → v ≡ text_verdict t → v ≡ Accepted
-        → Continues t table (to_give 0 (comes t table h o)) 0 b e r → Continues t table (fresh (text_verdict t)) 0 b e r
-    starts {b = b} {e} {r} q k w = rw (sym q ∙ k) (rw starts_as at w)
+        → Continues t table (to_give p.given (comes t table p.here no_blocks)) p.at b e r → Continues t table (fresh (text_verdict t)) 0 b e r
+    starts {b = b} {e} {r} q k w =
+        let w : Continues t table (to_give 0 (comes t table (start_of m) no_blocks)) 0 b e r =
+        subst (λ (y : Progress). Continues t table (to_give y.given (comes t table y.here no_blocks)) y.at b e r) is w in
+        rw (sym q ∙ k) (rw (sym (ap (λ (y : Progress). comes t table y.here no_blocks) is) ∙ starts_as) at w)
 
   -- 4. A state that is begun
 
@@ -145,13 +146,13 @@ module _ (t table : List ℕ) where
         append_before (record { joined = wrote.joined; size = wrote.size; behind = wrote.behind; least = wrote.least; most = wrote.most })
         (drop s.given (to_give 0 (comes t table (here_of s) s.nest)).bytes)
 
-    pub cuts : {st : State} {r : Resumed} → (w.rest.stage ≡ 0 → ⊥) → st ≡ begun_state h s.nest s.given w.rest → r ≡ more_with w.at st
+    pub cuts : {r : Resumed} → (w.rest.stage ≡ 0 → ⊥) → r ≡ more_with w.at (begun_state h s.nest s.given w.rest)
         → Continues t table Remain 0 b c r
-    cuts {st} {r} left q is =
+    cuts {r} left q =
         let stops = wrote.stops left in
         let m = begun_remains t table s.given (in_range_lem t table s k).0 wrote.inside a in
-        let st_is : st ≡ begun_state (here_of s) s.nest s.given w.rest = q ∙ rw here in
-        subst (Continues t table Remain 0 b c) (sym (is ∙ ap (more_with w.at) st_is))
+        let is : r ≡ more_with w.at (begun_state (here_of s) s.nest s.given w.rest) = q ∙ rw here in
+        subst (Continues t table Remain 0 b c) (sym is)
         (record {
           written = rw m rest_gone;
           finish = rw m;

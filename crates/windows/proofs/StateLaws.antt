@@ -1,15 +1,14 @@
 -- The numbers of a state: whether they are in range, as the code tests it, and what follows. Assumes nothing.
-use Prim.Native.Nat.{ℕ, zero, suc, ◌+◌, ◌-◌, ◌≤◌, ◌<◌}
+use Prim.Native.Nat.{ℕ, zero, suc, ◌-◌, ◌<◌}
 use mathlib.Core.Path.{◌≡◌, sym, ◌∙◌}
 use mathlib.Core.Bool.{Bool, true, false}
 use mathlib.Core.List.{List}
 use native.Mathlib.Omega.{arith}
-use lib.Dec.{leb}
 use lib.ListN.{length}
-use borrow.Author.Tests.{leb-true, le-leb, lt-leb}
+use borrow.Author.Tests.{leb-true, le-leb}
 use Rattle.rules.specs.Choice.{both}
 use Rattle.rules.specs.Table.{table_verdict}
-use Rattle.rules.specs.declared.Verdict.TheVariants.{Accepted}
+use Rattle.rules.specs.Verdict.{Accepted}
 use Rattle.rules.proofs.Tests.{both_true, true_both}
 use Rattle.pieces.specs.Rest.{RestIn}
 use Rattle.pieces.specs.declared.resuming.QuoteRest.{QuoteRest}
@@ -23,15 +22,6 @@ use Rattle.windows.specs.States.{here_of, is_sound, to_come, remains}
 use Rattle.windows.specs.Continuing.{begun_state}
 
 -- 1. The tests
-
--- arguments among n entries
-pub hand_out : (first count next : ℕ) {n entries : ℕ} → n ≡ entries → n < first + count
-    → false ≡ both (leb (first + count) entries) (leb next count)
-hand_out first count next {n} {entries} q h = rw (lt-leb (first + count) entries (omega arith))
-
-pub hand_in : (first count next : ℕ) {n entries : ℕ} → n ≡ entries → first + count ≤ n
-    → leb next count ≡ both (leb (first + count) entries) (leb next count)
-hand_in first count next {n} {entries} q h = rw (le-leb (first + count) entries (omega arith))
 
 -- the open blocks, from the innermost on
 module _ (n : ℕ) (table : List ℕ) (o : Nest) where

@@ -72,13 +72,16 @@ abbrev pub more_with : ℕ → State → Resumed
 more_with written s = record { code = 256; position = 0; steps = 0; written = written; state = s }
 
 -- the answer after the steps that filled a window
+abbrev pub more_on : Step → Resumed
+more_on r = more_with r.put.progress.at (begun_state r.put.progress.here r.nest r.put.progress.given r.put.rest)
+
 abbrev pub resumed_by : Reach → Step → Resumed
-resumed_by On r = more_with r.at (begun_state r.here r.nest r.given r.rest)
-resumed_by (Over code p) r = ended_with code p (limit - r.here.left) r.at
-resumed_by Full r = more_with r.at (begun_state r.here r.nest r.given r.rest)
+resumed_by On r = more_on r
+resumed_by (Over code p) r = ended_with code p (limit - r.put.progress.here.left) r.put.progress.at
+resumed_by Full r = more_on r
 
 abbrev pub resumed_at : Step → Resumed
-resumed_at r = resumed_by r.reach r
+resumed_at r = resumed_by r.put.reach r
 
 -- a call stops at the end, or where the next byte has no room
 pub data Halts (t table : List ℕ) (room : ℕ) (r : Resumed) : Type 0 where

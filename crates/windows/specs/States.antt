@@ -5,8 +5,8 @@ use Rattle.rules.specs.Flow.{Flow, limit, given_text, finish_of}
 use Rattle.rules.specs.Table.{view_of, table_verdict}
 use Rattle.rules.specs.Text.{deepest, longest, text_verdict}
 use Rattle.rules.specs.Answer.{flow_of}
-use Rattle.rules.specs.declared.Verdict.{Verdict}
-use Rattle.rules.specs.declared.Verdict.TheVariants.{Accepted, Refused}
+use Rattle.rules.specs.Verdict.{Verdict}
+use Rattle.rules.specs.Verdict.{Accepted, Refused}
 use Rattle.pieces.specs.Rest.{rest_of}
 use Rattle.pieces.specs.declared.resuming.QuoteRest.{QuoteRest}
 use Rattle.nesting.specs.Nest.{hand_lies, all_lie}

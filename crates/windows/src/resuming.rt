@@ -4,64 +4,69 @@ ghost use Rattle.std.specs.Prelude.{◌≡◌, true, ◌≤◌};
 ghost use Rattle.rules.specs.Answer.{flow_of};
 ghost use Rattle.rules.specs.Table.{table_verdict, view_of};
 ghost use Rattle.rules.specs.Text.{text_verdict};
-ghost use Rattle.rules.specs.declared.Verdict.TheVariants.{Accepted};
-ghost use Rattle.blocks.specs.Landmarks.{Landmarks};
+ghost use Rattle.rules.specs.Refusals.{code_of};
+ghost use Rattle.rules.specs.Verdict.{Accepted};
 ghost use Rattle.nesting.specs.Moves.{told, comes};
 ghost use Rattle.filling.specs.Filling.{to_give};
 ghost use Rattle.filling.specs.Steps.{Standing};
 ghost use Rattle.windows.specs.States.{here_of, is_sound, to_come, if_sound, unless_wrong};
 ghost use Rattle.windows.specs.Calls.{Resumes};
-ghost use Rattle.windows.specs.Continuing.{no_blocks, start_of, ended_with, begun_state, more_with, resumed_at, Continues};
+ghost use Rattle.windows.specs.Continuing.{start_of, ended_with, begun_state, more_with, resumed_at, Continues};
 
 use crate::state::{Resumed, State, here_of, is_sound};
-use blocks::landmarks::{CELLS, EMPTY, is_worth_landmarks};
-use filling::giving::Reach;
+use blocks::landmarks::{EMPTY, MOST_LANDMARKS, is_worth_landmarks};
+use filling::giving::{NO_REST, Progress, Put, Reach};
 use filling::steps::{Step, fill_window};
 use nesting::moves::Here;
 use nesting::nests::Nest;
 use parameters::Hand;
 use pieces::resuming::{QuoteRest, write_rest};
 use rules::limits::MOST_STEPS;
-use rules::{ArgumentPosition, EntryIndex, Verdict};
+use rules::refusal::{Fault, Refusal};
+use rules::{ArgumentPosition, EntryIndex};
 use syntax::text::check_text;
 use table::{argument_count, check_table};
 
 // The code of a call that did not come to the end. It is no code of 01.
 pub const MORE: u32 = 256;
 
-// The stages of a state: begun, and any above it ended
+// The stages of a state: begun, and any above it ended. A state is a caller's, so its stage is a number.
 const BEGUN: usize = 1;
 
 const ENDED: usize = 2;
 
-// No block is open.
-fn no_blocks() -> Nest
-    ensures { result ≡ no_blocks }
-{
-    Nest {
-        depth: 0,
-        kinds: [0; 8],
-        places: [0; 8],
-        insides: [0; 8],
-        passes: [0; 8],
-        starts: [0; 8],
-        counts: [0; 8],
-        positions: [0; 8],
-    }
-}
+// No number is set.
+const EMPTY_STATE: State = State {
+    stage: 0,
+    code: 0,
+    position: 0,
+    steps: 0,
+    left: 0,
+    place: 0,
+    given: 0,
+    first: 0,
+    count: 0,
+    next: 0,
+    nest: Nest::EMPTY,
+    rest: NO_REST,
+};
 
 // The start of a run over so many arguments.
-fn start_of(count: usize) -> Here
-    ensures { result ≡ start_of count }
+fn start_of(count: usize) -> Progress
+    ensures { result ≡ record { here = start_of count; given = 0; at = 0 } }
 {
-    Here {
-        place: 0,
-        left: MOST_STEPS,
-        hand: Hand {
-            first: EntryIndex(0),
-            count,
+    Progress {
+        here: Here {
+            place: 0,
+            left: MOST_STEPS,
+            hand: Hand {
+                first: EntryIndex(0),
+                count,
+            },
+            next: ArgumentPosition(0),
         },
-        next: ArgumentPosition(0),
+        given: 0,
+        at: 0,
     }
 }
 
@@ -79,23 +84,16 @@ fn ended(code: u32, position: usize, steps: usize, written: usize) -> Resumed
             code,
             position,
             steps,
-            left: 0,
-            place: 0,
-            given: 0,
-            first: 0,
-            count: 0,
-            next: 0,
-            nest: no_blocks(),
-            rest: QuoteRest {
-                stage: 0,
-                before: 0,
-                start: 0,
-                end: 0,
-                behind: 0,
-                pad: 0,
-            },
+            ..EMPTY_STATE
         },
     }
+}
+
+// A refusal before the run.
+fn refused(fault: Fault) -> Resumed
+    ensures { result ≡ ended_with (code_of fault.refusal) fault.position 0 0 }
+{
+    ended(fault.refusal.code(), fault.position, 0, 0)
 }
 
 // More, from a state on.
@@ -111,97 +109,69 @@ fn more(written: usize, state: State) -> Resumed
     }
 }
 
-// The state of a run that goes on here.
-fn begun(here: Here, nest: Nest, given: usize, rest: QuoteRest) -> State
-    ensures { result ≡ begun_state here nest given rest }
+// More, from where a run stands.
+fn begun(progress: Progress, nest: Nest, rest: QuoteRest) -> Resumed
+    ensures { result ≡ more_with progress.at (begun_state progress.here nest progress.given rest) }
 {
-    let hand = here.hand;
-    let first = hand.first;
-    let next = here.next;
-    State {
+    let Progress { here, given, at } = progress;
+    let state = State {
         stage: BEGUN,
-        code: 0,
-        position: 0,
-        steps: 0,
         left: here.left,
         place: here.place,
         given,
-        first: first.0,
-        count: hand.count,
-        next: next.0,
+        first: here.hand.first.0,
+        count: here.hand.count,
+        next: here.next.0,
         nest,
         rest,
-    }
+        ..EMPTY_STATE
+    };
+    more(at, state)
 }
 
 // The answer after the steps that filled the window.
 fn resumed_at(step: Step) -> Resumed
-    requires { step.here.left ≤ 65536 }
+    requires { step.put.progress.here.left ≤ 65536 }
     ensures { result ≡ resumed_at step }
 {
-    let reach = step.reach;
-    let here = step.here;
-    let nest = step.nest;
-    let rest = step.rest;
+    let Put {
+        reach,
+        progress,
+        rest,
+    } = step.put;
     match reach {
-        Reach::Over { code, position } => ended(code, position, MOST_STEPS - here.left, step.at),
-        _ => more(step.at, begun(here, nest, step.given, rest)),
+        Reach::Over { code, position } => {
+            ended(code, position, MOST_STEPS - progress.here.left, progress.at)
+        }
+        _ => begun(progress, step.nest, rest),
     }
 }
 
-// The run from where it stands, in a window that has so much written.
-fn run_by(
-    format: &[u8],
-    marks: &mut [u16],
-    table: &[u8],
-    here: Here,
-    nest: Nest,
-    given: usize,
-    window: &mut [u8],
-    at: usize,
-) -> Resumed
-    requires landmarks { Landmarks format.now marks.old }
-    requires standing { Standing format.now table.now here nest at window.old }
-    ensures { Continues format.now table.now (to_give given (comes format.now table.now here nest)) at window.old window.new result }
-{
-    resumed_at(fill_window(format, marks, table, here, nest, given, window, at))
-}
-
-// The same, with room for the landmarks of a long text.
-fn run_long(
+// The run from where it stands, with room for so many numbers of landmarks.
+fn run_with<const ROOM: usize>(
     format: &[u8],
     table: &[u8],
-    here: Here,
+    progress: Progress,
     nest: Nest,
-    given: usize,
     window: &mut [u8],
-    at: usize,
 ) -> Resumed
-    requires { Standing format.now table.now here nest at window.old }
-    ensures { Continues format.now table.now (to_give given (comes format.now table.now here nest)) at window.old window.new result }
+    requires fits { ROOM ≤ 4096 }
+    requires standing { Standing format.now table.now progress.here nest progress.at window.old }
+    ensures { Continues format.now table.now (to_give progress.given (comes format.now table.now progress.here nest)) progress.at window.old window.new result }
 {
-    let mut marks = [EMPTY; CELLS];
-    run_by(format, &mut marks, table, here, nest, given, window, at)
+    let mut marks = [EMPTY; ROOM];
+    resumed_at(fill_window(format, &mut marks, table, progress, nest, window))
 }
 
 // The same, with that room only where it may save time.
-fn run_on(
-    format: &[u8],
-    table: &[u8],
-    here: Here,
-    nest: Nest,
-    given: usize,
-    window: &mut [u8],
-    at: usize,
-) -> Resumed
-    requires { Standing format.now table.now here nest at window.old }
-    ensures { Continues format.now table.now (to_give given (comes format.now table.now here nest)) at window.old window.new result }
+fn run_on(format: &[u8], table: &[u8], progress: Progress, nest: Nest, window: &mut [u8]) -> Resumed
+    requires { Standing format.now table.now progress.here nest progress.at window.old }
+    ensures { Continues format.now table.now (to_give progress.given (comes format.now table.now progress.here nest)) progress.at window.old window.new result }
 {
     if is_worth_landmarks(format) {
-        return run_long(format, table, here, nest, given, window, at);
+        return run_with::<MOST_LANDMARKS>(format, table, progress, nest, window);
     }
-    let mut marks = [EMPTY; 0];
-    run_by(format, &mut marks, table, here, nest, given, window, at)
+    run_with::<0>(format, table, progress, nest, window)
 }
 
 // A fresh state: the text is checked, and then run from its start.
@@ -209,18 +179,12 @@ fn start(format: &[u8], table: &[u8], window: &mut [u8]) -> Resumed
     requires { table_verdict table.now ≡ Accepted }
     ensures { Continues format.now table.now (unless_wrong (text_verdict format.now) (λ _. told (flow_of format.now (view_of table.now)))) 0 window.old window.new result }
 {
-    let texts = check_text(format);
-    match texts {
-        Verdict::Refused { code, position } => ended(code, position, 0, 0),
-        Verdict::Accepted => run_on(
-            format,
-            table,
-            start_of(argument_count(table)),
-            no_blocks(),
-            0,
-            window,
-            0,
-        ),
+    match check_text(format) {
+        Err(fault) => refused(fault),
+        Ok(()) => {
+            let progress = start_of(argument_count(table));
+            run_on(format, table, progress, Nest::EMPTY, window)
+        }
     }
 }
 
@@ -230,15 +194,16 @@ fn go_on(format: &[u8], table: &[u8], window: &mut [u8], s: State) -> Resumed
     requires s_value { is_sound format.now table.now s ≡ true }
     ensures { Continues format.now table.now (to_come table.now s.rest s.given (comes format.now table.now (here_of s) s.nest)) 0 window.old window.new result }
 {
-    let here = here_of(s);
-    let nest = s.nest;
-    let rest = s.rest;
-    let w = write_rest(rest, table, window, 0);
-    let left = w.rest;
-    if left.stage != 0 {
-        return more(w.at, begun(here, nest, s.given, left));
+    let w = write_rest(s.rest, table, window, 0);
+    let progress = Progress {
+        here: here_of(s),
+        given: s.given,
+        at: w.at,
+    };
+    if w.rest.stage != 0 {
+        return begun(progress, s.nest, w.rest);
     }
-    run_on(format, table, here, nest, s.given, window, w.at)
+    run_on(format, table, progress, s.nest, window)
 }
 
 // A state that is begun. One that no call gave may be out of range.
@@ -249,7 +214,7 @@ fn pick_up(format: &[u8], table: &[u8], window: &mut [u8], s: State) -> Resumed
     if is_sound(format, table, s) {
         return go_on(format, table, window, s);
     }
-    ended(4, 0, 0, 0)
+    ended(Refusal::BadBlock.code(), 0, 0, 0)
 }
 
 // Any bytes as format and as table, any window, any state: as much of what remains as the window has room for.
@@ -269,10 +234,9 @@ pub fn resume(format: &[u8], table: &[u8], window: &mut [u8], state: State) -> R
     if no_room {
         return more(0, state);
     }
-    let tables = check_table(table);
-    match tables {
-        Verdict::Refused { code, position } => ended(code, position, 0, 0),
-        Verdict::Accepted => {
+    match check_table(table) {
+        Err(fault) => refused(fault),
+        Ok(()) => {
             if state.stage == BEGUN {
                 return pick_up(format, table, window, state);
             }

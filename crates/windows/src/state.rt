@@ -4,7 +4,7 @@ ghost use Rattle.nesting.specs.Nest.{hand_lies, block_lies, all_lie};
 ghost use Rattle.windows.specs.States.{here_of, rest_lies, is_sound};
 
 use nesting::moves::Here;
-use nesting::nests::{Block, Nest, block_at};
+use nesting::nests::{Block, Nest};
 use parameters::Hand;
 use pieces::resuming::QuoteRest;
 use rules::limits::{DEEPEST, LONGEST_FORMAT, MOST_STEPS};
@@ -71,15 +71,8 @@ fn hand_lies(table: &[u8], hand: Hand, next: ArgumentPosition) -> bool
     requires { 8 ≤ length table.now }
     ensures { result ≡ hand_lies table.now hand next.0 }
 {
-    let first = hand.first;
     let n = entry_count(table);
-    if n < first.0 {
-        return false;
-    }
-    if n - first.0 < hand.count {
-        return false;
-    }
-    next.0 <= hand.count
+    hand.first.0 <= n && hand.count <= n - hand.first.0 && next.0 <= hand.count
 }
 
 // Whether the numbers of an open block are in range, in a text of so many bytes.
@@ -87,12 +80,7 @@ fn block_lies(size: usize, table: &[u8], block: Block) -> bool
     requires { 8 ≤ length table.now }
     ensures { result ≡ block_lies size table.now block }
 {
-    if size < block.inside {
-        return false;
-    }
-    let hand = block.hand;
-    let next = block.next;
-    hand_lies(table, hand, next)
+    block.inside <= size && hand_lies(table, block.hand, block.next)
 }
 
 // Whether those of all the open blocks are.
@@ -101,10 +89,8 @@ fn all_lie(size: usize, table: &[u8], nest: Nest) -> bool
     requires depth_bound { nest.depth ≤ 8 }
     ensures { result ≡ all_lie size table.now nest nest.depth }
 {
-    let mut i = nest.depth;
-    while 0 < i {
-        i -= 1;
-        if !block_lies(size, table, block_at(nest, i)) {
+    for i in (0..nest.depth).rev() {
+        if !block_lies(size, table, nest.block_at(i)) {
             return false;
         }
     }
@@ -115,16 +101,10 @@ fn all_lie(size: usize, table: &[u8], nest: Nest) -> bool
 fn rest_lies(table: &[u8], rest: QuoteRest) -> bool
     ensures { result ≡ rest_lies table.now rest }
 {
-    if rest.end < rest.start {
-        return false;
-    }
-    if table.len() < rest.end {
-        return false;
-    }
-    if MOST_PADDING < rest.before {
-        return false;
-    }
-    rest.behind <= MOST_PADDING
+    rest.start <= rest.end
+        && rest.end <= table.len()
+        && rest.before <= MOST_PADDING
+        && rest.behind <= MOST_PADDING
 }
 
 // Whether all numbers of a state that is begun are in range.
@@ -133,27 +113,11 @@ pub fn is_sound(format: &[u8], table: &[u8], s: State) -> bool
     ensures { result ≡ is_sound format.now table.now s }
 {
     let here = here_of(s);
-    let hand = here.hand;
-    let next = here.next;
-    let nest = s.nest;
-    let rest = s.rest;
-    if LONGEST_FORMAT < format.len() {
-        return false;
-    }
-    if DEEPEST < nest.depth {
-        return false;
-    }
-    if MOST_STEPS < s.left {
-        return false;
-    }
-    if format.len() < s.place {
-        return false;
-    }
-    if !hand_lies(table, hand, next) {
-        return false;
-    }
-    if !all_lie(format.len(), table, nest) {
-        return false;
-    }
-    rest_lies(table, rest)
+    format.len() <= LONGEST_FORMAT
+        && s.nest.depth <= DEEPEST
+        && s.left <= MOST_STEPS
+        && s.place <= format.len()
+        && hand_lies(table, here.hand, here.next)
+        && all_lie(format.len(), table, s.nest)
+        && rest_lies(table, s.rest)
 }

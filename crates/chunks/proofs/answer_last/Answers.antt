@@ -1,9 +1,11 @@
 -- `chunks::answer_last` meets its contract: no line, or one. Assumes nothing.
+use borrow.Author.Rules.{rules}
+use borrow.Author.Tests.{tests}
 use Rattle.chunks.proofs.Buffers.{last_none, last_one}
 use Rattle.chunks.proofs.answer_last.Goals as goal
 
-pub returns-then-line-eq0 : goal.returns-then-line-eq0
-returns-then-line-eq0 c = last_none c.args.line.now c.if-line-eq0.true
+pub returns-then-is_empty : goal.returns-then-is_empty
+returns-then-is_empty c = last_none c.args.line.now (search (rules, tests))
 
 pub returns : goal.returns
-returns c = rw (last_one c.args.line.now c.if-line-eq0.false) c.add_answer.ensures
+returns c = rw (last_one c.args.line.now (search (rules, tests))) c.add_answer.ensures

@@ -3,7 +3,7 @@ use borrow.Author.Rules.{rules}
 use mathlib.Core.Path.{refl}
 use native.Mathlib.Omega.{arith}
 use Rattle.chunks.proofs.Buffers.{front_within}
-use Rattle.chunks.proofs.Steps.{take_none, held_within, filled_within, end_within, take_rest, take_line, far_full, far_all}
+use Rattle.chunks.proofs.Steps.{take_none, held_within, end_within, take_rest, take_line, far_full}
 use Rattle.chunks.proofs.feed.Goals as goal
 
 pub loop-from-init : goal.loop-from-init
@@ -16,29 +16,6 @@ loop-from-init c = (
   refl,
   refl,
 )
-
-pub overflow_sub-out : goal.overflow_sub-out
-overflow_sub-out c = filled_within c.loop-from.invariant.0
-
-pub shape_of-line-then-out-filled-lt32795 : goal.shape_of-line-then-out-filled-lt32795
-shape_of-line-then-out-filled-lt32795 c = c.loop-from.invariant.2
-
-pub shape_of-frame-then-out-filled-lt32795 : goal.shape_of-frame-then-out-filled-lt32795
-shape_of-frame-then-out-filled-lt32795 c = c.loop-from.invariant.3
-
-pub shape_of-text-then-out-filled-lt32795 : goal.shape_of-text-then-out-filled-lt32795
-shape_of-text-then-out-filled-lt32795 c = c.loop-from.invariant.4
-
-pub shape_of-out-then-out-filled-lt32795 : goal.shape_of-out-then-out-filled-lt32795
-shape_of-out-then-out-filled-lt32795 c = c.loop-from.invariant.5
-
-pub returns-then-out-filled-lt32795-clause-taken : goal.returns-then-out-filled-lt32795-clause-taken
-returns-then-out-filled-lt32795-clause-taken c = c.loop-from.invariant.0
-
-pub returns-then-out-filled-lt32795-clause-far_enough : goal.returns-then-out-filled-lt32795-clause-far_enough
-returns-then-out-filled-lt32795-clause-far_enough c =
-    far_full c.args.chunk.now c.loop-from.from c.loop-from.invariant.1 c.requires.in_bounds_3
-    c.loop-from.invariant.0 (omega (arith, c.if-out-filled-lt32795.true, c.loop-from.invariant.5))
 
 pub slice_bounds-hold-count : goal.slice_bounds-hold-count
 slice_bounds-hold-count c = omega (arith, c.line_end-end.ensures)
@@ -108,22 +85,7 @@ loop-from-preserved c = (
   search rules,
 )
 
-pub shape_of-line : goal.shape_of-line
-shape_of-line c = c.loop-from.invariant.2
-
-pub shape_of-frame : goal.shape_of-frame
-shape_of-frame c = c.loop-from.invariant.3
-
-pub shape_of-text : goal.shape_of-text
-shape_of-text c = c.loop-from.invariant.4
-
-pub shape_of-out : goal.shape_of-out
-shape_of-out c = c.loop-from.invariant.5
-
-pub returns-clause-taken : goal.returns-clause-taken
-returns-clause-taken c = c.loop-from.invariant.0
-
-pub returns-clause-far_enough : goal.returns-clause-far_enough
-returns-clause-far_enough c =
-    far_all c.args.chunk.now c.loop-from.from c.loop-from.invariant.1
-    c.requires.in_bounds_3 c.loop-from.invariant.0 c.loop-from-test.false
+pub returns-else-out-filled-ge32795-clause-far_enough : goal.returns-else-out-filled-ge32795-clause-far_enough
+returns-else-out-filled-ge32795-clause-far_enough c =
+    far_full c.args.chunk.now c.loop-from.from c.loop-from.invariant.1 c.requires.in_bounds_3
+    c.loop-from.invariant.0 (omega (arith, c.if-out-filled-ge32795.false, c.loop-from.invariant.5))

@@ -1,31 +1,22 @@
--- `chunks::line_end` meets its contract. From each byte that is passed the line ends at one place. Assumes nothing.
-use mathlib.Core.Path.{refl}
+-- `chunks::line_end` meets its contract: at the first newline, or behind all of the bytes. Assumes nothing.
+use mathlib.Core.Path.{sym, ◌∙◌}
 use native.Mathlib.Omega.{arith}
-use Rattle.chunks.proofs.Cuts.{at_newline, at_other, at_end_lem}
+use lib.ListN.{drop, length-drop}
+use Rattle.chunks.proofs.Cuts.{rest_lent, end_found, end_missing}
 use Rattle.chunks.proofs.line_end.Goals as goal
 
-pub loop-i-init : goal.loop-i-init
-loop-i-init c = (refl, c.requires)
+pub returns-in-Some : goal.returns-in-Some
+returns-in-Some c =
+    let chunk = c.args.chunk.now in
+    let all = rest_lent chunk c.args.from in
+    omega (arith, end_found (drop c.args.from chunk) (rw all at (sym c.in-Some.is ∙ c.newline_in.ensures)))
 
-pub returns-then-chunk-i-eq10 : goal.returns-then-chunk-i-eq10
-returns-then-chunk-i-eq10 c =
+pub returns-in-None : goal.returns-in-None
+returns-in-None c =
+    let chunk = c.args.chunk.now in
+    let all = rest_lent chunk c.args.from in
     omega (
       arith,
-      c.loop-i.invariant.0,
-      at_newline c.args.chunk.now c.loop-i.i c.loop-i-test.true
-          c.if-chunk-i-eq10.true,
+      end_missing (drop c.args.from chunk) (rw all at (sym c.in-None.is ∙ c.newline_in.ensures)),
+      length-drop c.args.from chunk,
     )
-
-pub loop-i-preserved : goal.loop-i-preserved
-loop-i-preserved c = (
-  omega (
-    arith,
-    c.loop-i.invariant.0,
-    at_other c.args.chunk.now c.loop-i.i c.loop-i-test.true
-        c.if-chunk-i-eq10.false,
-  ),
-  omega arith,
-)
-
-pub returns : goal.returns
-returns c = omega (arith, c.loop-i.invariant.0, at_end_lem c.args.chunk.now c.loop-i.i c.loop-i-test.false)

@@ -1,21 +1,25 @@
--- `table::signed` meets its contract: both halves of the range, by SignLaws. Assumes nothing.
-use Prim.Native.Nat.{◌+◌, ◌*◌}
+-- `table::signed` meets its contract: bits from 2^63 on are the negative numbers. Assumes nothing.
+use Prim.Native.Nat.{ℕ, suc, ◌-◌, ◌^◌}
+use mathlib.Core.Path.{◌≡◌}
+use native.Mathlib.Decide.{dec_lt}
 use native.Mathlib.Omega.{arith}
-use Rattle.table.proofs.SignLaws.{lower_half, UpperHalf, upper_half}
+use borrow.Author.Tests.{le-ltb, lt-ltb}
+use mir.Syntax.{w64}
+use mir.Val.{to_z}
+use mir.ValLaws.{to_z-of_z}
+use Rattle.rules.specs.Table.{signed_of}
 use Rattle.table.proofs.signed.Goals as goal
-use Rattle.table.proofs.signed.Goals.{Else-bits-lt9223372036854775808}
 
-negative : (c : Else-bits-lt9223372036854775808) → UpperHalf (c.args.high * 4294967296 + c.args.low)
-negative c =
-    upper_half (c.args.high * 4294967296 + c.args.low) c.if-bits-lt9223372036854775808.false (omega arith)
+by_half : (bits : ℕ) → to_z w64 bits ≡ signed_of bits
+unfolding signed_of
+by_half bits =
+    let e : 2 ^ 64 - suc bits ≡ 18446744073709551615 - bits = omega arith in
+    elim (dec_lt bits 9223372036854775808) [
+      | yes h ↦ rw (lt-ltb bits 9223372036854775808 h)
+      | no h ↦ rw (le-ltb bits 9223372036854775808 (omega arith), e)
+    ]
 
-pub overflow_sub-result-else-bits-lt9223372036854775808 : goal.overflow_sub-result-else-bits-lt9223372036854775808
-overflow_sub-result-else-bits-lt9223372036854775808 c =
-    (negative c).fits
-
-pub returns-then-bits-lt9223372036854775808 : goal.returns-then-bits-lt9223372036854775808
-returns-then-bits-lt9223372036854775808 c = lower_half (c.args.high * 4294967296 + c.args.low) c.if-bits-lt9223372036854775808.true
-
-pub returns-else-bits-lt9223372036854775808 : goal.returns-else-bits-lt9223372036854775808
-returns-else-bits-lt9223372036854775808 c =
-    (negative c).reads
+pub returns : goal.returns
+returns c =
+    rw (to_z-of_z w64 c.cast_signed.result (record { sfits = c.cast_signed.type_inv }), c.cast_signed.ensures, c.from.ensures, c.from-2.ensures)
+    (by_half _)

@@ -1,7 +1,8 @@
 -- The runners meet their contracts. The levels that are left fall at each block; the text falls in each turn of the runner
 -- of a sequence, and the steps in each pass. The loops: whatever ends from here is the whole. Assumes nothing.
 use borrow.Enum.Refused.{opened}
-use mathlib.Core.Path.{refl, sym, ap, subst, ◌∙◌}
+use mathlib.Core.Path.{◌≡◌, refl, sym, ap, subst, ◌∙◌}
+use Rattle.std.proofs.Common.{rules, Result, Ok}
 use mathlib.Core.Bool.{Bool}
 use mathlib.Core.List.{◌∷◌}
 use native.Mathlib.Omega.{arith}
@@ -15,21 +16,24 @@ use Rattle.parameters.proofs.WorkLaws.{hand_small}
 use Rattle.parameters.proofs.SettleLaws.{all_supplied_lem}
 use Rattle.parameters.proofs.Answers.{next_reaches, run_settled, run_refused}
 use Rattle.blocks.specs.Clauses.{on_chosen, ChosenIn}
+use Rattle.rules.specs.declared.refusal.Refusal.{Refusal}
 use Rattle.blocks.specs.declared.clauses.Chosen.{Chosen}
+use Rattle.blocks.specs.declared.clauses.Chosen.TheVariants.{At, Nothing}
 use Rattle.blocks.specs.Parts.{ends_at, iterates, on_over, outside_of, OverIn}
 use Rattle.blocks.specs.declared.passes.Over.{Over}
 use Rattle.actions.specs.Ran.{begun}
 use Rattle.running.specs.Runs.{Blocks, rest_at, picking, entering, inside, opening}
 use Rattle.actions.proofs.ActLaws.{settings_ill}
-use Rattle.stepping.proofs.ItemLaws.{is_ended_lem}
+use Rattle.std.proofs.Common.{rules}
+use Rattle.actions.specs.declared.state.Stop.TheVariants.{Ended}
 use Rattle.running.proofs.Places.{literal_at, literal_ahead, alone_at, directive_ahead}
 use Rattle.running.proofs.Strides.{strides_runs_on, runs_on}
 use Rattle.rules.proofs.Bases.{code_right}
-use Rattle.running.proofs.BlockArms.{blocks_nothing, blocks_clause, blocks_clause_left, blocks_clause_refused, blocks_as}
+use Rattle.running.proofs.BlockArms.{blocks_nothing, blocks_as}
 use Rattle.blocks.proofs.ClauseLaws.{inside_start}
 use Rattle.blocks.proofs.EndLaws.{no_other}
 use Rattle.blocks.proofs.PassLaws.{over_hand}
-use Rattle.engine.proofs.RunnerLaws.{sequence_stops, steps_stopped, literal_inside, acts_alone_lem, refused_at_lem, written_inside, left_at, place_at, block_deep, block_none, block_opens, blocks_told, closes_after, ends_inside, over_blocks, passes_from, passes_over_told, passes_none_told, passes_on_told, passes_stopped}
+use Rattle.engine.proofs.RunnerLaws.{clause_ended, clause_stopped, sequence_stops, steps_stopped, literal_inside, acts_alone_lem, refused_at_lem, written_inside, left_at, place_at, block_deep, block_none, block_opens, blocks_told, closes_after, ends_inside, over_blocks, passes_from, passes_over_told, passes_none_told, passes_on_told, passes_stopped}
 use Rattle.rules.proofs.TextLaws.{next_inside}
 use Rattle.engine.proofs.runners.+runs.Goals as goal
 
@@ -66,32 +70,27 @@ pub run_clause-block_end-requires-clause-landmarks : goal.run_clause-block_end-r
 run_clause-block_end-requires-clause-landmarks t c = c.requires.landmarks
 
 pub run_clause-block_end-requires-clause-inside_at : goal.run_clause-block_end-requires-clause-inside_at
-run_clause-block_end-requires-clause-inside_at t c = ends_inside c.requires.inside_at (c.run_sequence-r.ensures.ends c.in-Ended.is)
+run_clause-block_end-requires-clause-inside_at t c =
+    let halt : c.run_sequence-r.result.stop ≡ Ended = search rules in
+    ends_inside c.requires.inside_at (c.run_sequence-r.ensures.ends halt)
 
-pub run_clause-shape_of-out-in-Ended : goal.run_clause-shape_of-out-in-Ended
-run_clause-shape_of-out-in-Ended t c = c.run_sequence-r.ensures.does.size
+pub run_clause-shape_of-out-then-ne : goal.run_clause-shape_of-out-then-ne
+run_clause-shape_of-out-then-ne t c = c.run_sequence-r.ensures.does.size
 
-pub run_clause-returns-in-Ended : goal.run_clause-returns-in-Ended
-run_clause-returns-in-Ended t c =
+pub run_clause-returns-then-ne : goal.run_clause-returns-then-ne
+run_clause-returns-then-ne t c =
     let a = c.args in
-    let u = c.run_sequence-r.ensures in
-    record { is = λ f h. blocks_clause (levels_at a.text.now) (length a.text.now) (view_of a.table.now) a.stand.hand.first.0 a.stand.hand.count a.level a.q f a.stand.left a.stand.at a.out.now a.z a.stand.next.0 h u c.in-Ended.is _ (closes_after c.block_end.ensures) }
+    let halts : c.run_sequence-r.result.stop ≡ Ended → ⊥ = search rules in
+    clause_stopped (levels_at a.text.now) (length a.text.now) (view_of a.table.now) a.stand.hand.first.0 a.stand.hand.count a.level a.q a.z a.stand.next.0 a.stand.left a.stand.at a.out.now c.run_sequence-r.ensures halts
 
-pub run_clause-shape_of-out-in-Escaped : goal.run_clause-shape_of-out-in-Escaped
-run_clause-shape_of-out-in-Escaped t c = c.run_sequence-r.ensures.does.size
+pub run_clause-shape_of-out : goal.run_clause-shape_of-out
+run_clause-shape_of-out t c = c.run_sequence-r.ensures.does.size
 
-pub run_clause-returns-in-Escaped : goal.run_clause-returns-in-Escaped
-run_clause-returns-in-Escaped t c =
+pub run_clause-returns : goal.run_clause-returns
+run_clause-returns t c =
     let a = c.args in
-    record { is = λ f h. blocks_clause_left (levels_at a.text.now) (length a.text.now) (view_of a.table.now) a.stand.hand.first.0 a.stand.hand.count a.level a.q f a.stand.left a.stand.at a.out.now a.z a.stand.next.0 h c.run_sequence-r.ensures c.in-Escaped.is }
-
-pub run_clause-shape_of-out-in-Refused : goal.run_clause-shape_of-out-in-Refused
-run_clause-shape_of-out-in-Refused t c = c.run_sequence-r.ensures.does.size
-
-pub run_clause-returns-in-Refused : goal.run_clause-returns-in-Refused
-run_clause-returns-in-Refused t c =
-    let a = c.args in
-    record { is = λ f h. blocks_clause_refused (levels_at a.text.now) (length a.text.now) (view_of a.table.now) a.stand.hand.first.0 a.stand.hand.count a.level a.q f a.stand.left a.stand.at a.out.now a.z a.stand.next.0 h c.run_sequence-r.ensures _ _ c.in-Refused.is }
+    let halt : c.run_sequence-r.result.stop ≡ Ended = search rules in
+    clause_ended (levels_at a.text.now) (length a.text.now) (view_of a.table.now) a.stand.hand.first.0 a.stand.hand.count a.level a.q a.z a.stand.next.0 a.stand.left a.stand.at a.out.now c.run_sequence-r.ensures halt _ (closes_after c.block_end.ensures)
 
 pub run_conditional-choose_clause-chosen-requires-clause-landmarks : goal.run_conditional-choose_clause-chosen-requires-clause-landmarks
 run_conditional-choose_clause-chosen-requires-clause-landmarks t c = c.requires.landmarks
@@ -108,7 +107,8 @@ run_conditional-choose_clause-chosen-requires-clause-after_in_bounds t c = c.req
 pub run_conditional-run_clause-requires : goal.run_conditional-run_clause-requires
 run_conditional-run_clause-requires t c =
     let a = c.args in
-    let w = subst (ChosenIn a.text.now a.d.after a.hand.count) c.in-At.is c.choose_clause-chosen.ensures.inside in
+    let is : c.choose_clause-chosen.result ≡ Ok (At c.in-Ok-At.place c.in-Ok-At.j) = search rules in
+    let w = subst (ChosenIn a.text.now a.d.after a.hand.count) is c.choose_clause-chosen.ensures.inside in
     (omega (arith, c.decreases), (c.requires.landmarks, (record { held = c.requires.in_hand; reaches = w.1; written = c.requires.at_in_bounds }, w.0)))
 
 pub run_conditional-end_block-requires-clause-landmarks : goal.run_conditional-end_block-requires-clause-landmarks
@@ -117,33 +117,36 @@ run_conditional-end_block-requires-clause-landmarks t c = c.requires.landmarks
 pub run_conditional-end_block-requires-clause-inside_at : goal.run_conditional-end_block-requires-clause-inside_at
 run_conditional-end_block-requires-clause-inside_at t c =
     let a = c.args in
-    let w = subst (ChosenIn a.text.now a.d.after a.hand.count) c.in-Nothing.is c.choose_clause-chosen.ensures.inside in
+    let is : c.choose_clause-chosen.result ≡ Ok (Nothing c.in-Ok-Nothing.inside c.in-Ok-Nothing.j) = search rules in
+    let w = subst (ChosenIn a.text.now a.d.after a.hand.count) is c.choose_clause-chosen.ensures.inside in
     w.0
 
 pub run_conditional-shape_of-out : goal.run_conditional-shape_of-out
 run_conditional-shape_of-out t c = (c.run_clause.ensures.is _ (λ ks. refl)).does.size
 
-pub run_conditional-returns-in-At : goal.run_conditional-returns-in-At
-run_conditional-returns-in-At t c =
+pub run_conditional-returns-in-Ok-At : goal.run_conditional-returns-in-Ok-At
+run_conditional-returns-in-Ok-At t c =
     let a = c.args in
+    let is : c.choose_clause-chosen.result ≡ Ok (At c.in-Ok-At.place c.in-Ok-At.j) = search rules in
     λ j. c.run_clause.ensures.is (picking (levels_at a.text.now) (view_of a.table.now) (hand_at a.hand) a.spot.position a.d a.d.after j a.spot.left a.settings a.i.0)
-    (λ ks. c.choose_clause-chosen.ensures.is a.spot.position a.spot.left j _ ∙ ap (λ (x : Chosen). on_chosen (levels_at a.text.now) a.spot.position a.spot.left x (λ y after. run (view_of a.table.now) a.spot.left y (conditional (innermost (outer (levels_at a.text.now a.d.after))).rest ∷ ks) (hand_at a.hand after))) c.in-At.is)
+    (λ ks. c.choose_clause-chosen.ensures.is a.spot.position a.spot.left j _ ∙ ap (λ (x : Result Chosen Refusal). on_chosen (levels_at a.text.now) a.spot.position a.spot.left x (λ y after. run (view_of a.table.now) a.spot.left y (conditional (innermost (outer (levels_at a.text.now a.d.after))).rest ∷ ks) (hand_at a.hand after))) is)
 
-pub run_conditional-returns-in-Nothing : goal.run_conditional-returns-in-Nothing
-run_conditional-returns-in-Nothing t c =
+pub run_conditional-returns-in-Ok-Nothing : goal.run_conditional-returns-in-Ok-Nothing
+run_conditional-returns-in-Ok-Nothing t c =
     let a = c.args in
-    let w = subst (ChosenIn a.text.now a.d.after a.hand.count) c.in-Nothing.is c.choose_clause-chosen.ensures.inside in
+    let is : c.choose_clause-chosen.result ≡ Ok (Nothing c.in-Ok-Nothing.inside c.in-Ok-Nothing.j) = search rules in
+    let w = subst (ChosenIn a.text.now a.d.after a.hand.count) is c.choose_clause-chosen.ensures.inside in
     let u = c.end_block.ensures in
     λ j. subst (Blocks (levels_at a.text.now) (length a.text.now) (view_of a.table.now) (hand_at a.hand) a.level a.d.after (picking (levels_at a.text.now) (view_of a.table.now) (hand_at a.hand) a.spot.position a.d a.d.after j a.spot.left a.settings a.i.0) a.spot.left a.spot.at a.out.now a.out.now) (sym u.is)
     (blocks_nothing (levels_at a.text.now) (length a.text.now) (view_of a.table.now) a.hand.first.0 a.hand.count a.level a.d.after (picking (levels_at a.text.now) (view_of a.table.now) (hand_at a.hand) a.spot.position a.d a.d.after j a.spot.left a.settings a.i.0) a.spot.left a.spot.at a.out.now _ _
-    (λ ks. c.choose_clause-chosen.ensures.is a.spot.position a.spot.left j _ ∙ ap (λ (x : Chosen). on_chosen (levels_at a.text.now) a.spot.position a.spot.left x (λ y after. run (view_of a.table.now) a.spot.left y (conditional (innermost (outer (levels_at a.text.now a.d.after))).rest ∷ ks) (hand_at a.hand after))) c.in-Nothing.is)
+    (λ ks. c.choose_clause-chosen.ensures.is a.spot.position a.spot.left j _ ∙ ap (λ (x : Result Chosen Refusal). on_chosen (levels_at a.text.now) a.spot.position a.spot.left x (λ y after. run (view_of a.table.now) a.spot.left y (conditional (innermost (outer (levels_at a.text.now a.d.after))).rest ∷ ks) (hand_at a.hand after))) is)
     u.after c.requires.at_in_bounds w.1)
 
-pub run_conditional-returns-in-Wrong : goal.run_conditional-returns-in-Wrong
-run_conditional-returns-in-Wrong t c =
+pub run_conditional-returns-in-Err : goal.run_conditional-returns-in-Err
+run_conditional-returns-in-Err t c =
     let a = c.args in
     λ j. blocks_told (levels_at a.text.now) (length a.text.now) (view_of a.table.now) a.hand.first.0 a.hand.count a.level a.d.after (picking (levels_at a.text.now) (view_of a.table.now) (hand_at a.hand) a.spot.position a.d a.d.after j a.spot.left a.settings a.i.0) a.spot.left a.spot.at a.out.now _ _ a.spot.position a.i.0 _ c.refuse.ensures
-    (λ ks. c.choose_clause-chosen.ensures.is a.spot.position a.spot.left j _ ∙ ap (λ (x : Chosen). on_chosen (levels_at a.text.now) a.spot.position a.spot.left x (λ y after. run (view_of a.table.now) a.spot.left y (conditional (innermost (outer (levels_at a.text.now a.d.after))).rest ∷ ks) (hand_at a.hand after))) c.in-Wrong.is) c.requires.at_in_bounds c.requires.i_le_count
+    (λ ks. c.choose_clause-chosen.ensures.is a.spot.position a.spot.left j _ ∙ ap (λ (x : Result Chosen Refusal). on_chosen (levels_at a.text.now) a.spot.position a.spot.left x (λ y after. run (view_of a.table.now) a.spot.left y (conditional (innermost (outer (levels_at a.text.now a.d.after))).rest ∷ ks) (hand_at a.hand after))) c.in-Err.is) c.requires.at_in_bounds c.requires.i_le_count
 
 pub run_item-put_literal-requires-clause-next_le_count : goal.run_item-put_literal-requires-clause-next_le_count
 run_item-put_literal-requires-clause-next_le_count t c = c.requires.stands.reaches
@@ -202,42 +205,42 @@ run_item-returns-in_default t c = absurd (no_other _ c.args.item refl c.requires
 pub run_iteration-run_passes-r-requires : goal.run_iteration-run_passes-r-requires
 run_iteration-run_passes-r-requires t c =
     let a = c.args in
-    let w = subst (OverIn a.table.now a.hand a.d.atsign a.i.0) c.in-Is.is c.go_over-over.ensures.inside in
+    let w = subst (OverIn a.table.now a.hand a.d.atsign a.i.0) c.in-Ok.is c.go_over-over.ensures.inside in
     let o = over_hand a.table.now a.hand _ a.d.atsign a.i.0 _ w c.requires.in_hand c.requires.i_le_count in
     (omega (arith, c.decreases), (c.requires.landmarks, (record { held = o.0; reaches = o.1; written = c.requires.at_in_bounds }, c.requires.after_in_bounds)))
 
 pub run_iteration-next_after-requires : goal.run_iteration-next_after-requires
 run_iteration-next_after-requires t c = omega (arith, c.requires.i_le_count, hand_small c.requires.in_hand)
 
-pub run_iteration-returns-in-Wrong : goal.run_iteration-returns-in-Wrong
-run_iteration-returns-in-Wrong t c =
+pub run_iteration-returns-in-Err : goal.run_iteration-returns-in-Err
+run_iteration-returns-in-Err t c =
     let a = c.args in
     λ j. blocks_told (levels_at a.text.now) (length a.text.now) (view_of a.table.now) a.hand.first.0 a.hand.count a.level a.d.after (entering (levels_at a.text.now) (view_of a.table.now) (hand_at a.hand) a.spot.position a.d a.d.after j a.spot.left a.settings a.i.0) a.spot.left a.spot.at a.out.now _ _ a.spot.position a.i.0 _ c.refuse.ensures
-    (λ ks. c.go_over-over.ensures.is a.spot.position a.spot.left j a.d refl a.settings _ _ _ ∙ ap (λ (x : Over). on_over a.spot.position a.spot.left a.settings.first (rest_at (levels_at a.text.now) a.d.after) (innermost (outer (levels_at a.text.now a.d.after))).rest (outside_of a.d.atsign a.hand a.i.0) x (λ k c₂. run (view_of a.table.now) a.spot.left end (k ∷ ks) c₂)) c.in-Wrong.is) c.requires.at_in_bounds c.requires.i_le_count
+    (λ ks. c.go_over-over.ensures.is a.spot.position a.spot.left j a.d refl a.settings _ _ _ ∙ ap (λ (x : Result Over Refusal). on_over a.spot.position a.spot.left a.settings.first (rest_at (levels_at a.text.now) a.d.after) (innermost (outer (levels_at a.text.now a.d.after))).rest (outside_of a.d.atsign a.hand a.i.0) x (λ k c₂. run (view_of a.table.now) a.spot.left end (k ∷ ks) c₂)) c.in-Err.is) c.requires.at_in_bounds c.requires.i_le_count
 
 pub run_iteration-shape_of-out : goal.run_iteration-shape_of-out
 run_iteration-shape_of-out t c = c.run_passes-r.ensures.does.size
 
-pub run_iteration-returns-in-Is : goal.run_iteration-returns-in-Is
-run_iteration-returns-in-Is t c =
+pub run_iteration-returns-in-Ok : goal.run_iteration-returns-in-Ok
+run_iteration-returns-in-Ok t c =
     let a = c.args in
-    let w = subst (OverIn a.table.now a.hand a.d.atsign a.i.0) c.in-Is.is c.go_over-over.ensures.inside in
+    let w = subst (OverIn a.table.now a.hand a.d.atsign a.i.0) c.in-Ok.is c.go_over-over.ensures.inside in
     λ j. over_blocks (levels_at a.text.now) (length a.text.now) (view_of a.table.now) a.table.now a.level a.spot.position a.d.after (entering (levels_at a.text.now) (view_of a.table.now) (hand_at a.hand) a.spot.position a.d a.d.after j a.spot.left a.settings a.i.0) a.spot.left a.spot.at a.out.now a.hand _ a.d.atsign a.i.0 _ a.settings.first c.next_after.result w c.next_after.ensures
-    (λ ks. c.go_over-over.ensures.is a.spot.position a.spot.left j a.d refl a.settings _ _ _ ∙ ap (λ (x : Over). on_over a.spot.position a.spot.left a.settings.first (rest_at (levels_at a.text.now) a.d.after) (innermost (outer (levels_at a.text.now a.d.after))).rest (outside_of a.d.atsign a.hand a.i.0) x (λ k c₂. run (view_of a.table.now) a.spot.left end (k ∷ ks) c₂)) c.in-Is.is) c.run_passes-r.ensures
+    (λ ks. c.go_over-over.ensures.is a.spot.position a.spot.left j a.d refl a.settings _ _ _ ∙ ap (λ (x : Result Over Refusal). on_over a.spot.position a.spot.left a.settings.first (rest_at (levels_at a.text.now) a.d.after) (innermost (outer (levels_at a.text.now a.d.after))).rest (outside_of a.d.atsign a.hand a.i.0) x (λ k c₂. run (view_of a.table.now) a.spot.left end (k ∷ ks) c₂)) c.in-Ok.is) c.run_passes-r.ensures
 
 pub run_opened-returns-then-not-is_well_written : goal.run_opened-returns-then-not-is_well_written
 run_opened-returns-then-not-is_well_written t c =
     let a = c.args in
     blocks_told (levels_at a.text.now) (length a.text.now) (view_of a.table.now) a.hand.first.0 a.hand.count a.level a.d.after (opening (iterates a.d.code) (levels_at a.text.now) (view_of a.table.now) (hand_at a.hand) a.spot.position a.d a.d.after a.next.0 a.spot.left) a.spot.left a.spot.at a.out.now _ 5 a.spot.position a.next.0 _ c.refuse.ensures (λ ks. settings_ill (view_of a.table.now) a.spot.position a.spot.left a.d (hand_at a.hand a.next.0) _ (sym c.is_well_written.ensures ∙ not-true _ c.if-not-is_well_written.true-raw)) c.requires.at_in_bounds c.requires.next_le_count
 
-pub run_opened-settle_directive-settled-requires-clause-all_supplied : goal.run_opened-settle_directive-settled-requires-clause-all_supplied
-run_opened-settle_directive-settled-requires-clause-all_supplied t c = all_supplied_lem c.requires.in_hand
+pub run_opened-settle_directive-requires-clause-all_supplied : goal.run_opened-settle_directive-requires-clause-all_supplied
+run_opened-settle_directive-requires-clause-all_supplied t c = all_supplied_lem c.requires.in_hand
 
-pub run_opened-settle_directive-settled-requires-clause-next_le_count : goal.run_opened-settle_directive-settled-requires-clause-next_le_count
-run_opened-settle_directive-settled-requires-clause-next_le_count t c = c.requires.next_le_count
+pub run_opened-settle_directive-requires-clause-next_le_count : goal.run_opened-settle_directive-requires-clause-next_le_count
+run_opened-settle_directive-requires-clause-next_le_count t c = c.requires.next_le_count
 
 pub run_opened-run_iteration-requires : goal.run_opened-run_iteration-requires
-run_opened-run_iteration-requires t c = (omega (arith, c.decreases), (c.requires.landmarks, (c.requires.in_hand, (next_reaches c.settle_directive-settled.ensures c.in-Is.is, (c.requires.after_in_bounds, c.requires.at_in_bounds)))))
+run_opened-run_iteration-requires t c = (omega (arith, c.decreases), (c.requires.landmarks, (c.requires.in_hand, (next_reaches c.settle_directive.ensures c.in-Ok.is, (c.requires.after_in_bounds, c.requires.at_in_bounds)))))
 
 pub run_opened-shape_of-out-then-is_iteration : goal.run_opened-shape_of-out-then-is_iteration
 run_opened-shape_of-out-then-is_iteration t c = (c.run_iteration.ensures 0).does.size
@@ -245,15 +248,15 @@ run_opened-shape_of-out-then-is_iteration t c = (c.run_iteration.ensures 0).does
 pub run_opened-returns-then-is_iteration : goal.run_opened-returns-then-is_iteration
 run_opened-returns-then-is_iteration t c =
     let a = c.args in
-    blocks_as (opening (iterates a.d.code) (levels_at a.text.now) (view_of a.table.now) (hand_at a.hand) a.spot.position a.d a.d.after a.next.0 a.spot.left) _ (λ ks. run_settled c.settle_directive-settled.ensures (sym c.is_well_written.ensures ∙ not-false _ c.if-not-is_well_written.false-raw) a.spot.position a.spot.left _ c.in-Is.is ∙ ap (λ (y : Bool). inside y (levels_at a.text.now) (view_of a.table.now) (hand_at a.hand) a.spot.position a.d a.d.after a.next.0 a.spot.left c.in-Is.settings c.in-Is.i.0 ks) (sym c.is_iteration.ensures ∙ c.if-is_iteration.true)) (c.run_iteration.ensures a.next.0)
+    blocks_as (opening (iterates a.d.code) (levels_at a.text.now) (view_of a.table.now) (hand_at a.hand) a.spot.position a.d a.d.after a.next.0 a.spot.left) _ (λ ks. run_settled c.settle_directive.ensures (sym c.is_well_written.ensures ∙ not-false _ c.if-not-is_well_written.false-raw) a.spot.position a.spot.left _ c.in-Ok.is ∙ ap (λ (y : Bool). inside y (levels_at a.text.now) (view_of a.table.now) (hand_at a.hand) a.spot.position a.d a.d.after a.next.0 a.spot.left c.in-Ok.field-0.settings c.in-Ok.field-0.next.0 ks) (sym c.is_iteration.ensures ∙ c.if-is_iteration.true)) (c.run_iteration.ensures a.next.0)
 
 pub run_opened-run_conditional-requires : goal.run_opened-run_conditional-requires
-run_opened-run_conditional-requires t c = (omega (arith, c.decreases), (c.requires.landmarks, (c.requires.in_hand, (next_reaches c.settle_directive-settled.ensures c.in-Is.is, (c.requires.after_in_bounds, c.requires.at_in_bounds)))))
+run_opened-run_conditional-requires t c = (omega (arith, c.decreases), (c.requires.landmarks, (c.requires.in_hand, (next_reaches c.settle_directive.ensures c.in-Ok.is, (c.requires.after_in_bounds, c.requires.at_in_bounds)))))
 
-pub run_opened-returns-in-Wrong : goal.run_opened-returns-in-Wrong
-run_opened-returns-in-Wrong t c =
+pub run_opened-returns-in-Err : goal.run_opened-returns-in-Err
+run_opened-returns-in-Err t c =
     let a = c.args in
-    blocks_told (levels_at a.text.now) (length a.text.now) (view_of a.table.now) a.hand.first.0 a.hand.count a.level a.d.after (opening (iterates a.d.code) (levels_at a.text.now) (view_of a.table.now) (hand_at a.hand) a.spot.position a.d a.d.after a.next.0 a.spot.left) a.spot.left a.spot.at a.out.now _ _ a.spot.position a.next.0 _ c.refuse-in-Wrong.ensures (λ ks. run_refused c.settle_directive-settled.ensures (sym c.is_well_written.ensures ∙ not-false _ c.if-not-is_well_written.false-raw) a.spot.position a.spot.left _ c.in-Wrong.is) c.requires.at_in_bounds c.requires.next_le_count
+    blocks_told (levels_at a.text.now) (length a.text.now) (view_of a.table.now) a.hand.first.0 a.hand.count a.level a.d.after (opening (iterates a.d.code) (levels_at a.text.now) (view_of a.table.now) (hand_at a.hand) a.spot.position a.d a.d.after a.next.0 a.spot.left) a.spot.left a.spot.at a.out.now _ _ a.spot.position a.next.0 _ c.refuse-in-Err.ensures (λ ks. run_refused c.settle_directive.ensures (sym c.is_well_written.ensures ∙ not-false _ c.if-not-is_well_written.false-raw) a.spot.position a.spot.left _ c.in-Err.is) c.requires.at_in_bounds c.requires.next_le_count
 
 pub run_opened-shape_of-out : goal.run_opened-shape_of-out
 run_opened-shape_of-out t c = (c.run_conditional.ensures 0).does.size
@@ -261,7 +264,7 @@ run_opened-shape_of-out t c = (c.run_conditional.ensures 0).does.size
 pub run_opened-returns-else-is_iteration : goal.run_opened-returns-else-is_iteration
 run_opened-returns-else-is_iteration t c =
     let a = c.args in
-    blocks_as (opening (iterates a.d.code) (levels_at a.text.now) (view_of a.table.now) (hand_at a.hand) a.spot.position a.d a.d.after a.next.0 a.spot.left) _ (λ ks. run_settled c.settle_directive-settled.ensures (sym c.is_well_written.ensures ∙ not-false _ c.if-not-is_well_written.false-raw) a.spot.position a.spot.left _ c.in-Is.is ∙ ap (λ (y : Bool). inside y (levels_at a.text.now) (view_of a.table.now) (hand_at a.hand) a.spot.position a.d a.d.after a.next.0 a.spot.left c.in-Is.settings c.in-Is.i.0 ks) (sym c.is_iteration.ensures ∙ c.if-is_iteration.false)) (c.run_conditional.ensures a.next.0)
+    blocks_as (opening (iterates a.d.code) (levels_at a.text.now) (view_of a.table.now) (hand_at a.hand) a.spot.position a.d a.d.after a.next.0 a.spot.left) _ (λ ks. run_settled c.settle_directive.ensures (sym c.is_well_written.ensures ∙ not-false _ c.if-not-is_well_written.false-raw) a.spot.position a.spot.left _ c.in-Ok.is ∙ ap (λ (y : Bool). inside y (levels_at a.text.now) (view_of a.table.now) (hand_at a.hand) a.spot.position a.d a.d.after a.next.0 a.spot.left c.in-Ok.field-0.settings c.in-Ok.field-0.next.0 ks) (sym c.is_iteration.ensures ∙ c.if-is_iteration.false)) (c.run_conditional.ensures a.next.0)
 
 pub run_passes-loop-hand-init : goal.run_passes-loop-hand-init
 run_passes-loop-hand-init t c =
@@ -304,13 +307,14 @@ run_passes-leave_passes-requires-clause-landmarks t c = c.requires.landmarks
 pub run_passes-leave_passes-requires-clause-inside_at : goal.run_passes-leave_passes-requires-clause-inside_at
 run_passes-leave_passes-requires-clause-inside_at t c = c.loop-hand.invariant.1
 
-pub run_passes-shape_of-out-then-not-has_ended : goal.run_passes-shape_of-out-then-not-has_ended
-run_passes-shape_of-out-then-not-has_ended t c = c.run_sequence-r.ensures.does.size ∙ c.loop-hand.invariant.0.size
+pub run_passes-shape_of-out-then-ne : goal.run_passes-shape_of-out-then-ne
+run_passes-shape_of-out-then-ne t c = c.run_sequence-r.ensures.does.size ∙ c.loop-hand.invariant.0.size
 
-pub run_passes-returns-then-not-has_ended : goal.run_passes-returns-then-not-has_ended
-run_passes-returns-then-not-has_ended t c =
+pub run_passes-returns-then-ne : goal.run_passes-returns-then-ne
+run_passes-returns-then-ne t c =
     let a = c.args in
-    passes_from c.spot_at-on.ensures (c.loop-hand.invariant.0.ends _ _ (passes_stopped (levels_at a.text.now) (length a.text.now) (view_of a.table.now) a.first.hand.first.0 a.first.hand.count a.level a.q c.loop-hand.next.0 c.loop-hand.passes c.loop-hand.on c.loop-hand.out (sym c.is_over.ensures ∙ c.if-is_over.false) c.if-on-eq0.false c.begin-begun.ensures c.run_sequence-r.ensures (sym c.has_ended.ensures ∙ not-true _ c.if-not-has_ended.true-raw) c.leave_passes.ensures))
+    let halts : c.run_sequence-r.result.stop ≡ Ended → ⊥ = search rules in
+    passes_from c.spot_at-on.ensures (c.loop-hand.invariant.0.ends _ _ (passes_stopped (levels_at a.text.now) (length a.text.now) (view_of a.table.now) a.first.hand.first.0 a.first.hand.count a.level a.q c.loop-hand.next.0 c.loop-hand.passes c.loop-hand.on c.loop-hand.out (sym c.is_over.ensures ∙ c.if-is_over.false) c.if-on-eq0.false c.begin-begun.ensures c.run_sequence-r.ensures halts c.leave_passes.ensures))
 
 pub run_passes-loop-hand-smaller : goal.run_passes-loop-hand-smaller
 run_passes-loop-hand-smaller t c = omega (arith, left_at c.spot_at-on-in-loop-hand.ensures, left_at c.begin-begun.ensures, c.run_sequence-r.ensures.does.falls, c.if-on-eq0.false)
@@ -320,7 +324,7 @@ run_passes-loop-hand-preserved t c =
     let a = c.args in
     let u = c.run_sequence-r.ensures in
     let o = c.spot_at-on-in-loop-hand.ensures in
-    let e = is_ended_lem c.run_sequence-r.result.stop (sym c.has_ended.ensures ∙ not-false _ c.if-not-has_ended.false-raw) in (
+    let e : c.run_sequence-r.result.stop ≡ Ended = search rules in (
       record {
         ends = λ e₂ r k. c.loop-hand.invariant.0.ends e₂ r (passes_on_told (levels_at a.text.now) (length a.text.now) (view_of a.table.now) a.first.hand.first.0 a.first.hand.count a.level a.q c.loop-hand.next.0 c.loop-hand.passes c.loop-hand.on c.loop-hand.out (sym c.is_over.ensures ∙ c.if-is_over.false) c.if-on-eq0.false c.begin-begun.ensures u e c.one_less-passes.ensures o k);
         size = u.does.size ∙ c.loop-hand.invariant.0.size;
@@ -358,26 +362,27 @@ run_sequence-run_item-r-requires t c =
     let h = sym c.ends_here.ensures ∙ c.if-ends_here.false in
     (omega (arith, c.decreases), (c.requires.landmarks, (record { held = c.requires.stands.held; reaches = w.does.inside; written = omega (arith, w.does.most, w.does.size) }, (c.item_after-item.ensures.is h, h))))
 
-pub run_sequence-shape_of-out-then-not-has_ended : goal.run_sequence-shape_of-out-then-not-has_ended
-run_sequence-shape_of-out-then-not-has_ended t c = c.run_item-r.ensures.does.size ∙ (c.run_short-s.ensures.strides c.args.level).does.size ∙ c.loop-hand.invariant.0.size
+pub run_sequence-shape_of-out-then-ne : goal.run_sequence-shape_of-out-then-ne
+run_sequence-shape_of-out-then-ne t c = c.run_item-r.ensures.does.size ∙ (c.run_short-s.ensures.strides c.args.level).does.size ∙ c.loop-hand.invariant.0.size
 
-pub run_sequence-returns-then-not-has_ended : goal.run_sequence-returns-then-not-has_ended
-run_sequence-returns-then-not-has_ended t c =
+pub run_sequence-returns-then-ne : goal.run_sequence-returns-then-ne
+run_sequence-returns-then-ne t c =
     let a = c.args in
+    let halts : c.run_item-r.result.stop ≡ Ended → ⊥ = search rules in
     let s = levels_at a.text.now in
     let n = length a.text.now in
     let v = view_of a.table.now in
     let w = c.run_short-s.ensures.strides a.level in
     let x = c.run_short-s.result in
     let halt = c.item_after-item.ensures.ended (sym c.ends_here.ensures ∙ c.if-ends_here.false) in
-    c.loop-hand.invariant.0.ends _ _ (strides_runs_on s n v a.first.hand.first.0 a.first.hand.count a.level c.loop-hand.p c.loop-hand.next.0 c.loop-hand.left c.loop-hand.at c.loop-hand.out w halt (steps_stopped s n v a.first.hand.first.0 a.first.hand.count a.level x.place x.next.0 x.left x.at _ c.run_item-r.ensures (sym c.has_ended.ensures ∙ not-true _ c.if-not-has_ended.true-raw)))
+    c.loop-hand.invariant.0.ends _ _ (strides_runs_on s n v a.first.hand.first.0 a.first.hand.count a.level c.loop-hand.p c.loop-hand.next.0 c.loop-hand.left c.loop-hand.at c.loop-hand.out w halt (steps_stopped s n v a.first.hand.first.0 a.first.hand.count a.level x.place x.next.0 x.left x.at _ c.run_item-r.ensures halts))
 
 pub run_sequence-loop-hand-smaller : goal.run_sequence-loop-hand-smaller
 run_sequence-loop-hand-smaller t c =
     let w = c.run_short-s.ensures.strides c.args.level in
     let halt = c.item_after-item.ensures.ended (sym c.ends_here.ensures ∙ c.if-ends_here.false) in
     let u = c.run_item-r.ensures in
-    let e = is_ended_lem c.run_item-r.result.stop (sym c.has_ended.ensures ∙ not-false _ c.if-not-has_ended.false-raw) in
+    let e : c.run_item-r.result.stop ≡ Ended = search rules in
     omega (arith, u.least e, u.most e, w.least halt)
 
 pub run_sequence-loop-hand-preserved : goal.run_sequence-loop-hand-preserved
@@ -390,7 +395,7 @@ run_sequence-loop-hand-preserved t c =
     let x = c.run_short-s.result in
     let halt = c.item_after-item.ensures.ended (sym c.ends_here.ensures ∙ c.if-ends_here.false) in
     let u = c.run_item-r.ensures in
-    let e = is_ended_lem c.run_item-r.result.stop (sym c.has_ended.ensures ∙ not-false _ c.if-not-has_ended.false-raw) in (
+    let e : c.run_item-r.result.stop ≡ Ended = search rules in (
       record {
         ends = λ e₂ r k. c.loop-hand.invariant.0.ends e₂ r (strides_runs_on s n v a.first.hand.first.0 a.first.hand.count a.level c.loop-hand.p c.loop-hand.next.0 c.loop-hand.left c.loop-hand.at c.loop-hand.out w halt (runs_on s n v a.first.hand.first.0 a.first.hand.count a.level x.place x.next.0 x.left x.at _ u e k));
         size = u.does.size ∙ w.does.size ∙ c.loop-hand.invariant.0.size;

@@ -11,5 +11,5 @@ pub returns : goal.returns
 returns c =
     let a = c.args in
     λ before.
-    given_quoted a.table.now a.piece before a.after a.at c.requires.content_value c.quote_rest-q.ensures
-    c.requires.at_in_bounds c.requires.at_in_bounds_2 c.write_rest-w.ensures
+    rw c.full.ensures (given_quoted a.table.now a.piece before a.after a.at c.requires.content_value c.quote_rest-q.ensures
+    c.requires.at_in_bounds c.requires.no_room c.write_rest-w.ensures)

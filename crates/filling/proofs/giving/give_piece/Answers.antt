@@ -12,7 +12,7 @@ use Rattle.filling.proofs.giving.give_piece.Goals.{Else-window-at, Joined-given-
 
 -- what is left fits into the window
 left_fits : (c : Else-window-at) → let a = c.args in
-    LeftFits (bytes_of a.table.now a.piece) a.given a.at a.window.now c.piece_length-n.result
+    LeftFits (bytes_of a.table.now a.piece) a.progress.given a.progress.at a.window.now c.piece_length-n.result
 left_fits c =
     record {
       all = c.piece_length-n.ensures.length c.args.table.now c.requires.good;
@@ -22,23 +22,23 @@ left_fits c =
     }
 
 lent_left : (c : Else-window-at) → let a = c.args in
-    length (take (a.at + (c.piece_length-n.result - a.given) - a.at) (drop a.at a.window.now))
-    ≡ length (drop a.given (bytes_of a.table.now a.piece))
+    length (take (a.progress.at + (c.piece_length-n.result - a.progress.given) - a.progress.at) (drop a.progress.at a.window.now))
+    ≡ length (drop a.progress.given (bytes_of a.table.now a.piece))
 lent_left c =
     let a = c.args in
-    left_lent (bytes_of a.table.now a.piece) a.given a.at a.window.now (left_fits c)
+    left_lent (bytes_of a.table.now a.piece) a.progress.given a.progress.at a.window.now (left_fits c)
 
 -- either way it is written
 written : (c : Joined-given-eq0) → let a = c.args in
-    let left = c.piece_length-n.result - a.given in
-    LeftFits (bytes_of a.table.now a.piece) a.given a.at a.window.now c.piece_length-n.result
-    → Appends (drop a.given (bytes_of a.table.now a.piece)) a.at a.window.now c.if-given-eq0.window (a.at + left) []
+    let left = c.piece_length-n.result - a.progress.given in
+    LeftFits (bytes_of a.table.now a.piece) a.progress.given a.progress.at a.window.now c.piece_length-n.result
+    → Appends (drop a.progress.given (bytes_of a.table.now a.piece)) a.progress.at a.window.now c.if-given-eq0.window (a.progress.at + left) []
 written c f =
     let a = c.args in
     let w = bytes_of a.table.now a.piece in
     elim c.if-given-eq0.branch [
-      | then-given-eq0 v ↦ rw v.window-is (left_whole w a.given a.at a.window.now f _ v.if-given-eq0.true v.write_whole.ensures)
-      | else-given-eq0 v ↦ rw v.window-is (left_part w a.given a.at a.window.now f _ v.write_part.ensures)
+      | then-given-eq0 v ↦ rw v.window-is (left_whole w a.progress.given a.progress.at a.window.now f _ v.if-given-eq0.true v.write_whole.ensures)
+      | else-given-eq0 v ↦ rw v.window-is (left_part w a.progress.given a.progress.at a.window.now f _ v.write_part.ensures)
     ]
 
 pub returns-then-n-given : goal.returns-then-n-given
@@ -46,11 +46,11 @@ returns-then-n-given c =
     let a = c.args in
     let w = bytes_of a.table.now a.piece in
     let n = c.piece_length-n.ensures.length a.table.now c.requires.good in
-    given_before w a.here a.after a.given a.at a.window.now a.table.now n c.if-n-given.true c.requires.at_in_bounds
+    given_before w a.progress.here a.after a.progress.given a.progress.at a.window.now a.table.now n c.if-n-given.true c.requires.at_in_bounds
     c.on.ensures
 
-pub cut_piece-requires-clause-at_in_bounds_2 : goal.cut_piece-requires-clause-at_in_bounds_2
-cut_piece-requires-clause-at_in_bounds_2 c =
+pub cut_piece-requires-clause-no_room : goal.cut_piece-requires-clause-no_room
+cut_piece-requires-clause-no_room c =
     let n = c.piece_length-n.ensures.length c.args.table.now c.requires.good in
     omega (arith, n, c.if-n-given.false, c.if-window-at.true)
 
@@ -63,7 +63,7 @@ write_part-requires-clause-out_in_bounds c =
     let a = c.args in
     let w = bytes_of a.table.now a.piece in
     let n = c.piece_length-n.ensures.length a.table.now c.requires.good in
-    omega (arith, n, c.if-n-given.false, (lent_left (goal.at.write_part-requires-clause-out_in_bounds c).Else-window-at), length-drop a.given w)
+    omega (arith, n, c.if-n-given.false, (lent_left (goal.at.write_part-requires-clause-out_in_bounds c).Else-window-at), length-drop a.progress.given w)
 
 pub shape_of-window : goal.shape_of-window
 shape_of-window c =
@@ -74,5 +74,5 @@ returns c =
     let a = c.args in
     let w = bytes_of a.table.now a.piece in
     let n = c.piece_length-n.ensures.length a.table.now c.requires.good in
-    given_whole w a.here a.after a.given a.at a.window.now a.table.now n (omega (arith, c.if-n-given.false))
+    given_whole w a.progress.here a.after a.progress.given a.progress.at a.window.now a.table.now n (omega (arith, c.if-n-given.false))
     c.on-2.ensures (written (goal.at.returns c).Joined-given-eq0 (left_fits (goal.at.returns c).Else-window-at))

@@ -13,9 +13,6 @@ use Rattle.blocks.proofs.EndLaws.{no_other}
 use borrow.Enum.Refused.{opened}
 use Rattle.filling.proofs.steps.step_item.Goals as goal
 
-pub end_sequence-requires-clause-table_value : goal.end_sequence-requires-clause-table_value
-end_sequence-requires-clause-table_value c = c.requires.standing.accepted
-
 pub end_sequence-requires-clause-sound : goal.end_sequence-requires-clause-sound
 end_sequence-requires-clause-sound c = c.requires.standing.sound
 
@@ -25,7 +22,7 @@ end_sequence-requires-clause-place_value c = c.element_at-item.ensures.ends (sym
 pub returns-then-ends_here : goal.returns-then-ends_here
 returns-then-ends_here c =
     let a = c.args in
-    advances_moved a.text.now a.table.now (comes a.text.now a.table.now a.here a.nest) a.given a.here.left (weight a.here a.nest) a.at a.window.now c.moved_step.ensures c.end_sequence.ensures c.requires.standing.room
+    advances_moved a.inputs.text.now a.inputs.table.now (comes a.inputs.text.now a.inputs.table.now a.progress.here a.nest) a.progress.given a.progress.here.left (weight a.progress.here a.nest) a.progress.at a.window.now c.moved_step.ensures c.end_sequence.ensures c.requires.standing.room
 
 pub give_byte-requires-clause-at_in_bounds : goal.give_byte-requires-clause-at_in_bounds
 give_byte-requires-clause-at_in_bounds c = c.requires.standing.room
@@ -34,7 +31,7 @@ pub give_byte-requires-clause-place_bound : goal.give_byte-requires-clause-place
 give_byte-requires-clause-place_bound c =
     let a = c.args in
     let e = c.element_at-item.ensures.is (sym c.ends_here.ensures ∙ c.if-ends_here.false) ∙ c.in-Literal.is in
-    omega (arith, stands a.text.now a.here.place _ e, c.requires.standing.sound.short)
+    omega (arith, stands a.inputs.text.now a.progress.here.place _ e, c.requires.standing.sound.short)
 
 pub step_directive-requires-clause-place_value : goal.step_directive-requires-clause-place_value
 step_directive-requires-clause-place_value c =
@@ -52,7 +49,7 @@ pub returns-in-Literal : goal.returns-in-Literal
 returns-in-Literal c =
     let a = c.args in
     let e = c.element_at-item.ensures.is (sym c.ends_here.ensures ∙ c.if-ends_here.false) ∙ c.in-Literal.is in
-    puts_step (c.give_byte.ensures a.text.now a.table.now) c.put_step.ensures c.requires.standing.sound (literal_at a.text.now a.here.place _ e) (literal_ahead a.text.now a.here.place _ e).most
+    puts_step (c.give_byte.ensures a.inputs.text.now a.inputs.table.now) refl c.requires.standing.sound (literal_at a.inputs.text.now a.progress.here.place _ e) (literal_ahead a.inputs.text.now a.progress.here.place _ e).most
 
 pub returns-in-Written : goal.returns-in-Written
 returns-in-Written c = c.step_directive.ensures

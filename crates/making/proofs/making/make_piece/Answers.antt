@@ -1,33 +1,20 @@
 -- `making::making::make_piece` meets its contract: each form has the text that the definition gives it. Assumes
 -- nothing.
-use mathlib.Core.List.{append-nil}
 use mathlib.Core.Path.{ap, ◌∙◌}
-use native.Mathlib.Omega.{arith}
 use mir.ValLaws.{to_z-of_z}
 use mir.Syntax.{w64}
 use Rattle.rules.specs.Table.{meant}
 use Rattle.rules.specs.Piece.{numeral_of, glyph_of, plural_of, text_of}
-use Rattle.making.proofs.Spelled.{in_range_lem, text_at}
+use Rattle.making.proofs.Spelled.{or_else_is, text_at}
 use Rattle.making.proofs.Made.{gives_same}
 use Rattle.pieces.proofs.Parts.{fill_same}
 use Rattle.making.proofs.making.make_piece.Goals as goal
 
-pub make_object-requires-clause-well_set : goal.make_object-requires-clause-well_set
-make_object-requires-clause-well_set c = rw c.in-Object.is at c.requires.well_set
-
-pub make_numeral-requires : goal.make_numeral-requires
-make_numeral-requires c = rw c.in-Numeral.is at c.requires.well_set
-
-pub run_body-requires : goal.run_body-requires
-run_body-requires c =
-    let first = (rw c.in-Repeat.is at c.requires.well_set).places.first in
-    omega (arith, c.number_or.ensures, in_range_lem c.args.settings.first 1 first (omega arith) (omega arith))
-
 pub returns-in-Object : goal.returns-in-Object
 unfolding text_of
 returns-in-Object c =
-    gives_same (text_at c.in-Object.is c.args.colon c.args.atsign
-    c.args.settings (meant c.args.table.now c.args.argument)) c.make_object.ensures
+    gives_same (text_at c.in-Object.is c.args.colon c.args.atsign c.args.settings (meant c.args.table.now c.args.argument))
+    (c.around.ensures _ _ c.bare_body.ensures)
 
 pub returns-in-Numeral : goal.returns-in-Numeral
 unfolding text_of
@@ -42,35 +29,35 @@ returns-in-Numeral c =
 pub returns-in-Glyph : goal.returns-in-Glyph
 unfolding text_of
 returns-in-Glyph c =
-    gives_same (append-nil _ ∙ ap (glyph_of c.args.colon c.args.atsign)
+    gives_same (ap (glyph_of c.args.colon c.args.atsign)
     (c.code_of.ensures c.args.table.now)
     ∙ text_at c.in-Glyph.is c.args.colon c.args.atsign
     c.args.settings (meant c.args.table.now c.args.argument))
-    (c.padded_piece.ensures c.args.table.now _
+    (c.bare_piece.ensures c.args.table.now _
     (c.glyph_body.ensures c.args.table.now))
 
 pub returns-in-Plural : goal.returns-in-Plural
 unfolding text_of
 returns-in-Plural c =
-    gives_same (append-nil _ ∙ ap (plural_of c.args.atsign)
+    gives_same (ap (plural_of c.args.atsign)
     (c.is_one.ensures c.args.table.now)
     ∙ text_at c.in-Plural.is c.args.colon c.args.atsign
     c.args.settings (meant c.args.table.now c.args.argument))
-    (c.padded_piece-in-Plural.ensures c.args.table.now _
+    (c.bare_piece-in-Plural.ensures c.args.table.now _
     (c.plural_body.ensures c.args.table.now))
 
 pub returns-in-Repeat : goal.returns-in-Repeat
 unfolding text_of
 returns-in-Repeat c =
-    gives_same (append-nil _ ∙ fill_same _ _ _ c.number_or.ensures
+    gives_same (fill_same _ _ _ (c.unwrap_or.ensures ∙ or_else_is c.args.settings.first 1)
     ∙ text_at c.in-Repeat.is c.args.colon c.args.atsign
     c.args.settings (meant c.args.table.now c.args.argument))
-    (c.padded_piece-in-Repeat.ensures c.args.table.now _ (c.run_body.ensures c.args.table.now))
+    (c.bare_piece-in-Repeat.ensures c.args.table.now _ (c.run_body.ensures c.args.table.now))
 
 pub returns-in-Fold : goal.returns-in-Fold
 unfolding text_of
 returns-in-Fold c =
-    gives_same (append-nil _ ∙ text_at c.in-Fold.is c.args.colon c.args.atsign
+    gives_same (text_at c.in-Fold.is c.args.colon c.args.atsign
     c.args.settings (meant c.args.table.now c.args.argument))
-    (c.padded_piece-in-Fold.ensures c.args.table.now _
+    (c.bare_piece-in-Fold.ensures c.args.table.now _
     (c.fold_body.ensures c.args.table.now))

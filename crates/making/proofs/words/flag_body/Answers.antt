@@ -4,5 +4,5 @@ use Rattle.making.proofs.words.flag_body.Goals as goal
 pub returns-then-flag : goal.returns-then-flag
 returns-then-flag c = λ t. rw c.if-flag.true (c.word_body.ensures t)
 
-pub returns : goal.returns
-returns c = λ t. rw c.if-flag.false (c.word_body-2.ensures t)
+pub returns-else-flag : goal.returns-else-flag
+returns-else-flag c = λ t. rw c.if-flag.false (c.word_body-else-flag.ensures t)

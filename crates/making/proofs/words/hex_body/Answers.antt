@@ -9,11 +9,11 @@ use Rattle.making.proofs.words.hex_body.Goals as goal
 pub returns-then-high-eq0 : goal.returns-then-high-eq0
 returns-then-high-eq0 c =
     λ t. makes_same (ap (λ (l : List ℕ). 35 ∷ 92 ∷ 120 ∷ l)
-    (hex_one c.args.code _ c.if-high-eq0.true c.hex_digit-low.ensures))
+    (hex_one c.args.code _ c.if-high-eq0.true c.digit_byte-low.ensures))
     (c.word_body.ensures t)
 
-pub returns : goal.returns
-returns c =
+pub returns-else-high-eq0 : goal.returns-else-high-eq0
+returns-else-high-eq0 c =
     λ t. makes_same (ap (λ (l : List ℕ). 35 ∷ 92 ∷ 120 ∷ l)
-    (hex_two c.args.code _ c.requires c.if-high-eq0.false c.hex_digit-low.ensures))
-    (c.word_body-2.ensures t)
+    (hex_two c.args.code _ c.requires c.if-high-eq0.false c.digit_byte-low.ensures))
+    (c.word_body-else-high-eq0.ensures t)

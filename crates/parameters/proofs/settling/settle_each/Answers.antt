@@ -1,21 +1,22 @@
 -- `settle_each` meets its contract: each way out is a law of SettleLaws. Assumes nothing.
-use Rattle.parameters.proofs.SettleLaws.{still_reaches, first_wrong, second_wrong, five_settled}
+use Rattle.std.proofs.Common.{rules}
+use Rattle.parameters.proofs.SettleLaws.{first_wrong, second_wrong, third_wrong, fourth_wrong, fifth_wrong, five_settled}
 use Rattle.parameters.proofs.settling.settle_each.Goals as goal
 
-pub returns-in_default : goal.returns-in_default
-returns-in_default c = rw c.refusal.ensures (first_wrong _ c.work_out-a.ensures c.in_default.in_default-own.keys2)
+pub returns-in_err-first : goal.returns-in_err-first
+returns-in_err-first c = search (rules, first_wrong {ys = c.args.places} {ps = c.args.ps} c.work_out.ensures c.in_err-first.was)
 
-pub work_out-b-requires-clause-supplied : goal.work_out-b-requires-clause-supplied
-work_out-b-requires-clause-supplied c = c.requires.all_supplied.second
+pub returns-in_err-second : goal.returns-in_err-second
+returns-in_err-second c = search (rules, second_wrong {ys = c.args.places} {ps = c.args.ps} c.work_out.ensures c.in_ok-first.was c.work_out-2.ensures c.in_err-second.was)
 
-pub work_out-b-requires-clause-next_le_count : goal.work_out-b-requires-clause-next_le_count
-work_out-b-requires-clause-next_le_count c = still_reaches c.work_out-a.ensures c.in-Is.is
+pub returns-in_err-third : goal.returns-in_err-third
+returns-in_err-third c = search (rules, third_wrong {ys = c.args.places} {ps = c.args.ps} c.work_out.ensures c.in_ok-first.was c.work_out-2.ensures c.in_ok-second.was c.work_out-3.ensures c.in_err-third.was)
 
-pub returns-in_default-b : goal.returns-in_default-b
-returns-in_default-b c = rw c.refusal-in_default-b.ensures (second_wrong c.work_out-a.ensures c.in-Is.is _ c.work_out-b.ensures c.in_default-b.in_default-b-own.keys2)
+pub returns-in_err-fourth : goal.returns-in_err-fourth
+returns-in_err-fourth c = search (rules, fourth_wrong {ys = c.args.places} {ps = c.args.ps} c.work_out.ensures c.in_ok-first.was c.work_out-2.ensures c.in_ok-second.was c.work_out-3.ensures c.in_ok-third.was c.work_out-4.ensures c.in_err-fourth.was)
 
-pub settle_last-requires-clause-next_le_count : goal.settle_last-requires-clause-next_le_count
-settle_last-requires-clause-next_le_count c = still_reaches c.work_out-b.ensures c.in-Is-b.is
+pub returns-in_err-fifth : goal.returns-in_err-fifth
+returns-in_err-fifth c = search (rules, fifth_wrong {ys = c.args.places} {ps = c.args.ps} c.work_out.ensures c.in_ok-first.was c.work_out-2.ensures c.in_ok-second.was c.work_out-3.ensures c.in_ok-third.was c.work_out-4.ensures c.in_ok-fourth.was c.work_out-5.ensures c.in_err-fifth.was)
 
 pub returns : goal.returns
-returns c = five_settled c.work_out-a.ensures c.in-Is.is c.work_out-b.ensures c.in-Is-b.is c.settle_last.ensures
+returns c = five_settled c.work_out.ensures c.in_ok-first.was c.work_out-2.ensures c.in_ok-second.was c.work_out-3.ensures c.in_ok-third.was c.work_out-4.ensures c.in_ok-fourth.was c.work_out-5.ensures c.in_ok-fifth.was

@@ -3,31 +3,10 @@
 use mathlib.Core.List.{List}
 use mathlib.Core.Path.{sym, ap, ◌∙◌}
 use Prim.Native.Nat.{ℕ}
-use native.Mathlib.Omega.{arith}
 use lib.ListN.{length}
 use Rattle.rules.specs.Number.{grouped}
-use Rattle.pieces.proofs.Numerals.{ungrouped, in_groups, read_back, array_room}
+use Rattle.pieces.proofs.Numerals.{in_groups, read_back}
 use Rattle.pieces.proofs.figuring.digits_whole.Goals as goal
-
-pub fill_digits-requires-clause-le_base : goal.fill_digits-requires-clause-le_base
-fill_digits-requires-clause-le_base c = c.requires.good_figure.base
-
-pub fill_digits-requires-clause-out_len : goal.fill_digits-requires-clause-out_len
-fill_digits-requires-clause-out_len c = c.requires.out_len ∙ ap length (ungrouped c.args.x c.if-x-eq0.true)
-
-pub returns-then-x-eq0 : goal.returns-then-x-eq0
-returns-then-x-eq0 c =
-    c.fill_digits.ensures
-    ∙ sym (ungrouped c.args.x
-    c.if-x-eq0.true)
-
-pub slice_bounds-write_grouped-end : goal.slice_bounds-write_grouped-end
-slice_bounds-write_grouped-end c =
-    array_room _ _ _ _ c.fill_digits-2.ensures
-    c.digit_count-count.ensures.count
-
-pub write_grouped-requires-clause-width_nonzero : goal.write_grouped-requires-clause-width_nonzero
-write_grouped-requires-clause-width_nonzero c = omega (arith, c.if-x-eq0.false)
 
 pub write_grouped-requires-clause-out_len : goal.write_grouped-requires-clause-out_len
 write_grouped-requires-clause-out_len c =

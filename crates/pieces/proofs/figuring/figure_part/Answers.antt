@@ -4,9 +4,9 @@ use mathlib.Core.List.{List}
 use mathlib.Core.Path.{ap, ◌∙◌}
 use Prim.Native.Nat.{ℕ}
 use native.Mathlib.Omega.{arith}
-use lib.ListN.{length}
+use lib.ListN.{length, length-take}
 use Rattle.pieces.specs.Bytes.{part, figure_of}
-use Rattle.pieces.proofs.Numerals.{figure_most, read_back, array_room}
+use Rattle.pieces.proofs.Numerals.{figure_most, read_back}
 use Rattle.pieces.proofs.Parts.{part_whole}
 use Rattle.pieces.proofs.figuring.figure_part.Goals as goal
 
@@ -16,11 +16,13 @@ returns-then-out-size c =
     ∙ part_whole c.args.from (length c.args.out.now) (figure_of c.args.x)
     (c.if-out-size.true ∙ c.requires.size_value) (omega (arith, c.requires.size_value, c.requires.out_len_bound))
 
-pub slice_bounds-text-end : goal.slice_bounds-text-end
-slice_bounds-text-end c = omega (arith, c.requires.size_value, figure_most c.args.x c.requires.good_figure)
+pub slice_bounds-figure_whole-end : goal.slice_bounds-figure_whole-end
+slice_bounds-figure_whole-end c =
+    rw length-take (omega (arith, c.requires.size_value, figure_most c.args.x c.requires.good_figure))
 
-pub slice_bounds-copy_part-end : goal.slice_bounds-copy_part-end
-slice_bounds-copy_part-end c = array_room _ _ _ _ c.figure_whole-2.ensures c.requires.size_value
+pub figure_whole-requires-2-clause-out_len : goal.figure_whole-requires-2-clause-out_len
+figure_whole-requires-2-clause-out_len c =
+    rw length-take (omega (arith, c.requires.size_value, figure_most c.args.x c.requires.good_figure))
 
 pub returns : goal.returns
 returns c =

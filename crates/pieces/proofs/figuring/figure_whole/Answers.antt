@@ -3,20 +3,8 @@ use mathlib.Core.Path.{sym, ap, ◌∙◌}
 use native.Mathlib.Omega.{arith}
 use lib.ListN.{length, length-set}
 use Rattle.pieces.specs.Bytes.{digits_in}
-use Rattle.pieces.proofs.Numerals.{unsigned, with_sign, sign_put, sign_room}
+use Rattle.pieces.proofs.Numerals.{with_sign, sign_put, sign_room}
 use Rattle.pieces.proofs.figuring.figure_whole.Goals as goal
-
-pub digits_whole-requires-clause-out_len : goal.digits_whole-requires-clause-out_len
-digits_whole-requires-clause-out_len c = c.requires.out_len ∙ ap length (unsigned c.args.x c.if-x-eq0.true)
-
-pub returns-then-x-eq0 : goal.returns-then-x-eq0
-returns-then-x-eq0 c =
-    c.digits_whole.ensures
-    ∙ sym (unsigned c.args.x
-    c.if-x-eq0.true)
-
-pub bounds-out-0 : goal.bounds-out-0
-bounds-out-0 c = omega (arith, (c.requires.out_len ∙ ap length (with_sign c.args.x c.if-x-eq0.false)))
 
 pub slice_bounds-digits_whole-count : goal.slice_bounds-digits_whole-count
 slice_bounds-digits_whole-count c = simp length-set (omega (arith, (c.requires.out_len ∙ ap length (with_sign c.args.x c.if-x-eq0.false))))
@@ -28,13 +16,6 @@ pub digits_whole-requires-2-clause-out_len : goal.digits_whole-requires-2-clause
 digits_whole-requires-2-clause-out_len c =
     sign_room c.args.out.now c.args.x.sign (digits_in c.args.x)
     (c.requires.out_len ∙ ap length (with_sign c.args.x c.if-x-eq0.false))
-
-pub shape_of-out : goal.shape_of-out
-shape_of-out c =
-    ap length (sign_put c.args.out.now c.args.x.sign (digits_in c.args.x)
-    (c.requires.out_len ∙ ap length (with_sign c.args.x c.if-x-eq0.false))
-    c.digits_whole-2.ensures)
-    ∙ sym (c.requires.out_len ∙ ap length (with_sign c.args.x c.if-x-eq0.false))
 
 pub returns : goal.returns
 returns c =

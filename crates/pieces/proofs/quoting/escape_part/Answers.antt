@@ -8,5 +8,5 @@ pub returns : goal.returns
 unfolding owed
 returns c =
     escapes_part c.args.src.now c.args.from _
-    c.find_landing-spot.ensures.spot c.requires
+    c.find_spot-spot.ensures.spot c.requires
     c.escape_some.ensures

@@ -1,69 +1,33 @@
 -- `pieces::quoting::escape_some` meets its contract: what is written, with what the string still owes, is what it owed.
 -- Assumes nothing.
-use mathlib.Core.Path.{sym, ◌∙◌}
-use Prim.Native.Nat.{◌<◌}
+use mathlib.Core.Path.{◌≡◌, sym, ◌∙◌}
 use native.Mathlib.Omega.{arith}
-use lib.ListN.{length, length-set}
-use Rattle.pieces.proofs.Escapes.{owes, plain, special}
-use Rattle.pieces.proofs.Rests.{append_none, append_one}
+use lib.ListN.{get_or}
+use Rattle.pieces.proofs.Escapes.{marks_next, next_marked, next_byte}
+use Rattle.pieces.proofs.Rests.{append_one}
 use Rattle.pieces.proofs.quoting.escape_some.Goals as goal
-
-pub loop-to-init : goal.loop-to-init
-loop-to-init c = (append_none _ c.args.from c.args.out.now c.requires, omega arith)
-
-pub shape_of-out-then-src-i : goal.shape_of-out-then-src-i
-shape_of-out-then-src-i c = c.loop-to.invariant.0.size
-
-pub returns-then-src-i : goal.returns-then-src-i
-returns-then-src-i c =
-    record {
-      written = c.loop-to.invariant.0;
-      inside = c.loop-to.invariant.1;
-      ends = λ _. c.if-src-i.true;
-    }
-
-pub loop-to-smaller-then-gone : goal.loop-to-smaller-then-gone
-loop-to-smaller-then-gone c = simp length-set (omega arith)
-
-pub loop-to-preserved-then-gone : goal.loop-to-preserved-then-gone
-loop-to-preserved-then-gone c =
-    let h : c.loop-to.i < length c.args.src.now = omega (arith, c.if-src-i.false) in (
-      append_one c.loop-to.invariant.0 _ c.loop-to-test.true
-          (rw c.if-gone.true (owes c.args.src.now c.loop-to.i h)),
-      omega arith,
-    )
-
-pub loop-to-smaller-then-is_marked : goal.loop-to-smaller-then-is_marked
-loop-to-smaller-then-is_marked c = simp length-set (omega arith)
-
-pub loop-to-preserved-then-is_marked : goal.loop-to-preserved-then-is_marked
-loop-to-preserved-then-is_marked c =
-    let h : c.loop-to.i < length c.args.src.now = omega (arith, c.if-src-i.false) in (
-      append_one c.loop-to.invariant.0 92 c.loop-to-test.true
-          (rw c.if-gone.false
-          (special c.args.src.now c.loop-to.i h (sym c.is_marked.ensures ∙ c.if-is_marked.true))),
-      omega arith,
-    )
-
-pub loop-to-smaller : goal.loop-to-smaller
-loop-to-smaller c = simp length-set (omega arith)
+use Rattle.pieces.proofs.quoting.escape_some.Goals.{then-not-gone, else-not-gone, then-gone, else-gone}
 
 pub loop-to-preserved : goal.loop-to-preserved
 loop-to-preserved c =
-    let h : c.loop-to.i < length c.args.src.now = omega (arith, c.if-src-i.false) in (
-      append_one c.loop-to.invariant.0 _ c.loop-to-test.true
-          (rw c.if-gone.false
-          (plain c.args.src.now c.loop-to.i h (sym c.is_marked.ensures ∙ c.if-is_marked.false))),
-      omega arith,
-    )
-
-pub shape_of-out : goal.shape_of-out
-shape_of-out c = c.loop-to.invariant.0.size
-
-pub returns : goal.returns
-returns c =
-    record {
-      written = c.loop-to.invariant.0;
-      inside = c.loop-to.invariant.1;
-      ends = λ h. omega (arith, c.loop-to.invariant.0.size, c.loop-to-test.false);
-    }
+    let src = c.args.src.now in
+    let i = c.loop-to.next in
+    let is : c.if-not-gone.gone ≡ marks_next c.loop-to.gone (get_or src i 0) =
+    elim c.if-not-gone.branch [
+      | then-not-gone w ↦ rw w.if-not-gone.true (w.gone-is ∙ w.is_marked-gone.ensures)
+      | else-not-gone w ↦ rw w.if-not-gone.false (rw w.if-not-gone.false at w.gone-is)
+    ] in
+    elim c.if-gone.branch [
+      | then-gone w ↦
+          rw (w.out-is, w.next-is, w.if-gone.true) (record {
+            written = append_one c.loop-to.invariant.written 92 c.loop-to-test.true
+                (next_marked src i c.if-next-src.true c.loop-to.gone (sym is ∙ w.if-gone.true));
+            inside = omega arith;
+          })
+      | else-gone w ↦
+          rw (w.out-is, w.next-is, w.if-gone.false) (record {
+            written = append_one c.loop-to.invariant.written (get_or src i 0) c.loop-to-test.true
+                (next_byte src i c.if-next-src.true c.loop-to.gone (sym is ∙ w.if-gone.false));
+            inside = omega arith;
+          })
+    ]

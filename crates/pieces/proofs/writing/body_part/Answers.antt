@@ -1,5 +1,6 @@
 -- `pieces::writing::body_part` meets its contract: each source has its own writer of a part. Assumes nothing.
 use mathlib.Core.Path.{refl, sym, ◌∙◌}
+use native.Mathlib.Omega.{arith}
 use Rattle.pieces.proofs.Parts.{part_fill}
 use Rattle.pieces.proofs.Bodies.{is_run, is_copied, is_quoted, is_figures, is_word}
 use Rattle.pieces.proofs.writing.body_part.Goals as goal
@@ -35,10 +36,8 @@ figure_part-requires-clause-good_figure c = (is_figures c.requires.good_body _ c
 pub figure_part-requires-clause-size_value : goal.figure_part-requires-clause-size_value
 figure_part-requires-clause-size_value c = (is_figures c.requires.good_body _ c.in-Figures.is).size
 
-pub slice_bounds-copy_part-end : goal.slice_bounds-copy_part-end
-slice_bounds-copy_part-end c =
-    (is_word c.requires.good_body _
-    c.in-Word.is).places
+pub shared_ref_as_front-copy_part : goal.shared_ref_as_front-copy_part
+shared_ref_as_front-copy_part c = omega (arith, (is_word c.requires.good_body _ c.in-Word.is).places)
 
 pub copy_part-requires-in-Word : goal.copy_part-requires-in-Word
 copy_part-requires-in-Word c = rw (is_word c.requires.good_body _ c.in-Word.is).size at c.requires.out_len_bound

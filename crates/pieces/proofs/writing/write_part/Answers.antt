@@ -18,4 +18,4 @@ returns c =
     omega (arith, c.requires.out_in_bounds, length_bytes a.table.now a.piece) in
     padded_part a.out.now a.piece.before a.piece.behind a.piece.pad body a.from
     (rw c.requires.good.body.size
-    at c.cut-cuts.ensures) room _ _ _ c.fill.ensures c.body_part.ensures c.fill-2.ensures
+    at c.cut-a.ensures) room _ _ _ c.fill.ensures c.body_part.ensures c.fill-2.ensures

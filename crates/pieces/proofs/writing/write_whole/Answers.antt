@@ -1,46 +1,18 @@
 -- `pieces::writing::write_whole` meets its contract: padding, the whole body and padding. Assumes nothing.
 use mathlib.Core.Path.{◌∙◌}
+use Prim.Native.Nat.{◌≤◌}
 use native.Mathlib.Omega.{arith}
+use lib.ListN.{length, length-take}
 use Rattle.pieces.specs.Bytes.{body_of, bytes_of}
 use Rattle.pieces.proofs.Segments.{padded_whole}
 use Rattle.pieces.proofs.Bodies.{length_bytes}
 use Rattle.pieces.proofs.writing.write_whole.Goals as goal
 
-pub slice_bounds-fill-end : goal.slice_bounds-fill-end
-slice_bounds-fill-end c =
-    omega (
-      arith,
-      c.requires.out_len,
-      length_bytes c.args.table.now c.args.piece,
-      c.requires.good.body.size,
-    )
-
-pub slice_bounds-body_part-end : goal.slice_bounds-body_part-end
-slice_bounds-body_part-end c =
-    omega (
-      arith,
-      c.requires.out_len,
-      length_bytes c.args.table.now c.args.piece,
-      c.requires.good.body.size,
-    )
-
-pub slice_bounds-fill-count-2 : goal.slice_bounds-fill-count-2
-slice_bounds-fill-count-2 c =
-    omega (
-      arith,
-      c.requires.out_len,
-      length_bytes c.args.table.now c.args.piece,
-      c.requires.good.body.size,
-    )
-
-pub slice_bounds-fill-start-2 : goal.slice_bounds-fill-start-2
-slice_bounds-fill-start-2 c =
-    omega (
-      arith,
-      c.requires.out_len,
-      length_bytes c.args.table.now c.args.piece,
-      c.requires.good.body.size,
-    )
+pub slice_bounds-fill-end-2 : goal.slice_bounds-fill-end-2
+slice_bounds-fill-end-2 c =
+    let room : c.args.piece.before ≤ length c.args.out.now =
+    omega (arith, c.requires.out_len, length_bytes c.args.table.now c.args.piece) in
+    rw length-take (omega arith)
 
 pub returns : goal.returns
 unfolding bytes_of

@@ -25,22 +25,22 @@ returns-then-stand-eq0-clause-stays c = refused_stays c.refuse.ensures
 pub put_run-requires : goal.put_run-requires
 put_run-requires c = begun_inside _ _ c.args.out.now c.begin-spot.ensures c.requires.stands.written
 
-pub returns-then-kind-gt-NUMERAL-clause-steps : goal.returns-then-kind-gt-NUMERAL-clause-steps
-returns-then-kind-gt-NUMERAL-clause-steps c =
+pub returns-then-short-gt-NUMERAL-clause-steps : goal.returns-then-short-gt-NUMERAL-clause-steps
+returns-then-short-gt-NUMERAL-clause-steps c =
     let a = c.args in
-    let st = short_settings (setting_of 4097 a.number) (setting_of 256 a.byte) in
-    λ s n level here e h. short_begun s n (view_of a.table.now) a.stand.hand.first.0 a.stand.hand.count level here a.stand.next.0 a.stand.left a.stand.at a.out.now (brief_of a.kind a.detail) (setting_of 4097 a.number) (setting_of 256 a.byte) c.requires.short_in e h c.if-stand-eq0.false _ c.begin-spot.ensures (λ d q w. writes_as (view_of a.table.now) (hand_at a.stand.hand 0) a.stand.next.0 a.stand.hand.count _ d _ _ _ {x = setting_of 4097 a.number} {y = setting_of 256 a.byte} (sym (repeat_form a.kind a.detail (omega (arith, c.if-kind-gt-NUMERAL.true)))) refl refl (run_written a.table.now a.stand.hand st _ a.stand.next.0 d a.detail _ c.number_or.ensures (c.put_run.ensures.puts a.stand.hand.count c.requires.stands.reaches)))
+    let st = short_settings (setting_of 4097 a.short.number) (setting_of 256 a.short.byte) in
+    λ s n level here e h. short_begun s n (view_of a.table.now) a.stand.hand.first.0 a.stand.hand.count level here a.stand.next.0 a.stand.left a.stand.at a.out.now (brief_of a.short.kind a.short.detail) (setting_of 4097 a.short.number) (setting_of 256 a.short.byte) c.requires.short_in e h c.if-stand-eq0.false _ c.begin-spot.ensures (λ d q w. writes_as (view_of a.table.now) (hand_at a.stand.hand 0) a.stand.next.0 a.stand.hand.count _ d _ _ _ {x = setting_of 4097 a.short.number} {y = setting_of 256 a.short.byte} (sym (repeat_form a.short.kind a.short.detail (omega (arith, c.if-short-gt-NUMERAL.true)))) refl refl (run_written a.table.now a.stand.hand st _ a.stand.next.0 d a.short.detail _ c.number_or.ensures (c.put_run.ensures.puts a.stand.hand.count c.requires.stands.reaches)))
 
-pub returns-then-kind-gt-NUMERAL-clause-held : goal.returns-then-kind-gt-NUMERAL-clause-held
-returns-then-kind-gt-NUMERAL-clause-held c = unbegun _ c.begin-spot.ensures c.if-stand-eq0.false c.put_run.ensures.untouched
+pub returns-then-short-gt-NUMERAL-clause-held : goal.returns-then-short-gt-NUMERAL-clause-held
+returns-then-short-gt-NUMERAL-clause-held c = unbegun _ c.begin-spot.ensures c.if-stand-eq0.false c.put_run.ensures.untouched
 
-pub returns-then-kind-gt-NUMERAL-clause-stays : goal.returns-then-kind-gt-NUMERAL-clause-stays
-returns-then-kind-gt-NUMERAL-clause-stays c =
+pub returns-then-short-gt-NUMERAL-clause-stays : goal.returns-then-short-gt-NUMERAL-clause-stays
+returns-then-short-gt-NUMERAL-clause-stays c =
     let a = c.args in
     performed_stays (c.put_run.ensures.puts a.stand.hand.count c.requires.stands.reaches)
 
 pub write_argument-requires-clause-kind_bound : goal.write_argument-requires-clause-kind_bound
-write_argument-requires-clause-kind_bound c = omega (arith, c.if-kind-gt-NUMERAL.false)
+write_argument-requires-clause-kind_bound c = omega (arith, c.if-short-gt-NUMERAL.false)
 
 pub write_argument-requires-clause-in_hand : goal.write_argument-requires-clause-in_hand
 write_argument-requires-clause-in_hand c = c.requires.stands.held
@@ -54,7 +54,7 @@ write_argument-requires-clause-at_in_bounds c = begun_inside _ _ c.args.out.now 
 pub returns-clause-steps : goal.returns-clause-steps
 returns-clause-steps c =
     let a = c.args in
-    λ s n level here e h. short_begun s n (view_of a.table.now) a.stand.hand.first.0 a.stand.hand.count level here a.stand.next.0 a.stand.left a.stand.at a.out.now (brief_of a.kind a.detail) (setting_of 4097 a.number) (setting_of 256 a.byte) c.requires.short_in e h c.if-stand-eq0.false _ c.begin-spot.ensures c.write_argument.ensures.writes
+    λ s n level here e h. short_begun s n (view_of a.table.now) a.stand.hand.first.0 a.stand.hand.count level here a.stand.next.0 a.stand.left a.stand.at a.out.now (brief_of a.short.kind a.short.detail) (setting_of 4097 a.short.number) (setting_of 256 a.short.byte) c.requires.short_in e h c.if-stand-eq0.false _ c.begin-spot.ensures c.write_argument.ensures.writes
 
 pub returns-clause-held : goal.returns-clause-held
 returns-clause-held c = unbegun _ c.begin-spot.ensures c.if-stand-eq0.false c.write_argument.ensures.untouched
@@ -62,4 +62,4 @@ returns-clause-held c = unbegun _ c.begin-spot.ensures c.if-stand-eq0.false c.wr
 pub returns-clause-stays : goal.returns-clause-stays
 returns-clause-stays c =
     let a = c.args in
-    performed_stays (c.write_argument.ensures.writes (short_directive (short_form a.kind a.detail) (setting_of 4097 a.number) (setting_of 256 a.byte) a.place) refl refl)
+    performed_stays (c.write_argument.ensures.writes (short_directive (short_form a.short.kind a.short.detail) (setting_of 4097 a.short.number) (setting_of 256 a.short.byte) a.place) refl refl)

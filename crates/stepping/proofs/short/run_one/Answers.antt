@@ -15,13 +15,13 @@ use Rattle.stepping.proofs.short.run_one.Goals as goal
 pub act_short-requires-clause-form_right : goal.act_short-requires-clause-form_right
 act_short-requires-clause-form_right c =
     let a = c.args in
-    let u = subst (ShortAt a.text.now a.p) c.in-Is.is c.read_short-short.ensures.means in
+    let u = subst (ShortAt a.text.now a.p) c.in-Is.is c.read_short.ensures.means in
     code_right a.text.now a.p _ u.item
 
 pub act_short-requires-clause-short_in : goal.act_short-requires-clause-short_in
 act_short-requires-clause-short_in c =
     let a = c.args in
-    let u = subst (ShortAt a.text.now a.p) c.in-Is.is c.read_short-short.ensures.means in
+    let u = subst (ShortAt a.text.now a.p) c.in-Is.is c.read_short.ensures.means in
     u.suits
 
 pub returns-in-Other-clause-strides : goal.returns-in-Other-clause-strides
@@ -30,7 +30,7 @@ returns-in-Other-clause-strides c =
     λ level. strides_none (levels_at a.text.now) (length a.text.now) (view_of a.table.now) a.stand.hand.first.0 a.stand.hand.count level a.p a.stand.next.0 a.stand.left a.stand.at a.out.now _ refl c.requires.p_in_bounds c.requires.stands.written c.requires.stands.reaches
 
 pub returns-in-Other-clause-other : goal.returns-in-Other-clause-other
-returns-in-Other-clause-other c = λ _ _. (sym c.read_short-short.ensures.is ∙ c.in-Other.is, (refl, refl))
+returns-in-Other-clause-other c = λ _ _. (sym c.read_short.ensures.is ∙ c.in-Other.is, (refl, refl))
 
 pub returns-in-Other-clause-held : goal.returns-in-Other-clause-held
 returns-in-Other-clause-held c = λ x q. absurd (no_end q refl)
@@ -41,7 +41,7 @@ returns-in-Other-clause-stays c = λ q. no_end_left q refl
 pub shape_of-out : goal.shape_of-out
 shape_of-out c =
     let a = c.args in
-    let u = subst (ShortAt a.text.now a.p) c.in-Is.is c.read_short-short.ensures.means in
+    let u = subst (ShortAt a.text.now a.p) c.in-Is.is c.read_short.ensures.means in
     let one = c.act_short.ensures.steps (levels_at a.text.now) (length a.text.now) in
     let here = writes_at a.text.now a.p _ u.item _ refl in
     let on = directive_ahead a.text.now a.p _ u.item in
@@ -50,7 +50,7 @@ shape_of-out c =
 pub returns-in-Is-clause-strides : goal.returns-in-Is-clause-strides
 returns-in-Is-clause-strides c =
     let a = c.args in
-    let u = subst (ShortAt a.text.now a.p) c.in-Is.is c.read_short-short.ensures.means in
+    let u = subst (ShortAt a.text.now a.p) c.in-Is.is c.read_short.ensures.means in
     let one = c.act_short.ensures.steps (levels_at a.text.now) (length a.text.now) in
     let here = writes_at a.text.now a.p _ u.item _ refl in
     let on = directive_ahead a.text.now a.p _ u.item in
@@ -59,7 +59,7 @@ returns-in-Is-clause-strides c =
 pub returns-in-Is-clause-other : goal.returns-in-Is-clause-other
 returns-in-Is-clause-other c =
     let a = c.args in
-    let u = subst (ShortAt a.text.now a.p) c.in-Is.is c.read_short-short.ensures.means in
+    let u = subst (ShortAt a.text.now a.p) c.in-Is.is c.read_short.ensures.means in
     let one = c.act_short.ensures.steps (levels_at a.text.now) (length a.text.now) in
     let here = writes_at a.text.now a.p _ u.item _ refl in
     let on = directive_ahead a.text.now a.p _ u.item in

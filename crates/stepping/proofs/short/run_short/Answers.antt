@@ -1,16 +1,14 @@
 -- The loop: whatever is run from here is run from the start. The measure is what is left of the text. Assumes nothing.
 use Prim.Native.Nat.{ℕ}
-use mathlib.Core.Path.{◌≡◌, refl, sym, ap, subst, ◌∙◌}
+use mathlib.Core.Path.{◌≡◌, refl, sym, subst, ◌∙◌}
 use native.Mathlib.Omega.{arith}
-use borrow.Author.Tests.{not-true, not-false}
 use lib.ListN.{length, get_or}
 use Rattle.rules.specs.Table.{view_of}
 use Rattle.rules.specs.Text.{levels_at}
 use Rattle.reader.specs.Shorts.{short_at}
 use Rattle.reader.specs.declared.short.Short.TheVariants.{Other}
-use Rattle.stepping.specs.Stepping.{is_ended}
-use Rattle.rules.proofs.Tests.{not_both_ways}
-use Rattle.stepping.proofs.ItemLaws.{is_ended_lem}
+use Rattle.std.proofs.Common.{rules}
+use Rattle.actions.specs.declared.state.Stop.TheVariants.{Ended}
 use Rattle.running.proofs.Strides.{strides_on}
 use Rattle.stepping.proofs.short.run_short.Goals as goal
 
@@ -44,16 +42,16 @@ run_one-r-requires-clause-stands c =
 pub run_one-r-requires-clause-p_in_bounds : goal.run_one-r-requires-clause-p_in_bounds
 run_one-r-requires-clause-p_in_bounds c = c.put_literals-k.ensures.puts.inside
 
-pub shape_of-out-then-not-is_ended : goal.shape_of-out-then-not-is_ended
-shape_of-out-then-not-is_ended c =
+pub shape_of-out-then-ne : goal.shape_of-out-then-ne
+shape_of-out-then-ne c =
     let a = c.args in
     let v = view_of a.table.now in
     let puts = c.put_literals-k.ensures.puts.runs v a.first.hand.first.0 a.first.hand.count in
     let one = c.run_one-r.ensures.strides in
     (one 0).does.size ∙ (puts 0 c.loop-hand.next.0 c.loop-hand.invariant.0.inside).does.size ∙ c.loop-hand.invariant.0.size
 
-pub returns-then-not-is_ended-clause-strides : goal.returns-then-not-is_ended-clause-strides
-returns-then-not-is_ended-clause-strides c =
+pub returns-then-ne-clause-strides : goal.returns-then-ne-clause-strides
+returns-then-ne-clause-strides c =
     let a = c.args in
     let s = levels_at a.text.now in
     let n = length a.text.now in
@@ -62,11 +60,13 @@ returns-then-not-is_ended-clause-strides c =
     let one = c.run_one-r.ensures.strides in
     c.loop-hand.invariant.0.ends _ _ (λ level. strides_on s n v a.first.hand.first.0 a.first.hand.count level c.loop-hand.p c.loop-hand.next.0 c.loop-hand.left c.loop-hand.at c.loop-hand.out (puts level c.loop-hand.next.0 c.loop-hand.invariant.0.inside) refl (one level))
 
-pub returns-then-not-is_ended-clause-all : goal.returns-then-not-is_ended-clause-all
-returns-then-not-is_ended-clause-all c = λ h. absurd (not_both_ways (ap is_ended h) (sym c.is_ended.ensures ∙ not-true _ c.if-not-is_ended.true-raw))
+pub returns-then-ne-clause-all : goal.returns-then-ne-clause-all
+returns-then-ne-clause-all c =
+    let halts : c.run_one-r.result.stop ≡ Ended → ⊥ = search rules in
+    λ h. absurd (halts h)
 
-pub returns-then-not-is_ended-clause-held : goal.returns-then-not-is_ended-clause-held
-returns-then-not-is_ended-clause-held c =
+pub returns-then-ne-clause-held : goal.returns-then-ne-clause-held
+returns-then-ne-clause-held c =
     let a = c.args in
     let s = levels_at a.text.now in
     let n = length a.text.now in
@@ -74,8 +74,8 @@ returns-then-not-is_ended-clause-held c =
     let puts = c.put_literals-k.ensures.puts.runs v a.first.hand.first.0 a.first.hand.count in
     λ x q. c.loop-hand.invariant.0.ends _ _ (λ level. strides_on s n v a.first.hand.first.0 a.first.hand.count level c.loop-hand.p c.loop-hand.next.0 c.loop-hand.left c.loop-hand.at c.loop-hand.out (puts level c.loop-hand.next.0 c.loop-hand.invariant.0.inside) refl (c.run_one-r.ensures.held x q level))
 
-pub returns-then-not-is_ended-clause-stays : goal.returns-then-not-is_ended-clause-stays
-returns-then-not-is_ended-clause-stays c = c.run_one-r.ensures.stays
+pub returns-then-ne-clause-stays : goal.returns-then-ne-clause-stays
+returns-then-ne-clause-stays c = c.run_one-r.ensures.stays
 
 pub shape_of-out-then-r-p : goal.shape_of-out-then-r-p
 shape_of-out-then-r-p c =
@@ -128,7 +128,7 @@ loop-hand-smaller c =
     let v = view_of a.table.now in
     let puts = c.put_literals-k.ensures.puts.runs v a.first.hand.first.0 a.first.hand.count in
     let one = c.run_one-r.ensures.strides in
-    let halt = is_ended_lem _ (sym c.is_ended.ensures ∙ not-false _ c.if-not-is_ended.false-raw) in
+    let halt : c.run_one-r.result.stop ≡ Ended = search rules in
     omega (arith, (one 0).least halt, (one 0).most halt, c.if-r-p.false)
 
 pub loop-hand-preserved : goal.loop-hand-preserved
@@ -139,7 +139,7 @@ loop-hand-preserved c =
     let v = view_of a.table.now in
     let puts = c.put_literals-k.ensures.puts.runs v a.first.hand.first.0 a.first.hand.count in
     let one = c.run_one-r.ensures.strides in
-    let halt = is_ended_lem _ (sym c.is_ended.ensures ∙ not-false _ c.if-not-is_ended.false-raw) in (
+    let halt : c.run_one-r.result.stop ≡ Ended = search rules in (
       record {
         ends = λ e₂ r k. c.loop-hand.invariant.0.ends e₂ r (λ level. strides_on s n v a.first.hand.first.0 a.first.hand.count level c.loop-hand.p c.loop-hand.next.0 c.loop-hand.left c.loop-hand.at c.loop-hand.out (puts level c.loop-hand.next.0 c.loop-hand.invariant.0.inside) refl (strides_on s n v a.first.hand.first.0 a.first.hand.count level _ _ _ _ _ (one level) halt (k level)));
         size = (one 0).does.size ∙ (puts 0 c.loop-hand.next.0 c.loop-hand.invariant.0.inside).does.size ∙ c.loop-hand.invariant.0.size;

@@ -5,7 +5,7 @@ use lib.ListN.{length}
 use Rattle.syntax.proofs.ends.after_block.Given as goal
 
 abbrev pub invariant-loop-after : goal.invariant-loop-after
-invariant-loop-after l = InBlock l.text l.start l.z
+invariant-loop-after l = InBlock l.text l.start l.p
 
 abbrev pub decreases-loop-after : goal.decreases-loop-after
-decreases-loop-after l = length l.text - l.z
+decreases-loop-after l = length l.text - l.p

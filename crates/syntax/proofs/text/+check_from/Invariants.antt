@@ -9,8 +9,8 @@ use Rattle.syntax.proofs.text.+check_from.Given as goal
 abbrev pub decreases-check_from : goal.decreases-check_from
 decreases-check_from l = l.room
 
-abbrev pub invariant-loop-code : goal.invariant-loop-code
-invariant-loop-code l = Checking l.text l.start l.room l.around l.opened l.p l.separators l.fallback
+abbrev pub invariant-loop-after : goal.invariant-loop-after
+invariant-loop-after l = Checking l.text l.start l.room l.around l.opened l.p l.separators l.fallback
 
-abbrev pub decreases-loop-code : goal.decreases-loop-code
-decreases-loop-code l = length l.text - l.p
+abbrev pub decreases-loop-after : goal.decreases-loop-after
+decreases-loop-after l = length l.text - l.p

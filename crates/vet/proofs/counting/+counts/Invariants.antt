@@ -12,11 +12,11 @@ decreases-count_block l = 4 * (length l.format.now - l.d.after) + 4
 abbrev pub decreases-count_clauses : goal.decreases-count_clauses
 decreases-count_clauses l = 4 * (length l.format.now - l.d.after) + 3
 
-abbrev pub invariant-count_clauses-loop-code : goal.invariant-count_clauses-loop-code
-invariant-count_clauses-loop-code l = Gathering l.format l.kinds l.longest l.d l.start.0 l.z l.fallback l.ends
+abbrev pub invariant-count_clauses-loop-counted : goal.invariant-count_clauses-loop-counted
+invariant-count_clauses-loop-counted l = Gathering l.format l.question.kinds.now l.question.longest l.d l.start.0 l.z l.fallback l.ends
 
-abbrev pub decreases-count_clauses-loop-code : goal.decreases-count_clauses-loop-code
-decreases-count_clauses-loop-code l = length l.format - l.z
+abbrev pub decreases-count_clauses-loop-counted : goal.decreases-count_clauses-loop-counted
+decreases-count_clauses-loop-counted l = length l.format - l.z
 
 abbrev pub decreases-count_element : goal.decreases-count_element
 decreases-count_element l = 4 * (length l.format.now - l.p) + 1
@@ -24,8 +24,8 @@ decreases-count_element l = 4 * (length l.format.now - l.p) + 1
 abbrev pub decreases-count_sequence : goal.decreases-count_sequence
 decreases-count_sequence l = 4 * (length l.format.now - l.start) + 2
 
-abbrev pub invariant-count_sequence-loop-code : goal.invariant-count_sequence-loop-code
-invariant-count_sequence-loop-code l = Walking l.format l.kinds l.longest l.start l.initial.next.0 l.p l.next.0 l.sum
+abbrev pub invariant-count_sequence-loop-reach : goal.invariant-count_sequence-loop-reach
+invariant-count_sequence-loop-reach l = Walking l.format l.question.kinds.now l.question.longest l.start l.initial.next.0 l.p l.next.0 l.sum
 
-abbrev pub decreases-count_sequence-loop-code : goal.decreases-count_sequence-loop-code
-decreases-count_sequence-loop-code l = length l.format - l.p
+abbrev pub decreases-count_sequence-loop-reach : goal.decreases-count_sequence-loop-reach
+decreases-count_sequence-loop-reach l = length l.format - l.p

@@ -1,18 +1,15 @@
 -- `turn_form` meets its contract: from the worked-out parameters. Assumes nothing.
-use Rattle.vet_turns.proofs.TurnBy.{settled_well, turn_worked, turn_refused}
+use Rattle.std.proofs.lemmas.Result.{err_from_is_err_and}
+use Rattle.vet_turns.proofs.TurnBy.{turn_worked, turn_refused}
 use Rattle.vet_turns.proofs.turns.turn_form.Goals as goal
 
-pub turn_settled-requires-clause-well_set : goal.turn_settled-requires-clause-well_set
-turn_settled-requires-clause-well_set c =
+pub returns-in_err-settings : goal.returns-in_err-settings
+returns-in_err-settings c =
     let a = c.args in
-    settled_well a.kinds.now a.longest a.form a.d a.next.0 c.requires.writing (rw c.requires.writing.code at c.settle_fixed-settled.ensures) c.in-Is.is
+    let p = err_from_is_err_and c.from_residual.result c.from_residual.ensures.1 in
+    rw (p.1, p.2) (turn_refused a.question.now.kinds.now a.question.now.longest a.form a.d a.next.0 c.requires.writing c.in_err-settings.ensures)
 
-pub returns-in-Is : goal.returns-in-Is
-returns-in-Is c =
+pub returns : goal.returns
+returns c =
     let a = c.args in
-    turn_worked a.kinds.now a.longest a.form a.d a.next.0 c.requires.writing (rw c.requires.writing.code at c.settle_fixed-settled.ensures) c.in-Is.is c.turn_settled.ensures
-
-pub returns-in-Wrong : goal.returns-in-Wrong
-returns-in-Wrong c =
-    let a = c.args in
-    turn_refused a.kinds.now a.longest a.form a.d a.next.0 c.requires.writing (rw c.requires.writing.code at c.settle_fixed-settled.ensures) c.in-Wrong.is
+    turn_worked a.question.now.kinds.now a.question.now.longest a.form a.d a.next.0 c.requires.writing c.in_ok-settings.ensures c.turn_settled.ensures

@@ -1,36 +1,16 @@
--- `turn_settled` meets its contract: by where the argument comes from. Assumes nothing.
+-- `turn_settled` meets its contract, where no argument is taken. Assumes nothing.
 use native.Mathlib.Omega.{arith}
-use Rattle.rules.proofs.FormLaws.{takes_none}
-use Rattle.vet_turns.proofs.TurnBy.{by_next, by_back, by_no_back, by_number, by_nowhere}
+use Rattle.vet_turns.proofs.TurnBy.{by_number, by_nowhere, numbered_given}
 use Rattle.vet_turns.proofs.turns.turn_settled.Goals as goal
 
-pub worst_of-requires-clause-kind_bound : goal.worst_of-requires-clause-kind_bound
-worst_of-requires-clause-kind_bound c = (omega arith, c.requires.asked.long)
-
-pub worst_of-requires-clause-kind_value : goal.worst_of-requires-clause-kind_value
-worst_of-requires-clause-kind_value c = (takes_none c.args.form (rw c.form_row-row.ensures at c.in-Nowhere.is)).takes 0
-
-pub returns-then-d : goal.returns-then-d
-returns-then-d c =
+pub returns-in-Nowhere-default : goal.returns-in-Nowhere-default
+returns-in-Nowhere-default c =
     let a = c.args in
-    by_back a.kinds.now a.longest a.form a.d a.settings a.next.0 (rw c.form_row-row.ensures at c.in-NextOrBack.is) c.if-d.true c.turn_back.ensures
+    by_nowhere a.question.now.kinds.now a.question.now.longest a.form a.d a.settings a.next.0 (rw c.form_row.ensures at c.in-Nowhere-default.is-0) c.requires.well_set (omega arith) c.worst_of.ensures
 
-pub returns-in-Nowhere : goal.returns-in-Nowhere
-returns-in-Nowhere c =
+pub returns-in-NextOrNumber-Some : goal.returns-in-NextOrNumber-Some
+returns-in-NextOrNumber-Some c =
     let a = c.args in
-    by_nowhere a.kinds.now a.longest a.form a.d a.settings a.next.0 (rw c.form_row-row.ensures at c.in-Nowhere.is) c.requires.well_set c.requires.asked.long c.worst_of.ensures
-
-pub returns-in-Next : goal.returns-in-Next
-returns-in-Next c =
-    let a = c.args in
-    by_next a.kinds.now a.longest a.form a.d a.settings a.next.0 (rw c.form_row-row.ensures at c.in-Next.is) c.turn_own.ensures
-
-pub returns-else-d : goal.returns-else-d
-returns-else-d c =
-    let a = c.args in
-    by_no_back a.kinds.now a.longest a.form a.d a.settings a.next.0 (rw c.form_row-row.ensures at c.in-NextOrBack.is) c.if-d.false c.turn_own-in-NextOrBack.ensures
-
-pub returns-in-NextOrNumber : goal.returns-in-NextOrNumber
-returns-in-NextOrNumber c =
-    let a = c.args in
-    by_number a.kinds.now a.longest a.form a.d a.settings a.next.0 (rw c.form_row-row.ensures at c.in-NextOrNumber.is) c.turn_numbered.ensures
+    let o = rw c.form_row.ensures at c.in-NextOrNumber-Some.is-0 in
+    by_number a.question.now.kinds.now a.question.now.longest a.form a.d a.settings a.next.0 o
+    (numbered_given a.question.now.kinds.now a.question.now.longest a.form a.d a.settings a.next.0 o c.in-NextOrNumber-Some.is-1 c.glyph_size.ensures)

@@ -8,11 +8,11 @@ write_rest-w-requires-clause-rest_in c =
     let a = c.args in
     (in_range_lem a.format.now a.table.now a.s c.requires.s_value).1
 
-pub returns-then-left-ne0 : goal.returns-then-left-ne0
-returns-then-left-ne0 c = let a = c.args in cuts a.format.now a.table.now a.s c.requires.table_value c.requires.s_value c.here_of-here.ensures c.write_rest-w.ensures c.if-left-ne0.true c.begun.ensures c.more.ensures
+pub returns-then-w-ne0 : goal.returns-then-w-ne0
+returns-then-w-ne0 c = let a = c.args in cuts a.format.now a.table.now a.s c.requires.table_value c.requires.s_value c.here_of.ensures c.write_rest-w.ensures c.if-w-ne0.true c.begun.ensures
 
 pub run_on-requires : goal.run_on-requires
-run_on-requires c = let a = c.args in stands_behind a.format.now a.table.now a.s c.requires.table_value c.requires.s_value c.here_of-here.ensures c.write_rest-w.ensures
+run_on-requires c = let a = c.args in stands_behind a.format.now a.table.now a.s c.requires.table_value c.requires.s_value c.here_of.ensures c.write_rest-w.ensures
 
 pub returns : goal.returns
-returns c = let a = c.args in goes_on_lem a.format.now a.table.now a.s c.requires.table_value c.requires.s_value c.here_of-here.ensures c.write_rest-w.ensures c.if-left-ne0.false c.run_on.ensures
+returns c = let a = c.args in goes_on_lem a.format.now a.table.now a.s c.requires.table_value c.requires.s_value c.here_of.ensures c.write_rest-w.ensures c.if-w-ne0.false c.run_on.ensures

@@ -14,4 +14,4 @@ pub returns-then-is_sound : goal.returns-then-is_sound
 returns-then-is_sound c = let a = c.args in picks_up a.format.now a.table.now a.s c.is_sound.ensures c.if-is_sound.true c.go_on.ensures
 
 pub returns : goal.returns
-returns c = let a = c.args in picks_none a.format.now a.table.now a.s c.is_sound.ensures c.if-is_sound.false c.ended.ensures
+returns c = let a = c.args in picks_none a.format.now a.table.now a.s c.is_sound.ensures c.if-is_sound.false (rw c.code.ensures at c.ended.ensures)

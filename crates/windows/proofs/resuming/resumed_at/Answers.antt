@@ -8,4 +8,4 @@ pub returns-in-Over : goal.returns-in-Over
 returns-in-Over c = rw c.in-Over.is c.ended.ensures
 
 pub returns-in_default : goal.returns-in_default
-returns-in_default c = resumed_more _ c.args.step refl (opened c.in_default.in_default-own.keys2) c.begun.ensures c.more.ensures
+returns-in_default c = resumed_more _ c.args.step refl (opened c.in_default.in_default-own.keys2) c.begun.ensures

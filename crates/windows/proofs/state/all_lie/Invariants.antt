@@ -1,11 +1,7 @@
 -- All blocks lie where each does, from the innermost on. Assumes nothing.
 use mathlib.Core.Path.{◌≡◌}
-use Prim.Native.Nat.{◌≤◌}
 use Rattle.nesting.specs.Nest.{all_lie}
 use Rattle.windows.proofs.state.all_lie.Given as goal
 
 abbrev pub invariant-loop-i : goal.invariant-loop-i
-invariant-loop-i l = (l.i ≤ l.nest.depth) × (all_lie l.size l.table l.nest l.nest.depth ≡ all_lie l.size l.table l.nest l.i)
-
-abbrev pub decreases-loop-i : goal.decreases-loop-i
-decreases-loop-i l = l.i
+invariant-loop-i l = all_lie l.size l.table l.nest l.nest.depth ≡ all_lie l.size l.table l.nest l.i

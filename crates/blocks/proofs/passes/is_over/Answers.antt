@@ -1,9 +1,0 @@
--- Whether the iteration is over. Assumes nothing.
-use borrow.Author.Tests.{le-leb, lt-leb}
-use Rattle.blocks.proofs.passes.is_over.Goals as goal
-
-pub returns-then-hand-next : goal.returns-then-hand-next
-returns-then-hand-next c = rw (le-leb _ _ c.if-hand-next.true)
-
-pub returns : goal.returns
-returns c = rw (lt-leb _ _ c.if-hand-next.false) c.used_up.ensures

@@ -1,5 +1,0 @@
--- The run goes on, with nothing left of a string. Assumes nothing.
-use Rattle.filling.proofs.giving.on.Goals as goal
-
-pub returns : goal.returns
-returns c = rw c.no_rest.ensures
