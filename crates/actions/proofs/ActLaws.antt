@@ -19,7 +19,11 @@ use Rattle.rules.specs.declared.Code.TheVariants.{Writes, Jump}
 use Rattle.rules.specs.declared.Directive.{Directive}
 use Rattle.rules.specs.declared.Form.{Form}
 use Rattle.rules.specs.declared.Item.TheVariants.{Written}
+use Rattle.rules.specs.Refusals.{code_of}
 use Rattle.rules.specs.declared.Settings.{Settings}
+use Rattle.rules.specs.declared.refusal.Fault.{Fault}
+use Rattle.rules.specs.declared.refusal.Refusal.{Refusal}
+use Rattle.rules.specs.declared.refusal.Refusal.TheVariants.{NoRoom}
 use Rattle.rules.proofs.FlowLaws.{gives_finish}
 use Rattle.rules.proofs.RunLaws.{choose_yes, choose_no}
 use Rattle.actions.specs.declared.state.Ran.{Ran}
@@ -32,9 +36,9 @@ use Rattle.actions.proofs.Buffer.{Put, put_gives, put_lacks}
 
 -- what is refused, and what goes on under another name
 module _ {f : (ℕ → Flow) → Flow} {count m at : ℕ} {b : List ℕ} where
-  pub performs_refused : (code p i place : ℕ) → ((on : ℕ → Flow) → f on ≡ refused code p m) → at ≤ length b → i ≤ count
-      → Performs f count m at b b (refused_ran code p i m at place)
-  performs_refused code p i place h l k = stays _ (λ on out. here _ refl (h _)) refl (omega arith) l k
+  pub performs_refused : (refusal : Refusal) (p i place : ℕ) → ((on : ℕ → Flow) → f on ≡ refused (code_of refusal) p m) → at ≤ length b → i ≤ count
+      → Performs f count m at b b (refused_ran refusal p i m at place)
+  performs_refused refusal p i place h l k = stays _ (λ on out. here _ refl (h _)) refl (omega arith) l k
 
   pub performs_on : (i place : ℕ) → ((on : ℕ → Flow) → f on ≡ on i) → at ≤ length b → i ≤ count → Performs f count m at b b (ended_ran i m at place)
   performs_on i place h l k = stays _ (λ on out. here _ refl (h _)) refl (omega arith) l k
@@ -56,7 +60,7 @@ module _ (p m next at count place : ℕ) (b w : List ℕ) where
         inside = k;
       }
 
-  pub performs_full : (i : ℕ) → at ≤ length b → length b < at + length w → i ≤ count → Performs (λ on. put p m w (on next)) count m at b b (refused_ran 10 p i m at place)
+  pub performs_full : (i : ℕ) → at ≤ length b → length b < at + length w → i ≤ count → Performs (λ on. put p m w (on next)) count m at b b (refused_ran NoRoom p i m at place)
   performs_full i l h k = stays _ (λ on out. lacks refl (put_lacks b w p m at _ l h)) refl (omega arith) l k
 
 module _ (v : View) (p m : ℕ) (d : Directive) (c : Context) where
@@ -102,10 +106,10 @@ module _ (v : View) (p m : ℕ) (d : Directive) (c : Context) where
 
 -- the same at a spot, with the answer as it is told
 module _ {f : (ℕ → Flow) → Flow} {count : ℕ} {spot : Spot} where
-  pub performed_refused : {b : List ℕ} (r : Ran) (code i : ℕ) → r ≡ refused_ran code spot.position i spot.left spot.at spot.place
-      → ((on : ℕ → Flow) → f on ≡ refused code spot.position spot.left) → spot.at ≤ length b → i ≤ count → Performed f count spot b b r
-  performed_refused {b} r code i q h l k =
-      subst (Performed f count spot b b) (sym q) (record { does = performs_refused code spot.position i spot.place h l k; place = refl })
+  pub performed_refused : {b : List ℕ} (r : Ran) (refusal : Refusal) (i : ℕ) → r ≡ refused_ran refusal spot.position i spot.left spot.at spot.place
+      → ((on : ℕ → Flow) → f on ≡ refused (code_of refusal) spot.position spot.left) → spot.at ≤ length b → i ≤ count → Performed f count spot b b r
+  performed_refused {b} r refusal i q h l k =
+      subst (Performed f count spot b b) (sym q) (record { does = performs_refused refusal spot.position i spot.place h l k; place = refl })
 
   pub performed_on : {b : List ℕ} (r : Ran) (i : ℕ) → r ≡ ended_ran i spot.left spot.at spot.place → ((on : ℕ → Flow) → f on ≡ on i) → spot.at ≤ length b → i ≤ count
       → Performed f count spot b b r
@@ -121,7 +125,7 @@ module _ (spot : Spot) (next count : ℕ) (b w : List ℕ) (r : Ran) where
       subst (Performed (λ on. put spot.position spot.left w (on next)) count spot b e) (sym q)
       (record { does = performs_put spot.position spot.left next spot.at count spot.place b w u k; place = refl })
 
-  pub performed_full : (i : ℕ) → r ≡ refused_ran 10 spot.position i spot.left spot.at spot.place → spot.at ≤ length b → length b < spot.at + length w → i ≤ count
+  pub performed_full : (i : ℕ) → r ≡ refused_ran NoRoom spot.position i spot.left spot.at spot.place → spot.at ≤ length b → length b < spot.at + length w → i ≤ count
       → Performed (λ on. put spot.position spot.left w (on next)) count spot b b r
   performed_full i q l h k =
       subst (Performed (λ on. put spot.position spot.left w (on next)) count spot b b) (sym q)
@@ -130,13 +134,13 @@ module _ (spot : Spot) (next count : ℕ) (b w : List ℕ) (r : Ran) where
 -- what goes on is not refused, and what is refused as it is met has written nothing
 module _ {spot : Spot} {i : ℕ} {b : List ℕ} (r : Ran) where
   pub untouched_on : {next left at place : ℕ} {e : List ℕ} → r ≡ ended_ran next left at place → Untouched spot i b e r
-  untouched_on q = record { is = λ code x h. absurd (no_end h (ap (λ (y : Ran). y.stop) q)) }
+  untouched_on q = record { is = λ f h. absurd (no_end h (ap (λ (y : Ran). y.stop) q)) }
 
-  pub untouched_refused : (code : ℕ) → r ≡ refused_ran code spot.position i spot.left spot.at spot.place → Untouched spot i b b r
-  untouched_refused code q = record {
-    is = λ code₂ x h.
-        let k : code ≡ code₂ = (same_refusal (ap (λ (y : Ran). y.stop) q) h).0 in
-        (q ∙ ap (λ (n : ℕ). refused_ran n spot.position i spot.left spot.at spot.place) k, refl);
+  pub untouched_refused : (refusal : Refusal) → r ≡ refused_ran refusal spot.position i spot.left spot.at spot.place → Untouched spot i b b r
+  untouched_refused refusal q = record {
+    is = λ f h.
+        let k = ap (λ (z : Fault). z.refusal) (same_refusal (ap (λ (y : Ran). y.stop) q) h) in
+        (q ∙ ap (λ (z : Refusal). refused_ran z spot.position i spot.left spot.at spot.place) k, refl);
   }
 
 -- neither leaves a sequence: the flow would have to go on by whatever comes after that
@@ -148,7 +152,7 @@ performed_stays {f} {spot = spot} d q =
     ends : (n : ℕ) → finish_of (f (λ i. done spot.left i)) ≡ finish_of (refused n 0 0)
     ends n = gives_finish (gave_left (d.does.same (λ l i. done l i) (λ l i. refused n 0 0)) q)
 
-pub refused_stays : {code p i left at place : ℕ} {r : Ran} → r ≡ refused_ran code p i left at place → r.stop ≡ Escaped → ⊥
+pub refused_stays : {refusal : Refusal} {p i left at place : ℕ} {r : Ran} → r ≡ refused_ran refusal p i left at place → r.stop ≡ Escaped → ⊥
 refused_stays h q = no_left (ap (λ (y : Ran). y.stop) h) q
 
 -- jumps

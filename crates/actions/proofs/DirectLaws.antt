@@ -20,6 +20,7 @@ use Rattle.rules.specs.declared.Form.{Form}
 use Rattle.rules.specs.declared.Form.TheVariants.{Object, Numeral, Repeat}
 use Rattle.std.specs.Prelude.{None}
 use Rattle.rules.specs.declared.Settings.{Settings}
+use Rattle.rules.specs.declared.refusal.Refusal.TheVariants.{NoRoom}
 use Rattle.rules.proofs.Padding.{left_length}
 use Rattle.rules.proofs.ShortTexts.{object_text, decimal_text, repeat_text}
 use Rattle.pieces.specs.Bytes.{part}
@@ -41,7 +42,7 @@ module _ (spot : Spot) (next count n : ℕ) (b w : List ℕ) (q : n ≡ length w
   direct_put h u k =
       performed_put spot next count b w r (h ∙ ap (λ (m : ℕ). ended_ran next spot.left (spot.at + m) spot.place) q) u k
 
-  pub direct_full : (i : ℕ) → r ≡ refused_ran 10 spot.position i spot.left spot.at spot.place
+  pub direct_full : (i : ℕ) → r ≡ refused_ran NoRoom spot.position i spot.left spot.at spot.place
       → spot.at ≤ length b → length b - spot.at < n → i ≤ count → Performed (λ on. put spot.position spot.left w (on next)) count spot b b r
   direct_full i h l m k = performed_full spot next count b w r i h l (omega arith) k
 

@@ -7,12 +7,15 @@ use native.Mathlib.Omega.{arith}
 use lib.ListN.{length, take, drop}
 use lib.Seq.{drop-drop}
 use Rattle.rules.specs.Flow.{Flow, refused, Gives, Lacks}
+use Rattle.rules.specs.Refusals.{code_of}
+use Rattle.rules.specs.declared.refusal.Fault.{Fault}
+use Rattle.rules.specs.declared.refusal.Refusal.TheVariants.{NoRoom}
 use Rattle.rules.specs.Answer.{fit}
 use Rattle.rules.proofs.FlowLaws.{gives_still, gives_join, gives_lacks, gives_fit, lacks_fit}
 use Rattle.actions.specs.declared.state.Stop.{Stop}
 use Rattle.actions.specs.declared.state.Stop.TheVariants.{Ended, Escaped, Refused}
 use Rattle.actions.specs.declared.state.Ran.{Ran}
-use Rattle.actions.specs.Ran.{onward, Same, gives, lacks, Does}
+use Rattle.actions.specs.Ran.{no_room, onward, Same, gives, lacks, Does}
 
 -- two lists that agree from i on agree from a later place on
 pub agree : (x y : List ℕ) (i j : ℕ) → i ≤ j → drop i x ≡ drop i y → drop j x ≡ drop j y
@@ -61,18 +64,18 @@ said {b = b} {e = e} r' d q p h n s =
     }
 
 -- no run stops in two ways
-pub no_end : {o : Stop} {code x : ℕ} → o ≡ Refused code x → o ≡ Ended → ⊥
+pub no_end : {o : Stop} {f : Fault} → o ≡ Refused f → o ≡ Ended → ⊥
 no_end q r = let z : ◌≡◌ {A = ℕ} 0 1 = cc in omega arith
 
 pub no_end_left : {o : Stop} → o ≡ Escaped → o ≡ Ended → ⊥
 no_end_left q r = let z : ◌≡◌ {A = ℕ} 0 1 = cc in omega arith
 
-pub no_left : {o : Stop} {code x : ℕ} → o ≡ Refused code x → o ≡ Escaped → ⊥
+pub no_left : {o : Stop} {f : Fault} → o ≡ Refused f → o ≡ Escaped → ⊥
 no_left q r = let z : ◌≡◌ {A = ℕ} 0 1 = cc in omega arith
 
--- and a refusal has one code and one position
-pub same_refusal : {o : Stop} {code code₂ x y : ℕ} → o ≡ Refused code x → o ≡ Refused code₂ y → (code ≡ code₂) × (x ≡ y)
-same_refusal q w = (cc, cc)
+-- and a run is refused for one fault
+pub same_refusal : {o : Stop} {f g : Fault} → o ≡ Refused f → o ≡ Refused g → f ≡ g
+same_refusal q w = cc
 
 -- what comes after a stop, by the stop
 module _ (on out : ℕ → ℕ → Flow) (left i : ℕ) where
@@ -83,8 +86,8 @@ module _ (on out : ℕ → ℕ → Flow) (left i : ℕ) where
   onward_left q = ap (λ (o : Stop). onward on out o left i) q
 
 module _ (on out on' out' : ℕ → ℕ → Flow) (left i : ℕ) where
-  pub onward_refused : {o : Stop} (code p : ℕ) → o ≡ Refused code p → onward on out o left i ≡ onward on' out' o left i
-  onward_refused code p q =
+  pub onward_refused : {o : Stop} (f : Fault) → o ≡ Refused f → onward on out o left i ≡ onward on' out' o left i
+  onward_refused f q =
       ap (λ (o : Stop). onward on out o left i) q ∙ sym (ap (λ (o : Stop). onward on' out' o left i) q)
 
 module _ {f : Flow} {on out : ℕ → ℕ → Flow} {at : ℕ} {b e : List ℕ} {r : Ran} where
@@ -93,7 +96,7 @@ module _ {f : Flow} {on out : ℕ → ℕ → Flow} {at : ℕ} {b e : List ℕ} 
   from q s = subst (λ (k : Flow). Same k on out at b e r) (sym q) s
 
   -- where it did not stop for want of room, the flow gives what was written, whatever the room
-  pub gave : Same f on out at b e r → ((p : ℕ) → r.stop ≡ Refused 10 p → ⊥)
+  pub gave : Same f on out at b e r → ((p : ℕ) → r.stop ≡ no_room p → ⊥)
       → Gives (take at b) f (take r.at e) (onward on out r.stop r.left r.next.0)
   gave (gives u) h = u
   gave (lacks {p = p} q u) h = absurd (h p q)
@@ -104,9 +107,10 @@ module _ {f : Flow} {on out : ℕ → ℕ → Flow} {at : ℕ} {b e : List ℕ} 
   pub gave_left : Same f on out at b e r → r.stop ≡ Escaped → Gives (take at b) f (take r.at e) (out r.left r.next.0)
   gave_left s q = subst (Gives (take at b) f (take r.at e)) (onward_left on out r.left r.next.0 q) (gave s (λ p w. no_left w q))
 
-  pub gave_refused : Same f on out at b e r → (code p : ℕ) → r.stop ≡ Refused code p → (code ≡ 10 → ⊥) → Gives (take at b) f (take r.at e) (refused code p r.left)
-  gave_refused s code p q h =
-      subst (Gives (take at b) f (take r.at e)) (ap (λ (o : Stop). onward on out o r.left r.next.0) q) (gave s (λ x w. h (same_refusal q w).0))
+  pub gave_refused : Same f on out at b e r → (fault : Fault) → r.stop ≡ Refused fault → (fault.refusal ≡ NoRoom → ⊥)
+      → Gives (take at b) f (take r.at e) (refused (code_of fault.refusal) fault.position r.left)
+  gave_refused s fault q h =
+      subst (Gives (take at b) f (take r.at e)) (ap (λ (o : Stop). onward on out o r.left r.next.0) q) (gave s (λ x w. h (ap (λ (z : Fault). z.refusal) (same_refusal q w))))
 
   -- and in the buffer it comes to what comes after it
   pub same_fit : Same f on out at b e r → length (take r.at e) ≤ length b
@@ -128,7 +132,7 @@ module _ {f : Flow} {on out on' out' : ℕ → ℕ → Flow} {at : ℕ} {b e : L
   then_on s q z y n = after (subst (Gives (take at b) f (take r.at e)) y (gave_on s q)) z n
 
   -- where it stopped, by what comes after it under another name
-  pub renamed : Same f on out at b e r → (r' : Ran) → r'.at ≡ r.at → r'.left ≡ r.left → ((p : ℕ) → r.stop ≡ Refused 10 p → r'.stop ≡ Refused 10 p)
+  pub renamed : Same f on out at b e r → (r' : Ran) → r'.at ≡ r.at → r'.left ≡ r.left → ((p : ℕ) → r.stop ≡ no_room p → r'.stop ≡ no_room p)
       → onward on out r.stop r.left r.next.0 ≡ onward on' out' r'.stop r'.left r'.next.0 → Same f on' out' at b e r'
   renamed (gives u) r' q l h y =
       gives

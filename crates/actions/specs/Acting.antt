@@ -4,6 +4,7 @@ use Rattle.rules.specs.Run.{Flow}
 use Rattle.rules.specs.Setting.{Setting}
 use Rattle.std.specs.Prelude.{None, Some}
 use Rattle.rules.specs.declared.Settings.{Settings}
+use Rattle.rules.specs.declared.refusal.Fault.{Fault}
 use Rattle.actions.specs.declared.state.Ran.{Ran}
 use Rattle.actions.specs.declared.state.Spot.{Spot}
 use Rattle.actions.specs.declared.state.Stop.TheVariants.{Refused}
@@ -25,5 +26,5 @@ pub record Performed (f : (ℕ → Flow) → Flow) (count : ℕ) (spot : Spot) (
 -- "A piece is .. written whole or not at all": what is refused has written nothing and stands where it was begun, and i
 -- is the next argument still
 pub record Untouched (spot : Spot) (i : ℕ) (b e : List ℕ) (r : Ran) : Type 0 where
-  pub is : (code x : ℕ) → r.stop ≡ Refused code x
-      → (r ≡ refused_ran code spot.position i spot.left spot.at spot.place) × (e ≡ b)
+  pub is : (f : Fault) → r.stop ≡ Refused f
+      → (r ≡ refused_ran f.refusal spot.position i spot.left spot.at spot.place) × (e ≡ b)

@@ -1,11 +1,14 @@
 -- How the code's numbers and buffer stand for a flow: what a directive that acts alone promises.
 -- Assumes nothing: these are definitions.
 use Rattle.std.specs.Prelude.{◌≡◌, List, ℕ, ◌-◌, ◌≤◌, length, take, drop}
+use Rattle.rules.specs.Refusals.{code_of}
 use Rattle.rules.specs.Table.{View}
 use Rattle.rules.specs.Working.{Context}
 use Rattle.rules.specs.Flow.{Gives, Lacks}
 use Rattle.rules.specs.Run.{Flow, refused, item_acts}
 use Rattle.rules.specs.declared.Item.{Item}
+use Rattle.rules.specs.declared.refusal.Refusal.{Refusal}
+use Rattle.rules.specs.declared.refusal.Refusal.TheVariants.{NoRoom}
 use Rattle.parameters.specs.Settling.{InHand}
 use Rattle.actions.specs.declared.state.Stop.{Stop}
 use Rattle.actions.specs.declared.state.Stop.TheVariants.{Ended, Escaped, Refused}
@@ -14,11 +17,15 @@ use Rattle.actions.specs.declared.state.Spot.{Spot}
 use Rattle.actions.specs.declared.state.Stand.{Stand}
 
 -- a refusal, and an end after which the text goes on at a place
-abbrev pub refused_ran : ℕ → ℕ → ℕ → ℕ → ℕ → ℕ → Ran
-refused_ran code x i left at place = record { stop = Refused code x; next = record { 0 = i }; left = left; at = at; place = place }
+abbrev pub refused_ran : Refusal → ℕ → ℕ → ℕ → ℕ → ℕ → Ran
+refused_ran refusal x i left at place = record { stop = Refused (record { refusal = refusal; position = x }); next = record { 0 = i }; left = left; at = at; place = place }
 
 abbrev pub ended_ran : ℕ → ℕ → ℕ → ℕ → Ran
 ended_ran i left at place = record { stop = Ended; next = record { 0 = i }; left = left; at = at; place = place }
+
+-- refused for want of room
+abbrev pub no_room : ℕ → Stop
+no_room p = Refused (record { refusal = NoRoom; position = p })
 
 -- a directive, begun: a step less is left
 abbrev pub begun : Spot → Spot
@@ -36,14 +43,14 @@ pub record Stands (t : List ℕ) (stand : Stand) (b : List ℕ) : Type 0 where
 abbrev pub onward : (ℕ → ℕ → Flow) → (ℕ → ℕ → Flow) → Stop → ℕ → ℕ → Flow
 onward on out Ended left i = on left i
 onward on out Escaped left i = out left i
-onward on out (Refused code p) left i = refused code p left
+onward on out (Refused f) left i = refused (code_of f.refusal) f.position left
 
 -- The flow f, from the buffer b at the place `at`, gives what is written in the buffer e up to r's place and then is what
 -- comes after r; or, where r is refused for want of room, a piece that does not fit into b. So no room has a say in a run
 -- that stops otherwise
 pub data Same (f : Flow) (on out : ℕ → ℕ → Flow) (at : ℕ) (b e : List ℕ) (r : Ran) : Type 0 where
   gives : Gives (take at b) f (take r.at e) (onward on out r.stop r.left r.next.0) → Same f on out at b e r
-  lacks : {p : ℕ} → r.stop ≡ Refused 10 p → Lacks (length b) (take at b) f (take r.at e) p r.left → Same f on out at b e r
+  lacks : {p : ℕ} → r.stop ≡ no_room p → Lacks (length b) (take at b) f (take r.at e) p r.left → Same f on out at b e r
 
 -- r is a run as S says, over `count` arguments, and has changed nothing past its end
 pub record Does (S : Type 0) (count left at : ℕ) (b e : List ℕ) (r : Ran) : Type 0 where

@@ -1,19 +1,17 @@
 // Where a run stands, and how it stops.
 ghost use Rattle.std.specs.Prelude.{◌≡◌, ◌<◌};
-ghost use Rattle.rules.specs.Refusals.{code_of};
 ghost use Rattle.actions.specs.Ran.{refused_ran, ended_ran, begun};
 
 use parameters::Hand;
 use rules::ArgumentPosition;
-use rules::refusal::Refusal;
+use rules::refusal::{Fault, Refusal};
 
-// How the run of a sequence stops: at its end, at an escape that leaves it, or refused, with 01's number as the laws of
-// flows have it.
+// How the run of a sequence stops: at its end, at an escape that leaves it, or refused.
 #[derive(Clone, Copy, PartialEq, Eq, Debug)]
 pub enum Stop {
     Ended,
     Escaped,
-    Refused { code: u32, position: usize },
+    Refused(Fault),
 }
 
 // A run that stopped: the next argument, the steps that are left and the end of what is written, and the place of the
@@ -50,13 +48,13 @@ pub struct Stand {
 impl Spot {
     // Refused here, with nothing more written.
     pub fn refuse(self, refusal: Refusal, next: ArgumentPosition) -> Ran
-        ensures { result ≡ refused_ran (code_of refusal) self.position next.0 self.left self.at self.place }
+        ensures { result ≡ refused_ran refusal self.position next.0 self.left self.at self.place }
     {
         Ran {
-            stop: Stop::Refused {
-                code: refusal.code(),
+            stop: Stop::Refused(Fault {
+                refusal,
                 position: self.position,
-            },
+            }),
             next,
             left: self.left,
             at: self.at,

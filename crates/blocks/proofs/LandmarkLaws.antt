@@ -20,6 +20,10 @@ use Rattle.blocks.proofs.ClauseLaws.{wanted_next, inside_on}
 
 -- 1. The clauses of a block, one after another.
 
+from_start : (number : Option ℕ) → number ≡ option_map (λ m. m - 0) number
+from_start None = refl
+from_start (Some m) = ap Some (let z : m ≡ m - 0 = omega arith in z)
+
 on_from : (n : ℕ) (number : Option ℕ) → option_map (λ m. m - 1) (option_map (λ m. m - n) number) ≡ option_map (λ m. m - (n + 1)) number
 on_from n None = refl
 on_from n (Some m) = ap Some (let z : m - n - 1 ≡ m - (n + 1) = omega arith in z)
@@ -32,6 +36,13 @@ above n (Some m) h e = let z : m - n ≡ 0 = same_Some (m - n) 0 e in omega (ari
 at_least : (n : ℕ) (number : Option ℕ) → IfSome number (λ m. n + 1 ≤ m) → IfSome number (λ m. n ≤ m)
 at_least n None h = h
 at_least n (Some m) h = omega (arith, h)
+
+stands_first : (t : List ℕ) → StandsAt t 0 0 0 false 0
+stands_first t = record {
+  same = λ fb number _. ap (λ (m : Option ℕ). wanted_of m fb (as_clauses false (levels_at t 0))) (from_start number);
+  inside = record { outside = refl; least = omega arith; most = omega arith };
+  last = λ z. absurd (z refl);
+}
 
 stands_next : {t : List ℕ} {start n z q next after : ℕ} {colon another : Bool} → StandsAt t start n z colon after → AnotherClause t z q another next
     → StandsAt t start (n + 1) next another 0
@@ -54,15 +65,16 @@ ends_it l u e = (u.last (λ z. by (eqb l.after 0) (eq-eqb l.after 0 z) e)).more
     by true q e = cc
     by false q e = cc
 
--- what an array holds before landmarks are laid
-abbrev pub nowhere : Landmark
-nowhere = record { inside = 65535; number = 65535; place = 65535; colon = false; after = 65535 }
-
+-- no landmark is laid yet
 pub none_laid : (t : List ℕ) → Landmarks t []
 none_laid t = record { each = λ k d h. absurd (omega (arith, h)) }
 
-pub none_laid_in : (t : List ℕ) (n : ℕ) → length t ≤ 4096 → Landmarks t (replicate n nowhere)
-none_laid_in t n h = record { each = All-replicate (λ l. l.inside ≤ length t → Sound t l) n nowhere (λ w. absurd (omega (arith, h, w))) }
+-- zeros say that the text begins at its start
+abbrev pub empty : Landmark
+empty = record { inside = 0; number = 0; place = 0; colon = false; after = 0 }
+
+pub none_laid_in : (t : List ℕ) (n : ℕ) → Landmarks t (replicate n empty)
+none_laid_in t n = record { each = All-replicate (λ l. l.inside ≤ length t → Sound t l) n empty (λ h. stands_first t) }
 
 -- 3. The landmarks of a block: up to the clause l.
 

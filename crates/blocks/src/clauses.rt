@@ -44,6 +44,7 @@ fn seek_clause(text: &[u8], start: usize, colon: bool, sought: Sought) -> Result
     let mut z = start;
     let mut marked = colon;
     let mut left = sought;
+    // no `for`: where the next clause begins shows only when this one is gone over
     loop {
         if left.number == Some(0) {
             return Ok(z);

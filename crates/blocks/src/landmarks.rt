@@ -18,16 +18,14 @@ const FAR: usize = 80;
 // How long a text is at most that is run without landmarks in any case.
 const LONG: usize = 208;
 
-// No place of a text, and above every number of a clause.
-const NOWHERE: u16 = 65535;
-
-// What an array holds before landmarks are laid: it stands behind them all.
+// What an array holds before landmarks are laid: zeros, which are the quickest to fill it with. In any text they are sound,
+// and of no block, since the inside of one has an opener before it.
 pub const EMPTY: Landmark = Landmark {
-    inside: NOWHERE,
-    number: NOWHERE,
-    place: NOWHERE,
+    inside: 0,
+    number: 0,
+    place: 0,
     colon: false,
-    after: NOWHERE,
+    after: 0,
 };
 
 // A clause, by the place of its block's inside, its number and its own place, whether a ~:; stands before it, and, if it
@@ -52,9 +50,11 @@ impl Landmark {
         Some(usize::from(self.after))
     }
 
-    // Whether it stands behind clause n of the block whose inside is at start, or in a later block.
+    // Whether it stands behind clause n of the block whose inside is at start, or in a later block. Place 0, where none has
+    // its inside, counts as the last, so that EMPTY stands behind them all; an if would take longer.
     fn is_behind(self, start: usize, n: usize) -> bool {
-        (start, n) < (usize::from(self.inside), usize::from(self.number))
+        let inside = usize::from(self.inside.wrapping_sub(1)) + 1;
+        (start, n) < (inside, usize::from(self.number))
     }
 }
 
@@ -63,7 +63,7 @@ impl Landmark {
 pub fn nearest(marks: &[Landmark], start: usize, number: Option<usize>) -> Option<Landmark>
     ensures { (t : List ℕ) → Landmarks t marks.now → start ≤ length t → IfSome result (λ l. (l.inside ≡ start) × IfSome number (λ n. l.number ≤ n) × Sound t l) }
 {
-    let n = number.unwrap_or(usize::from(NOWHERE));
+    let n = number.unwrap_or(usize::from(u16::MAX));
     let k = marks
         .partition_point(|l| !l.is_behind(start, n))
         .checked_sub(1)?;
@@ -71,7 +71,7 @@ pub fn nearest(marks: &[Landmark], start: usize, number: Option<usize>) -> Optio
     (usize::from(l.inside) == start && usize::from(l.number) <= n).then_some(l)
 }
 
-// Where the last landmark stands once the clause at place is met, if the one before stands at from.
+// Whether a clause at place is far enough from the landmark at from to get one of its own.
 fn is_far(from: usize, place: usize) -> bool {
     FAR <= place.saturating_sub(from)
 }
@@ -98,11 +98,10 @@ fn mark_block(text: &[u8], start: usize, marks: &mut [Landmark], first: usize) -
     let mut from = start;
     let mut l = Landmark {
         inside: start as u16,
-        number: 0,
         place: start as u16,
-        colon: false,
-        after: 0,
+        ..EMPTY
     };
+    // no `for`: where the next clause begins shows only when this one is gone over
     loop {
         match next_clause(text, usize::from(l.place)) {
             ClauseEnd::Last { after, .. } => {
@@ -139,6 +138,7 @@ pub fn mark_text(text: &[u8], marks: &mut [Landmark])
     }
     let mut p: usize = 0;
     let mut k: usize = 0;
+    // no `for`: how long an item is shows only when it is read
     loop {
         p = skip_short(text, p);
         p = match shape_at(text, p) {

@@ -6,7 +6,6 @@ ghost use Rattle.parameters.specs.Settling.{InHand, hand_at};
 ghost use Rattle.blocks.specs.Clauses.{counted_from, pick_two, pick_one, pick_own, Wants};
 ghost use Rattle.blocks.specs.Parts.{Takes};
 
-use numbers::{is_negative, magnitude};
 use parameters::{Hand, argument_at};
 use rules::refusal::Refusal;
 use rules::{Argument, ArgumentPosition, Directive, Settings};
@@ -104,14 +103,9 @@ fn want_own(table: &[u8], hand: Hand, i: ArgumentPosition) -> Result<Wanted, Ref
     let Argument::Integer(z) = take_argument(table, hand, i)? else {
         return Err(Refusal::WrongKind);
     };
-    let number = if is_negative(z) {
-        None
-    } else {
-        Some(magnitude(z) as usize)
-    };
     Ok(Wanted {
         clause: Some(Sought {
-            number,
+            number: usize::try_from(z).ok(),
             fallback: true,
         }),
         next: ArgumentPosition(i.0 + 1),

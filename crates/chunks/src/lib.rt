@@ -3,10 +3,11 @@
 
 ghost use Rattle.std.specs.Prelude.{◌≡◌, nat_eq, position, [], ◌∷◌, ◌++◌, ◌+◌, ◌≤◌, ◌<◌, length, take, drop};
 ghost use Rattle.lines.specs.Front.{AtFront};
+ghost use Rattle.lines.specs.Same.{SameBuffers};
 ghost use Rattle.chunks.specs.Cutting.{line_in, last_line};
 ghost use Rattle.chunks.specs.Feeding.{Answered, Taken, FarEnough};
 
-use lines::answer_with;
+use lines::Scratch;
 
 // How much of a chunk is taken, how much is held of the line that it ends in, and where the answers end.
 #[derive(Clone, Copy, Debug, PartialEq, Eq)]
@@ -44,18 +45,12 @@ pub fn hold(line: &mut [u8], held: usize, part: &[u8]) -> usize
 }
 
 // Adds the answer to a line, and its newline, to the answers in out.
-pub fn add_answer(
-    line: &[u8],
-    frame: &mut [u8],
-    text: &mut [u8],
-    out: &mut [u8],
-    filled: usize,
-) -> usize
-    requires in_bounds { (32767 ≤ length frame.old) × (length text.old ≡ 16384) }
-    requires filled_in_bounds { filled + 32795 ≤ length out.old }
-    ensures { Answered (line.now ∷ []) frame.old frame.new text.old text.new out.old out.new filled result }
+pub fn add_answer(line: &[u8], scratch: &mut Scratch, out: &mut [u8], filled: usize) -> usize
+    requires { filled + 32795 ≤ length out.old }
+    ensures answered { Answered (line.now ∷ []) scratch.old.frame.now scratch.new.frame.now scratch.old.text.now scratch.new.text.now out.old out.new filled result }
+    ensures same_buffers { SameBuffers scratch.old scratch.new }
 {
-    let count = answer_with(line, frame, text, &mut out[filled..]);
+    let count = scratch.answer_with(line, &mut out[filled..]);
     let end = filled + count;
     out[end] = b'\n';
     end + 1
@@ -67,26 +62,26 @@ pub fn feed(
     chunk: &[u8],
     line: &mut [u8],
     held: usize,
-    frame: &mut [u8],
-    text: &mut [u8],
+    scratch: &mut Scratch,
     out: &mut [u8],
 ) -> Fed
     requires in_bounds { (65535 < length line.old) × (held ≤ length line.old) }
-    requires in_bounds_2 { (32767 ≤ length frame.old) × (length text.old ≡ 16384) }
-    requires in_bounds_3 { 32795 ≤ length out.old }
-    ensures taken { Taken (take result.taken chunk.now) (take held line.old) line.old line.new frame.old frame.new text.old text.new out.old out.new result.held result.filled }
+    requires in_bounds_2 { 32795 ≤ length out.old }
+    ensures taken { Taken (take result.taken chunk.now) (take held line.old) line.old line.new scratch.old.frame.now scratch.new.frame.now scratch.old.text.now scratch.new.text.now out.old out.new result.held result.filled }
+    ensures same_buffers { SameBuffers scratch.old scratch.new }
     ensures far_enough { FarEnough chunk.now out.old result.taken result.filled }
 {
     let mut kept = held;
     let mut filled = 0;
     let mut from = 0;
+    // no `for`: where a line ends shows only when its newline is found
     while from < chunk.len() && 32795 <= out.len() - filled {
         let end = line_end(chunk, from);
         kept = hold(line, kept, &chunk[from..end]);
         if end == chunk.len() {
             from = end;
         } else {
-            filled = add_answer(&line[..kept], frame, text, out, filled);
+            filled = add_answer(&line[..kept], scratch, out, filled);
             kept = 0;
             from = end + 1;
         }
@@ -99,13 +94,13 @@ pub fn feed(
 }
 
 // Answers the last line of an input, which lacks its newline, if there is one.
-pub fn answer_last(line: &[u8], frame: &mut [u8], text: &mut [u8], out: &mut [u8]) -> usize
-    requires in_bounds { (32767 ≤ length frame.old) × (length text.old ≡ 16384) }
-    requires in_bounds_2 { 32795 ≤ length out.old }
-    ensures { Answered (last_line line.now) frame.old frame.new text.old text.new out.old out.new 0 result }
+pub fn answer_last(line: &[u8], scratch: &mut Scratch, out: &mut [u8]) -> usize
+    requires { 32795 ≤ length out.old }
+    ensures answered { Answered (last_line line.now) scratch.old.frame.now scratch.new.frame.now scratch.old.text.now scratch.new.text.now out.old out.new 0 result }
+    ensures same_buffers { SameBuffers scratch.old scratch.new }
 {
     if line.is_empty() {
         return 0;
     }
-    add_answer(line, frame, text, out, 0)
+    add_answer(line, scratch, out, 0)
 }

@@ -21,6 +21,10 @@ use Rattle.rules.specs.declared.Directive.{Directive}
 use Rattle.rules.specs.declared.Item.{Item}
 use Rattle.rules.specs.declared.Item.TheVariants.{Literal, Written}
 use Rattle.rules.specs.Setting.{Setting}
+use Rattle.rules.specs.Refusals.{code_of}
+use Rattle.rules.specs.declared.refusal.Fault.{Fault}
+use Rattle.rules.specs.declared.refusal.Refusal.{Refusal}
+use Rattle.rules.specs.declared.refusal.Refusal.TheVariants.{BadBlock, StepLimit}
 use Rattle.rules.proofs.TextLaws.{next_inside, stands}
 use Rattle.syntax.specs.Ends.{AfterBlock}
 use Rattle.parameters.specs.Settling.{hand_at}
@@ -65,7 +69,7 @@ sequence_stops s n v first count level p i left at b {e} {r} u h = by r.stop ref
         (subst (Runs s n v (hand first count) level r.place r.next.0 r.left r.at e e) (ended_as q)
         (runs_end s n v first count level r.place r.next.0 r.left r.at e (h q) (u.most q) (omega (arith, u.does.most, u.does.size)) u.does.inside))
     by Escaped q = strides_runs_left s n v first count level p i left at b u q
-    by (Refused code x) q = strides_runs_refused s n v first count level p i left at b u code x q
+    by (Refused f) q = strides_runs_refused s n v first count level p i left at b u f q
 
 -- an item at which the run stops
 pub steps_stopped : (s : ℕ → List Level) (n : ℕ) (v : View) (first count level p i left at : ℕ) (b : List ℕ) {e : List ℕ} {r : Ran}
@@ -74,8 +78,8 @@ steps_stopped s n v first count level p i left at b u h =
     sequence_stops s n v first count level p i left at b (strides s n v first count level p i left at b u) (λ q. absurd (h q))
 
 -- what stands at a spot, by the spot's other name
-pub refused_at_lem : {r : Ran} {x y : Spot} {code i : ℕ} → r ≡ refused_ran code x.position i x.left x.at x.place → x ≡ y → r ≡ refused_ran code y.position i y.left y.at y.place
-refused_at_lem {code = code} {i = i} e o = e ∙ ap (λ (z : Spot). refused_ran code z.position i z.left z.at z.place) o
+pub refused_at_lem : {r : Ran} {x y : Spot} {refusal : Refusal} {i : ℕ} → r ≡ refused_ran refusal x.position i x.left x.at x.place → x ≡ y → r ≡ refused_ran refusal y.position i y.left y.at y.place
+refused_at_lem {refusal = refusal} {i = i} e o = e ∙ ap (λ (z : Spot). refused_ran refusal z.position i z.left z.at z.place) o
 
 pub written_inside : {x y : Spot} {n : ℕ} → x ≡ y → y.at ≤ n → x.at ≤ n
 written_inside {n = n} o h = subst (λ (z : Spot). z.at ≤ n) (sym o) h
@@ -99,10 +103,10 @@ module _ (t : List ℕ) (v : View) (first count level p i left at : ℕ) (b : Li
   abbrev StepsHere : List ℕ → Ran → Type 0
   StepsHere b₂ r = Steps (levels_at t) (length t) v (hand first count) level p i left at b b₂ r
 
-  pub block_deep : (r : Ran) → opens_block d.code ≡ true → level ≡ 0 → r ≡ refused_ran 4 p i left at d.after → at ≤ length b → i ≤ count → StepsHere b r
+  pub block_deep : (r : Ran) → opens_block d.code ≡ true → level ≡ 0 → r ≡ refused_ran BadBlock p i left at d.after → at ≤ length b → i ≤ count → StepsHere b r
   block_deep r o z q l k = subst (StepsHere b) (sym q) (by d.code refl o)
     where
-      by : (c : Code) → d.code ≡ c → opens_block c ≡ true → StepsHere b (refused_ran 4 p i left at d.after)
+      by : (c : Code) → d.code ≡ c → opens_block c ≡ true → StepsHere b (refused_ran BadBlock p i left at d.after)
       by (Writes f) w o = absurd (not_both o refl)
       by Jump w o = absurd (not_both o refl)
       by Escape w o = absurd (not_both o refl)
@@ -112,10 +116,10 @@ module _ (t : List ℕ) (v : View) (first count level p i left at : ℕ) (b : Li
       by (Closes c) w o = absurd (not_both o refl)
       by Unknown w o = absurd (not_both o refl)
 
-  pub block_none : (r : Ran) → opens_block d.code ≡ true → (level ≡ 0 → ⊥) → left ≡ 0 → r ≡ refused_ran 9 p i left at d.after → at ≤ length b → i ≤ count → StepsHere b r
+  pub block_none : (r : Ran) → opens_block d.code ≡ true → (level ≡ 0 → ⊥) → left ≡ 0 → r ≡ refused_ran StepLimit p i left at d.after → at ≤ length b → i ≤ count → StepsHere b r
   block_none r o lv z q l k = subst (StepsHere b) (sym q) (by d.code refl o)
     where
-      by : (c : Code) → d.code ≡ c → opens_block c ≡ true → StepsHere b (refused_ran 9 p i left at d.after)
+      by : (c : Code) → d.code ≡ c → opens_block c ≡ true → StepsHere b (refused_ran StepLimit p i left at d.after)
       by (Writes f) w o = absurd (not_both o refl)
       by Jump w o = absurd (not_both o refl)
       by Escape w o = absurd (not_both o refl)
@@ -148,10 +152,10 @@ module _ (t : List ℕ) (v : View) (first count level p i left at : ℕ) (b : Li
       by Unknown w o u = absurd (not_both o refl)
 
 -- a block that is refused, as it is told
-pub blocks_told : (s : ℕ → List Level) (n : ℕ) (v : View) (first count level q : ℕ) (f : List Frame → Flow) (left at : ℕ) (b : List ℕ) (r : Ran) (code x i place : ℕ)
-    → r ≡ refused_ran code x i left at place → ((ks : List Frame) → f ks ≡ refused code x left) → at ≤ length b → i ≤ count → Blocks s n v (hand first count) level q f left at b b r
-blocks_told s n v first count level q f left at b r code x i place e h l k =
-    subst (Blocks s n v (hand first count) level q f left at b b) (sym e) (blocks_refused s n v first count level q f left at b code x i place h l k)
+pub blocks_told : (s : ℕ → List Level) (n : ℕ) (v : View) (first count level q : ℕ) (f : List Frame → Flow) (left at : ℕ) (b : List ℕ) (r : Ran) (refusal : Refusal) (x i place : ℕ)
+    → r ≡ refused_ran refusal x i left at place → ((ks : List Frame) → f ks ≡ refused (code_of refusal) x left) → at ≤ length b → i ≤ count → Blocks s n v (hand first count) level q f left at b b r
+blocks_told s n v first count level q f left at b r refusal x i place e h l k =
+    subst (Blocks s n v (hand first count) level q f left at b b) (sym e) (blocks_refused s n v first count level q f left at b refusal x i place h l k)
 
 -- the place after a block, as a run has it
 pub closes_after : {t : List ℕ} {q place : ℕ} → AfterBlock t q place → After (levels_at t) (length t) q place
@@ -196,7 +200,7 @@ clause_stopped s n v first count level q z i left at b {e} {r} u f = by r.stop r
     by : (x : Stop) → r.stop ≡ x → RunsClause s n v (hand first count) level q z i left at b e r
     by Ended y = absurd (f y)
     by Escaped y = record { is = λ g h. blocks_clause_left s n v first count level q g left at b z i h u y }
-    by (Refused code p) y = record { is = λ g h. blocks_clause_refused s n v first count level q g left at b z i h u code p y }
+    by (Refused fault) y = record { is = λ g h. blocks_clause_refused s n v first count level q g left at b z i h u fault y }
 
 -- passes by another name of the spot where they begin
 pub passes_from : {s : ℕ → List Level} {n : ℕ} {v : View} {c : ℕ → Context} {level q i : ℕ} {passes : Setting} {b e : List ℕ} {r : Ran} {x y : Spot} → x ≡ y
@@ -214,7 +218,7 @@ module _ (s : ℕ → List Level) (n : ℕ) (v : View) (first count level q i : 
 
   module _ (h : either (none_remain (hand first count i)) (used_up passes) ≡ false) where
     -- no step is left for the next pass
-    pub passes_none_told : {r : Ran} → r ≡ refused_ran 9 on.position i on.left on.at on.place → on.left ≡ 0 → on.at ≤ length b → i ≤ count → PassesHere b r
+    pub passes_none_told : {r : Ran} → r ≡ refused_ran StepLimit on.position i on.left on.at on.place → on.left ≡ 0 → on.at ≤ length b → i ≤ count → PassesHere b r
     passes_none_told e z l k =
         subst (PassesHere b) (sym e) (passes_none s n v first count level on.position q i passes on.left on.at b h z on.place l k)
 
@@ -238,14 +242,14 @@ module _ (s : ℕ → List Level) (n : ℕ) (v : View) (first count level q i : 
           by Escaped y =
               let m = w.left y in
               subst (PassesHere e) (sym m.is) (passes_left s n v first count level on.position q i passes on.left on.at b h z pass y o.place m.after)
-          by (Refused code x) y =
-              subst (PassesHere e) (sym (w.refused code x y)) (passes_refused s n v first count level on.position q i passes on.left on.at b h z pass code x y)
+          by (Refused fault) y =
+              subst (PassesHere e) (sym (w.refused fault y)) (passes_refused s n v first count level on.position q i passes on.left on.at b h z pass fault y)
 
 -- which stops are answered as they are
-pub left_not_refused : {x : Stop} {code p : ℕ} → x ≡ Escaped → x ≡ Refused code p → ⊥
+pub left_not_refused : {x : Stop} {f : Fault} → x ≡ Escaped → x ≡ Refused f → ⊥
 left_not_refused q r = let z : ◌≡◌ {A = ℕ} 0 1 = cc in omega arith
 
 pub not_left : (keys : List ℕ) (x : Stop) → keys ≡ 0 ∷ 2 ∷ [] → OneOf keys (tag_of stop_declared.the_type x) → x ≡ Escaped → ⊥
 not_left keys Ended q o e = no_end_left e refl
 not_left keys Escaped q o e = miss (0 ∷ 2 ∷ []) 1 tt (subst (λ (k : List ℕ). OneOf k 1) q o)
-not_left keys (Refused code p) q o e = left_not_refused e refl
+not_left keys (Refused f) q o e = left_not_refused e refl

@@ -44,7 +44,7 @@ outcome_is : (v : View) (first count room : ℕ) (out : List ℕ) (o : Stop) (le
 unfolding fit
 outcome_is v first count room out Ended left i = ap (fit room out) (run_done v (hand first count i) left)
 outcome_is v first count room out Escaped left i = refl
-outcome_is v first count room out (RefusedAt code p) left i = refl
+outcome_is v first count room out (RefusedAt f) left i = refl
 
 answers_by : (f t b e : List ℕ) (x : Answer) (code position steps written : ℕ) → answer_of f t (length b) ≡ x
     → code ≡ x.code → position ≡ x.position → steps ≡ x.steps → written ≡ length x.text → e ≡ x.text ++ drop written b → Answers f t b e code position steps written

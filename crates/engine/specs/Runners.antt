@@ -3,6 +3,7 @@ use Rattle.std.specs.Prelude.{◌≡◌, true, false, List, ℕ}
 use Rattle.rules.specs.Directive.{item_at}
 use Rattle.rules.specs.Text.{Level, end, levels_at}
 use Rattle.rules.specs.declared.Item.{Item}
+use Rattle.rules.specs.declared.refusal.Fault.{Fault}
 use Rattle.actions.specs.declared.state.Ran.{Ran}
 use Rattle.actions.specs.declared.state.Spot.{Spot}
 use Rattle.actions.specs.declared.state.Stop.TheVariants.{Ended, Escaped, Refused}
@@ -21,4 +22,4 @@ pub record ItemAfter (t : List ℕ) (s : Ran) (x : Item) : Type 0 where
 -- o is what the passes of the block whose inside is at q answer after the pass r, if that was left or refused
 pub record LeavesPasses (s : ℕ → List Level) (n q : ℕ) (r o : Ran) : Type 0 where
   pub left : r.stop ≡ Escaped → EndsBlock s n (spot_at q q r.left r.at) q r.next.0 o
-  pub refused : (code x : ℕ) → r.stop ≡ Refused code x → o ≡ r
+  pub refused : (f : Fault) → r.stop ≡ Refused f → o ≡ r

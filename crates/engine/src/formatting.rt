@@ -32,7 +32,7 @@ fn outcome_of(r: Ran) -> Outcome
     ensures { result ≡ outcome_of r }
 {
     let (code, position) = match r.stop {
-        Stop::Refused { code, position } => (code, position),
+        Stop::Refused(Fault { refusal, position }) => (refusal.code(), position),
         Stop::Ended | Stop::Escaped => (0, 0),
     };
     Outcome {

@@ -47,6 +47,7 @@ pub fn run_sequence(
     let mut next = first.next;
     let mut left = first.left;
     let mut at = first.at;
+    // no `for`: each turn goes on where the one before it stopped in the text
     loop {
         let stand = Stand {
             hand,
@@ -363,6 +364,7 @@ fn run_passes(
     let mut passes = limit;
     let mut next = first.next;
     let mut on = spot_at(p, q, first.left, first.at);
+    // no `for`: how many passes there are depends on what each of them takes
     loop {
         if is_over(passes, next, hand) {
             return end_block(text, marks, on, q, on.place, next);

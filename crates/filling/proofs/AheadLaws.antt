@@ -1,16 +1,18 @@
 -- What runs ahead of an item, an escape, and the loop over steps. Assumes nothing.
 use Prim.Native.Nat.{ℕ, ◌+◌, ◌-◌, ◌<◌, ◌≤◌}
 use mathlib.Core.Path.{◌≡◌, refl, sym, ap, subst, ◌∙◌}
-use mathlib.Core.Bool.{true}
-use mathlib.Core.List.{List, [], ◌∷◌}
-use denote.Enum.Declared.{tag_of}
-use types.Run.{OneOf, miss}
+use mathlib.Core.Bool.{true, false}
+use Rattle.std.specs.Prelude.{Err}
+use mathlib.Core.List.{List}
 use native.Mathlib.Decide.{ℕ_discrete as dec_eq}
 use native.Mathlib.Omega.{arith}
 use lib.ListN.{length, take}
-use borrow.Author.Tests.{eq-eqb, ne_eqb, le-leb, lt-leb}
+use borrow.Author.Tests.{le-leb, lt-leb}
 use Rattle.rules.specs.Choice.{choose}
-use Rattle.rules.specs.declared.refusal.Refusal.TheVariants.{StepLimit}
+use Rattle.rules.specs.Refusals.{code_of}
+use Rattle.rules.specs.declared.refusal.Fault.{Fault}
+use Rattle.rules.specs.declared.refusal.Refusal.{Refusal}
+use Rattle.rules.specs.declared.refusal.Refusal.TheVariants.{StepLimit, NoRoom}
 use Rattle.rules.specs.Flow.{Flow, given_text, Gives}
 use Rattle.rules.specs.Table.{view_of}
 use Rattle.rules.specs.Text.{Level, innermost, levels_at, deepest}
@@ -25,8 +27,7 @@ use Rattle.actions.specs.declared.state.Ran.{Ran}
 use Rattle.actions.specs.declared.state.Stop.{Stop}
 use Rattle.actions.specs.declared.state.Stop.TheVariants.{Ended, Escaped, Refused}
 use Rattle.actions.specs.Ran.{ended_ran}
-use Rattle.actions.proofs.Joining.{gave_on, gave_refused, no_end, no_end_left}
-use Rattle.actions.specs.contracts.state.Stop as stop_declared
+use Rattle.actions.proofs.Joining.{gave_on, gave_refused, no_end, no_end_left, same_refusal}
 use Rattle.running.specs.Runs.{EscapesAt, rest_at, leaving, Strides}
 use Rattle.running.proofs.Strides.{strides_none}
 use Rattle.stepping.specs.Stepping.{HeldUp}
@@ -41,23 +42,17 @@ use Rattle.filling.specs.declared.steps.Step.{Step}
 use Rattle.filling.specs.declared.giving.Reach.{Reach}
 use Rattle.filling.specs.declared.giving.Reach.TheVariants.{On, Over, Full}
 use Rattle.filling.specs.Filling.{put_over, to_give, goes_on, Advances, step_of}
-use Rattle.filling.specs.Steps.{unheld_by, unheld, is_on, Standing, RunsAhead}
+use Rattle.filling.specs.Steps.{is_no_room, unheld_by, unheld, is_on, Standing, RunsAhead}
 use Rattle.filling.proofs.StepLaws.{over_on, over_full, false_true, refused_appends, steps_on, advances_join}
 
 -- how a run of short directives stands
-pub unheld_full : (r : Ran) {code x : ℕ} → r.stop ≡ Refused code x → code ≡ 10 → ended_ran r.next.0 (r.left + 1) r.at x ≡ unheld r
-unheld_full r {code} {x} q c = sym (ap (λ (s : Stop). unheld_by s r) q ∙ rw (eq-eqb code 10 c) refl)
+is_room : (k : Refusal) → Dec (k ≡ NoRoom)
+is_room NoRoom = yes refl
+is_room k = no (λ e. let z : ◌≡◌ {A = ℕ} 0 1 = cc in omega arith)
 
-pub unheld_other : (r : Ran) {code x : ℕ} → r.stop ≡ Refused code x → (code ≡ 10 → ⊥) → r ≡ unheld r
-unheld_other r {code} {x} q c = sym (ap (λ (s : Stop). unheld_by s r) q ∙ rw (ne_eqb code 10 c) refl)
-
-pub unheld_same : (keys : List ℕ) (r : Ran) → keys ≡ 0 ∷ 1 ∷ [] → OneOf keys (tag_of stop_declared.the_type r.stop) → r ≡ unheld r
-unheld_same keys r q o = by r.stop refl o
-  where
-    by : (x : Stop) → r.stop ≡ x → OneOf keys (tag_of stop_declared.the_type x) → r ≡ unheld r
-    by Ended k o = sym (ap (λ (s : Stop). unheld_by s r) k)
-    by Escaped k o = sym (ap (λ (s : Stop). unheld_by s r) k)
-    by (Refused code x) k o = absurd (miss (0 ∷ 1 ∷ []) 2 tt (subst (λ (i : List ℕ). OneOf i 2) q o))
+not_room : (k : Refusal) → (k ≡ NoRoom → ⊥) → is_no_room k ≡ false
+not_room NoRoom n = absurd (n refl)
+not_room k n = refl
 
 -- a run of short directives that found no room, as it stands then
 module _ (t table : List ℕ) (h : Here) (given at : ℕ) (b e : List ℕ) (r : Ran) where
@@ -68,20 +63,18 @@ module _ (t table : List ℕ) (h : Here) (given at : ℕ) (b e : List ℕ) (r : 
       → {s : Ran} → s ≡ unheld r → RunsAhead t table h given at b e s
   unheld_ahead z d u n q = subst (RunsAhead t table h given at b e) (sym q) (by r.stop refl)
     where
-      same : (x : Stop) → r.stop ≡ x → unheld_by x r ≡ r → (code : ℕ) (y : ℕ) → x ≡ Refused code y → (code ≡ 10 → ⊥) → RunsAhead t table h given at b e (unheld_by x r)
-      same x k w code y c ten =
-          subst (RunsAhead t table h given at b e) (sym w)
-          (record { does = d; none = λ g. absurd (g z); stays = n; finds = λ p f. ten (let o : ◌≡◌ {A = Stop} (Refused code y) (Refused 10 p) = sym (k ∙ c) ∙ f in cc) })
+      same : (f : Fault) → r.stop ≡ Refused f → (f.refusal ≡ NoRoom → ⊥) → RunsAhead t table h given at b e r
+      same f k c = record { does = d; none = λ g. absurd (g z); stays = n; finds = λ p w. c (ap (λ (y : Fault). y.refusal) (same_refusal k w)) }
 
       by : (x : Stop) → r.stop ≡ x → RunsAhead t table h given at b e (unheld_by x r)
       by Ended k = record { does = d; none = λ g. absurd (g z); stays = n; finds = λ p f. no_end f k }
       by Escaped k = absurd (n k)
-      by (Refused code x) k =
-          elim (dec_eq code 10) [
+      by (Refused f) k =
+          elim (is_room f.refusal) [
             | yes c ↦
-                subst (RunsAhead t table h given at b e) (sym (rw (eq-eqb code 10 c) refl))
-                (record { does = u x (k ∙ ap (λ (y : ℕ). Refused y x) c); none = λ g. absurd (g z); stays = λ f. no_end_left f refl; finds = λ p f. no_end f refl })
-            | no c ↦ same (Refused code x) k (rw (ne_eqb code 10 c) refl) code x refl c
+                rw c
+                (record { does = u f.position (k ∙ ap (λ (y : Refusal). Refused (record { refusal = y; position = f.position })) c); none = λ g. absurd (g z); stays = λ f. no_end_left f refl; finds = λ p f. no_end f refl })
+            | no c ↦ rw (not_room f.refusal c) (same f k c)
           ]
 
 -- nothing runs ahead
@@ -157,16 +150,16 @@ module _ (t table : List ℕ) (h : Here) (o : Nest) (given at : ℕ) (b e : List
             subst (λ (x : List ℕ). Advances t table (to_give given (comes t table h o)) h.left (weight h o) at x e' s) n.1
             (subst (λ (x : Ran). Advances t table (to_give given (comes t table (here_at x.place x.left h.hand x.next) o)) x.left (weight (here_at x.place x.left h.hand x.next) o) x.at e e' s) n.0 v)
 
-  pub ahead_refused : {code x : ℕ} {s : Step} → r.stop ≡ Refused code x → s ≡ step_of o (put_over code x there r.at) → Advances t table (to_give given (comes t table h o)) h.left (weight h o) at b e s
-  ahead_refused {code} {x} {s} q w = elim (dec_eq given 0) [ yes z ↦ from_none z | no z ↦ absurd (no_end q (ap (λ (k : Ran). k.stop) (u.none z).0)) ]
+  pub ahead_refused : {fault : Fault} {s : Step} → r.stop ≡ Refused fault → s ≡ step_of o (put_over (Err fault) there r.at) → Advances t table (to_give given (comes t table h o)) h.left (weight h o) at b e s
+  ahead_refused {fault} {s} q w = elim (dec_eq given 0) [ yes z ↦ from_none z | no z ↦ absurd (no_end q (ap (λ (k : Ran). k.stop) (u.none z).0)) ]
     where
       from_none : given ≡ 0 → Advances t table (to_give given (comes t table h o)) h.left (weight h o) at b e s
       from_none z =
-          let g = gave_refused (ran.does.same ks deep) code x q (λ c. u.finds x (q ∙ ap (λ (k : ℕ). Refused k x) c)) in
+          let g = gave_refused (ran.does.same ks deep) fault q (λ c. u.finds fault.position (q ∙ ap (λ (k : Refusal). Refused (record { refusal = k; position = fault.position })) c)) in
           subst (λ (k : ℕ). Advances t table (to_give k (comes t table h o)) h.left (weight h o) at b e s) (sym z)
           (subst (Advances t table (to_give 0 (comes t table h o)) h.left (weight h o) at b e) (sym w)
           (record {
-            written = refused_appends code x r.left (appends g);
+            written = refused_appends (code_of fault.refusal) fault.position r.left (appends g);
             finish = gives_finish g;
             steps = ran.does.falls;
             sound = λ k. absurd (false_true k);
@@ -218,7 +211,7 @@ going_first t table h o given at b s = record { ends = λ e r v. v; standing = s
 
 pub is_on_lem : (y : Reach) → is_on y ≡ true → y ≡ On
 is_on_lem On q = refl
-is_on_lem (Over code p) q = absurd (false_true q)
+is_on_lem (Over out) q = absurd (false_true q)
 is_on_lem Full q = absurd (false_true q)
 
 pub going_on : {t table : List ℕ} {x : Told} {left heavy from : ℕ} {b₀ : List ℕ} {h : Here} {o : Nest} {given at : ℕ} {b : List ℕ} → Going t table x left heavy from b₀ h o given at b → {e : List ℕ} {r : Step}

@@ -120,11 +120,11 @@ module _ {f : (ℕ → Flow) → Flow} {count : ℕ} {spot : Spot} {r : Ran} (u 
           let k : r.next.0 ≡ i = cc in
           h _ ∙ sym (ap (λ (z : Stop). comes_after on out z r.left r.next.0) q ∙ ap (λ (l : ℕ). on l r.next.0) a ∙ ap (λ (j : ℕ). on spot.left j) k)
       by Escaped q e = absurd (performed_stays u q)
-      by (Refused code x) q e = absurd (refused_done e)
+      by (Refused fault) q e = absurd (refused_done e)
   silent_is (stops code p l h) on out = by r.stop refl (refuses_as code p l (h _))
     where
       by : (x : Stop) → r.stop ≡ x → comes_after mark (λ a k. mark a k) x r.left r.next.0 ≡ refused code p l
           → f (λ k. on spot.left k) ≡ comes_after on out r.stop r.left r.next.0
       by Ended q e = absurd (refused_done (sym e))
       by Escaped q e = absurd (performed_stays u q)
-      by (Refused code₂ x) q e = h _ ∙ sym e ∙ sym (ap (λ (z : Stop). comes_after on out z r.left r.next.0) q)
+      by (Refused fault) q e = h _ ∙ sym e ∙ sym (ap (λ (z : Stop). comes_after on out z r.left r.next.0) q)

@@ -22,9 +22,8 @@ use Rattle.rules.specs.declared.Form.{Form}
 use Rattle.rules.specs.declared.Item.{Item}
 use Rattle.rules.specs.declared.Item.TheVariants.{Literal, Written}
 use Rattle.rules.specs.Refusals.{code_of}
-use Rattle.rules.specs.declared.Settings.{Settings}
+use Rattle.rules.specs.declared.refusal.Fault.{Fault}
 use Rattle.rules.specs.declared.refusal.Refusal.{Refusal}
-use Rattle.rules.specs.declared.Argument.{Argument}
 use Rattle.rules.specs.contracts.Code as code_declared
 use Rattle.rules.proofs.Tests.{not_both_ways}
 use Rattle.pieces.specs.Rest.{Appends}
@@ -49,7 +48,7 @@ use Rattle.nesting.specs.declared.moves.Here.{Here}
 use Rattle.nesting.specs.declared.nests.Nest.{Nest}
 use Rattle.nesting.proofs.MoveLaws.{told_refused, lies}
 use Rattle.filling.specs.declared.giving.Put.{Put}
-use Rattle.filling.specs.Filling.{put_on, put_over, put_full, Given, whole, cut, to_give, Advances, step_of, Puts}
+use Rattle.filling.specs.Filling.{put_on, put_over, put_refused, put_full, Given, whole, cut, to_give, Advances, step_of, Puts}
 use Rattle.filling.specs.declared.steps.Step.{Step}
 use Rattle.filling.proofs.JumpLaws.{silent_jump, silent_is}
 use Rattle.filling.proofs.StepLaws.{advances_given, advances_over, advances_on, acts_on, steps_on}
@@ -70,13 +69,13 @@ module _ (t table : List ℕ) (x : Item) (q : ℕ) (h : Here) (given at : ℕ) (
       }
 
   -- it is refused
-  pub puts_refused : {b : List ℕ} {r : Put} {after : Here} (code : ℕ) → ((on : ℕ → Flow) → does on ≡ refused code h.place (h.left - 1)) → after.left ≡ h.left - 1
-      → r ≡ put_over code h.place after at → at ≤ length b → Puts t table x q h given at b b r
-  puts_refused {b} {r} {after} code p y e l =
+  pub puts_refused : {b : List ℕ} {r : Put} {after : Here} (refusal : Refusal) → ((on : ℕ → Flow) → does on ≡ refused (code_of refusal) h.place (h.left - 1)) → after.left ≡ h.left - 1
+      → r ≡ put_refused refusal h.place after at → at ≤ length b → Puts t table x q h given at b b r
+  puts_refused {b} {r} {after} refusal p y e l =
       record {
         is = λ o s a m.
             advances_over t table (comes t table h o) given h.left (weight h o) at b (ap (step_of o) e)
-            (ap told (acts_on t table h o x q a z ∙ p _ ∙ ap (refused code h.place) (sym y)) ∙ told_refused code h.place after.left) (omega (arith, y)) l;
+            (ap told (acts_on t table h o x q a z ∙ p _ ∙ ap (refused (code_of refusal) h.place) (sym y)) ∙ told_refused (code_of refusal) h.place after.left) (omega (arith, y)) l;
       }
 
 -- a literal byte
@@ -124,9 +123,9 @@ module _ (byte : ℕ) (h : Here) (given at : ℕ) (z : h.left ≡ 0 → ⊥) whe
 -- a directive of a form
 module _ (t table : List ℕ) (form : Form) (d : Directive) (h : Here) (given at : ℕ) (z : h.left ≡ 0 → ⊥) where
   pub form_refused : {b : List ℕ} {r : Put} {refusal : Refusal} → Plans table form d h.hand h.next.0 (Err refusal)
-      → r ≡ put_over (code_of refusal) h.place (here_at d.after (h.left - 1) h.hand h.next) at → at ≤ length b → Puts t table (Written d) d.after h given at b b r
+      → r ≡ put_refused refusal h.place (here_at d.after (h.left - 1) h.hand h.next) at → at ≤ length b → Puts t table (Written d) d.after h given at b b r
   form_refused {refusal = refusal} p e l =
-      puts_refused t table (Written d) d.after h given at z (code_of refusal) (λ on. p.as_defined h.place (h.left - 1) on) refl e l
+      puts_refused t table (Written d) d.after h given at z refusal (λ on. p.as_defined h.place (h.left - 1) on) refl e l
 
   pub form_shows : {b e : List ℕ} {r : Put} {x : Plan} {w : List ℕ} → InHand table h.hand → Plans table form d h.hand h.next.0 (Ok x)
       → w ≡ text_of form d.colon d.atsign x.settings (meant table x.argument) → Given w h (here_at d.after (h.left - 1) h.hand x.next) given at b e table r → Puts t table (Written d) d.after h given at b e r
@@ -165,15 +164,15 @@ module _ (t table : List ℕ) (d : Directive) (h : Here) (given at : ℕ) (z : h
                   (omega (arith, u.does.falls, z)) l;
             }
         by Escaped q w = absurd (performed_stays u q)
-        by (Refused code x) q w = absurd (miss (0 ∷ 1 ∷ []) 2 tt (subst (λ (i : List ℕ). OneOf i 2) k w))
+        by (Refused f) q w = absurd (miss (0 ∷ 1 ∷ []) 2 tt (subst (λ (i : List ℕ). OneOf i 2) k w))
 
-    pub jump_refused : {b : List ℕ} {s : Put} {code x : ℕ} → r.stop ≡ Refused code x → s ≡ put_over code x (here_at d.after r.left h.hand r.next) at → at ≤ length b
+    pub jump_refused : {b : List ℕ} {s : Put} {fault : Fault} → r.stop ≡ Refused fault → s ≡ put_over (Err fault) (here_at d.after r.left h.hand r.next) at → at ≤ length b
         → Puts t table (Written d) d.after h given at b b s
-    jump_refused {b} {s} {code} {x} q e l =
+    jump_refused {b} {s} {fault} q e l =
         record {
           is = λ o i a m.
               advances_over t table (comes t table h o) given h.left (weight h o) at b (ap (step_of o) e)
-              (ap told (comes_to o a ∙ ap (λ (k : Stop). onward (λ l j. run (view_of table) l (rest_at (levels_at t) d.after) (frames_of (levels_at t) o o.depth) (hand_at h.hand j)) (λ l j. refused 0 0 0) k r.left r.next.0) q) ∙ told_refused code x r.left)
+              (ap told (comes_to o a ∙ ap (λ (k : Stop). onward (λ l j. run (view_of table) l (rest_at (levels_at t) d.after) (frames_of (levels_at t) o o.depth) (hand_at h.hand j)) (λ l j. refused 0 0 0) k r.left r.next.0) q) ∙ told_refused (code_of fault.refusal) fault.position r.left)
               (omega (arith, u.does.falls)) l;
         }
 
@@ -196,4 +195,4 @@ escape_code keys Unknown q e w = absurd (not_both_ways refl e)
 pub ended_stop : (keys : List ℕ) (x : Stop) → keys ≡ 0 ∷ 1 ∷ [] → (x ≡ Escaped → ⊥) → OneOf keys (tag_of stop_declared.the_type x) → x ≡ Ended
 ended_stop keys Ended q n o = refl
 ended_stop keys Escaped q n o = absurd (n refl)
-ended_stop keys (Refused code x) q n o = absurd (miss (0 ∷ 1 ∷ []) 2 tt (subst (λ (k : List ℕ). OneOf k 2) q o))
+ended_stop keys (Refused f) q n o = absurd (miss (0 ∷ 1 ∷ []) 2 tt (subst (λ (k : List ℕ). OneOf k 2) q o))

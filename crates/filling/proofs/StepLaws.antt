@@ -13,16 +13,16 @@ use Rattle.rules.specs.Table.{view_of}
 use Rattle.rules.specs.Text.{Level, innermost, levels_at}
 use Rattle.rules.specs.Run.{begin, item_acts, run}
 use Rattle.rules.specs.declared.ArgumentPosition.{ArgumentPosition}
-use Rattle.rules.specs.Refusals.{code_of}
 use Rattle.rules.specs.declared.Item.{Item}
 use Rattle.rules.specs.declared.refusal.Fault.{Fault}
+use Rattle.rules.specs.declared.refusal.Refusal.TheVariants.{StepLimit}
 use Rattle.rules.proofs.RunLaws.{begin_yes, begin_no, run_acts}
 use Rattle.pieces.specs.Rest.{rest_of, RestIn, Appends}
 use Rattle.pieces.specs.declared.resuming.QuoteRest.{QuoteRest}
 use Rattle.pieces.proofs.Rests.{append_none, append_before, append_more, rest_done}
 use Rattle.parameters.specs.Settling.{hand_at}
 use Rattle.running.specs.Runs.{ActsAt, rest_at}
-use Rattle.nesting.specs.Moves.{here_at, Told, told, told_over, comes, Sound, weight, Moves}
+use Rattle.nesting.specs.Moves.{here_at, Told, told, told_end, comes, Sound, weight, Moves}
 use Rattle.nesting.specs.Moves.{told_by as reached_by}
 use Rattle.nesting.specs.Nest.{frames_of, hand_lies}
 use Rattle.nesting.specs.declared.moves.Here.{Here}
@@ -33,14 +33,14 @@ use Rattle.filling.specs.declared.giving.Reach.{Reach}
 use Rattle.filling.specs.declared.giving.Reach.TheVariants.{On, Over, Full}
 use Rattle.filling.specs.declared.giving.Put.{Put}
 use Rattle.filling.specs.declared.steps.Step.{Step}
-use Rattle.filling.specs.Filling.{no_rest, put_at, put_on, put_over, put_full, Given, whole, cut, quoted, to_give, told_by, over_by, remaining, Advances, step_of, Puts}
+use Rattle.filling.specs.Filling.{no_rest, put_at, put_on, put_refused, put_full, Given, whole, cut, quoted, to_give, told_by, over_by, remaining, Advances, step_of, Puts}
 use Rattle.filling.specs.Steps.{reach_of, moved_step, StepsFrom}
 
 -- how a step came is one way
-pub over_on : {code p : ℕ} → ◌≡◌ {A = Reach} (Over code p) On → ⊥
+pub over_on : {out : Result ⊤ Fault} → ◌≡◌ {A = Reach} (Over out) On → ⊥
 over_on e = let z : ◌≡◌ {A = ℕ} 0 1 = cc in omega arith
 
-pub over_full : {code p : ℕ} → ◌≡◌ {A = Reach} (Over code p) Full → ⊥
+pub over_full : {out : Result ⊤ Fault} → ◌≡◌ {A = Reach} (Over out) Full → ⊥
 over_full e = let z : ◌≡◌ {A = ℕ} 0 1 = cc in omega arith
 
 full_on : ◌≡◌ {A = Reach} Full On → ⊥
@@ -73,19 +73,24 @@ drop_both n w x =
 pub to_give_lem : (f g : Flow) (given : ℕ) → told f ≡ told g → to_give given f ≡ to_give given g
 to_give_lem f g given e = ap (λ (x : Told). record { bytes = drop given x.bytes; finish = x.finish }) e
 
--- a run that is over
-abbrev pub over_step : ℕ → ℕ → Here → Nest → ℕ → ℕ → Step
-over_step code p h o given at = step_of o (put_at (Over code p) h given at)
+-- a run that is over, which gives nothing more
+end_bytes : (out : Result ⊤ Fault) (left : ℕ) → (told_end out left).bytes ≡ []
+end_bytes (Ok u) left = refl
+end_bytes (Err x) left = refl
+
+abbrev pub over_step : Result ⊤ Fault → Here → Nest → ℕ → ℕ → Step
+over_step out h o given at = step_of o (put_at (Over out) h given at)
 
 module _ (t table : List ℕ) (f : Flow) (given left heavy at : ℕ) (b : List ℕ) where
-  pub advances_over : {code p g : ℕ} {h : Here} {o : Nest} {r : Step} → r ≡ over_step code p h o g at → told f ≡ told_over code p h.left → h.left ≤ left → at ≤ length b
+  pub advances_over : {out : Result ⊤ Fault} {g : ℕ} {h : Here} {o : Nest} {r : Step} → r ≡ over_step out h o g at → told f ≡ told_end out h.left → h.left ≤ left → at ≤ length b
       → Advances t table (to_give given f) left heavy at b b r
-  advances_over {code} {p} {g} {h} {o} q e l m =
+  advances_over {out} {g} {h} {o} q e l m =
       subst (Advances t table (to_give given f) left heavy at b b) (sym q)
       (record {
         written =
-            subst (λ (x : List ℕ). Appends x at b b at [])
-            (sym (ap (drop given) (ap (λ (x : Told). x.bytes) e) ∙ drop-nil given)) (append_none [] at b m);
+            subst (λ (x : List ℕ). Appends x at b b at (told_end out h.left).bytes)
+            (sym (ap (drop given) (ap (λ (x : Told). x.bytes) e ∙ end_bytes out h.left) ∙ drop-nil given))
+            (rw (end_bytes out h.left) (append_none [] at b m));
         finish = ap (λ (x : Told). x.finish) e;
         steps = l;
         sound = λ z. absurd (false_true z);
@@ -120,10 +125,8 @@ module _ (t table : List ℕ) (f : Flow) (given left heavy at : ℕ) (b : List �
       by : (w : Option (Result ⊤ Fault)) → m.over ≡ w → Advances t table (to_give given f) left heavy at b b r
       by None z =
           advances_on {h = m.here} {o = m.nest} {r = r} (q ∙ ap step z) (v.same ∙ ap reached_as z) v.steps (v.sound z) (v.falls z) l
-      by (Some (Ok u)) z =
-          advances_over {code = 0} {p = 0} {g = given} {h = m.here} {o = m.nest} {r = r} (q ∙ ap step z) (v.same ∙ ap reached_as z) v.steps l
-      by (Some (Err x)) z =
-          advances_over {code = code_of x.refusal} {p = x.position} {g = given} {h = m.here} {o = m.nest} {r = r} (q ∙ ap step z) (v.same ∙ ap reached_as z) v.steps l
+      by (Some out) z =
+          advances_over {out = out} {g = given} {h = m.here} {o = m.nest} {r = r} (q ∙ ap step z) (v.same ∙ ap reached_as z) v.steps l
 
 -- a piece w, after which the run stands at `after`
 module _ (t table : List ℕ) (h after : Here) (o : Nest) (p m : ℕ) (w : List ℕ) (given at : ℕ) (b e : List ℕ) where
@@ -224,7 +227,7 @@ module _ (t table : List ℕ) (h : Here) (o : Nest) (x : Item) (q : ℕ) (a : Ac
   acts_none z = acts ∙ begin_no h.place h.left _ z
 
 -- no step is left for it
-pub puts_none : (t table : List ℕ) (x : Item) (q : ℕ) (h : Here) (given at : ℕ) (b : List ℕ) {r : Put} → h.left ≡ 0 → r ≡ put_over 9 h.place h at → at ≤ length b → Puts t table x q h given at b b r
+pub puts_none : (t table : List ℕ) (x : Item) (q : ℕ) (h : Here) (given at : ℕ) (b : List ℕ) {r : Put} → h.left ≡ 0 → r ≡ put_refused StepLimit h.place h at → at ≤ length b → Puts t table x q h given at b b r
 puts_none t table x q h given at b z e l =
     record {
       is = λ o s a m.

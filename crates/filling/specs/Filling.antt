@@ -1,13 +1,15 @@
 -- What a step promises that fills a window: what was to come is what it wrote and what is still to come.
 -- Assumes nothing: these are definitions.
-use Rattle.std.specs.Prelude.{ℕ, ◌-◌, ◌≤◌, ◌<◌, ◌≡◌, Bool, true, false, List, [], ◌++◌, length, drop}
+use Rattle.std.specs.Prelude.{ℕ, ◌-◌, ◌≤◌, ◌<◌, ◌≡◌, Bool, true, false, List, [], ◌++◌, Result, Err, ⊤, length, drop}
 use Rattle.rules.specs.Flow.{Flow, given_text, finish_of}
 use Rattle.rules.specs.Text.{levels_at}
 use Rattle.rules.specs.declared.Item.{Item}
+use Rattle.rules.specs.declared.refusal.Fault.{Fault}
+use Rattle.rules.specs.declared.refusal.Refusal.{Refusal}
 use Rattle.pieces.specs.Rest.{rest_of, RestIn, Appends}
 use Rattle.pieces.specs.declared.resuming.QuoteRest.{QuoteRest}
 use Rattle.running.specs.Runs.{ActsAt}
-use Rattle.nesting.specs.Moves.{Told, told_over, comes, Sound, weight}
+use Rattle.nesting.specs.Moves.{Told, told_over, told_end, comes, Sound, weight}
 use Rattle.nesting.specs.declared.moves.Here.{Here}
 use Rattle.nesting.specs.declared.nests.Nest.{Nest}
 use Rattle.filling.specs.declared.giving.Reach.{Reach}
@@ -25,8 +27,11 @@ put_at reach h given at = record { reach = reach; progress = record { here = h; 
 abbrev pub put_on : Here → ℕ → ℕ → Put
 put_on h given at = put_at On h given at
 
-abbrev pub put_over : ℕ → ℕ → Here → ℕ → Put
-put_over code p h at = put_at (Over code p) h 0 at
+abbrev pub put_over : Result ⊤ Fault → Here → ℕ → Put
+put_over out h at = put_at (Over out) h 0 at
+
+abbrev pub put_refused : Refusal → ℕ → Here → ℕ → Put
+put_refused refusal p h at = put_over (Err (record { refusal = refusal; position = p })) h at
 
 abbrev pub put_full : Here → ℕ → ℕ → Put
 put_full h given at = put_at Full h given at
@@ -50,12 +55,12 @@ to_give given f = record { bytes = drop given (given_text f); finish = finish_of
 -- what is to come after a step
 abbrev pub told_by : Reach → List ℕ → Told → Told → Told
 told_by On w x over = x
-told_by (Over code p) w x over = over
+told_by (Over out) w x over = over
 told_by Full w x over = record { bytes = w ++ x.bytes; finish = x.finish }
 
 abbrev pub over_by : Reach → ℕ → Told
 over_by On left = told_over 0 0 left
-over_by (Over code p) left = told_over code p left
+over_by (Over out) left = told_end out left
 over_by Full left = told_over 0 0 left
 
 abbrev pub remaining : List ℕ → List ℕ → Step → Told
@@ -67,7 +72,7 @@ remaining t table r =
 -- the run is not over
 abbrev pub goes_on : Reach → Bool
 goes_on On = true
-goes_on (Over code p) = false
+goes_on (Over out) = false
 goes_on Full = true
 
 -- r is a step from where x is to come, with so many steps left and so much weight; the window, in which so much is

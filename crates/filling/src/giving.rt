@@ -1,12 +1,11 @@
 // A piece that goes into the window, or as much of it as there is room for.
 ghost use Rattle.std.specs.Prelude.{◌≡◌, List, ℕ, ◌+◌, ◌-◌, ◌≤◌, ◌<◌, length};
 ghost use Rattle.rules.specs.Directive.{FormRight};
-ghost use Rattle.rules.specs.Refusals.{code_of};
 ghost use Rattle.rules.specs.declared.Item.TheVariants.{Literal, Written};
 ghost use Rattle.pieces.specs.Bytes.{Good, bytes_of};
 ghost use Rattle.pieces.specs.declared.Content.TheVariants.{Quoted};
 ghost use Rattle.parameters.specs.Settling.{InHand};
-ghost use Rattle.filling.specs.Filling.{put_at, put_on, put_over, put_full, Puts, Given};
+ghost use Rattle.filling.specs.Filling.{put_at, put_on, put_over, put_refused, put_full, Puts, Given};
 
 use actions::planning::{Plan, plan_form};
 use making::making::make_piece;
@@ -14,15 +13,14 @@ use nesting::moves::Here;
 use pieces::resuming::{QuoteRest, quote_rest, write_rest};
 use pieces::writing::{piece_length, write_part, write_whole};
 use pieces::{Content, Piece};
-use rules::refusal::Refusal;
+use rules::refusal::{Fault, Refusal};
 use rules::{Code, Directive, Form};
 
-// How far a step came: the run goes on, it is over with this code and position, or the next byte has no room. The code
-// is a number as in `actions::Stop`, which has some of them, and 0 at the end of the text.
+// How far a step came: the run goes on, it is over, at its end or refused, or the next byte has no room.
 #[derive(Clone, Copy)]
 pub enum Reach {
     On,
-    Over { code: u32, position: usize },
+    Over(Result<(), Fault>),
     Full,
 }
 
@@ -76,16 +74,16 @@ impl Put {
         Put::at(Reach::Full, here, given, at)
     }
 
-    pub fn over(code: u32, position: usize, here: Here, at: usize) -> Put
-        ensures { result ≡ put_over code position here at }
+    pub fn over(end: Result<(), Fault>, here: Here, at: usize) -> Put
+        ensures { result ≡ put_over end here at }
     {
-        Put::at(Reach::Over { code, position }, here, 0, at)
+        Put::at(Reach::Over(end), here, 0, at)
     }
 
     pub fn refused(refusal: Refusal, position: usize, here: Here, at: usize) -> Put
-        ensures { result ≡ put_over (code_of refusal) position here at }
+        ensures { result ≡ put_refused refusal position here at }
     {
-        Put::over(refusal.code(), position, here, at)
+        Put::over(Err(Fault { refusal, position }), here, at)
     }
 }
 

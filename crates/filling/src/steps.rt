@@ -17,7 +17,6 @@ use blocks::landmarks::{Landmark, mark_text};
 use nesting::inputs::Inputs;
 use nesting::moves::{Here, Moved, end_sequence, leave, open_block};
 use nesting::nests::Nest;
-use rules::codes::NO_ROOM;
 use rules::refusal::{Fault, Refusal};
 use rules::{Code, Directive, Item};
 use stepping::short::run_short;
@@ -34,14 +33,7 @@ fn reach_of(over: Option<Result<(), Fault>>) -> Reach
 {
     match over {
         None => Reach::On,
-        Some(Ok(())) => Reach::Over {
-            code: 0,
-            position: 0,
-        },
-        Some(Err(fault)) => Reach::Over {
-            code: fault.refusal.code(),
-            position: fault.position,
-        },
+        Some(end) => Reach::Over(end),
     }
 }
 
@@ -68,7 +60,12 @@ fn unhold(r: Ran) -> Ran
     ensures { result ≡ unheld r }
 {
     match r.stop {
-        Stop::Refused { code, position } if code == NO_ROOM => Ran {
+        Stop::Refused(
+            Fault {
+                refusal: Refusal::NoRoom,
+                position,
+            },
+        ) => Ran {
             stop: Stop::Ended,
             left: r.left + 1,
             place: position,
@@ -137,7 +134,7 @@ fn jump(d: Directive, table: &[u8], progress: Progress) -> Put
         next: r.next,
     };
     match r.stop {
-        Stop::Refused { code, position } => Put::over(code, position, there, at),
+        Stop::Refused(fault) => Put::over(Err(fault), there, at),
         _ => Put::on(there, given, at),
     }
 }
@@ -230,8 +227,8 @@ fn advance(inputs: Inputs<'_>, progress: Progress, nest: Nest, window: &mut [u8]
         next: r.next,
     };
     match r.stop {
-        Stop::Refused { code, position } => Step {
-            put: Put::over(code, position, here, r.at),
+        Stop::Refused(fault) => Step {
+            put: Put::over(Err(fault), here, r.at),
             nest,
         },
         _ => {
@@ -285,6 +282,7 @@ pub fn fill_window(
     let mut progress = start;
     let mut nest = blocks;
     let mut turns: usize = 0;
+    // no `for`: each turn goes on where the one before it left the run
     loop {
         let inputs = Inputs { text, marks, table };
         let step = advance(inputs, progress, nest, window);

@@ -6,6 +6,7 @@ ghost use Rattle.chunks.specs.Cutting.{begun_line};
 ghost use Rattle.chunks.specs.Feeding.{Holds};
 
 use chunks::{answer_last, feed};
+use lines::Scratch;
 use std::io;
 use std::io::{ErrorKind, Read};
 
@@ -63,20 +64,19 @@ fn answer_chunk(
     chunk: &[u8],
     line: &mut [u8],
     held: usize,
-    frame: &mut [u8],
-    text: &mut [u8],
+    scratch: &mut Scratch,
     out: &mut [u8],
 ) -> Option<usize>
     requires line_len { (length line.old ≡ 65536) × (held ≤ 65536) }
-    requires frame_len { (length frame.old ≡ 32768) × (length text.old ≡ 16384) }
     requires out_len { length out.old ≡ 131072 }
     ensures held_bound { IfSome result (λ kept. kept ≤ 65536) }
     ensures holds { IfSome result (λ kept. Holds line.new (begun_line (take held line.old) chunk.now) kept) }
 {
     let mut kept = held;
     let mut from = 0;
+    // no `for`: how much of the chunk is taken depends on the room for answers
     while from < chunk.len() {
-        let fed = feed(&chunk[from..], line, kept, frame, text, out);
+        let fed = feed(&chunk[from..], line, kept, scratch, out);
         write_answers(rt, &out[..fed.filled])?;
         kept = fed.held;
         from += fed.taken;
@@ -91,17 +91,15 @@ fn read_nothing(
     rt: &HostRuntime,
     failure: Option<io::Error>,
     line: &[u8],
-    frame: &mut [u8],
-    text: &mut [u8],
+    scratch: &mut Scratch,
     out: &mut [u8],
 ) -> Option<usize>
     requires line_len_bound { length line.now ≤ 65536 }
-    requires frame_len { (length frame.old ≡ 32768) × (length text.old ≡ 16384) }
     requires out_len { length out.old ≡ 131072 }
     ensures { IfSome result (λ kept. kept ≤ 65536) }
 {
     let Some(failure) = failure else {
-        let filled = answer_last(line, frame, text, out);
+        let filled = answer_last(line, scratch, out);
         write_answers(rt, &out[..filled])?;
         return None;
     };
@@ -117,20 +115,18 @@ fn turn(
     rt: &HostRuntime,
     line: &mut [u8],
     held: usize,
-    frame: &mut [u8],
-    text: &mut [u8],
+    scratch: &mut Scratch,
     out: &mut [u8],
 ) -> Option<usize>
     requires line_len { (length line.old ≡ 65536) × (held ≤ 65536) }
-    requires frame_len { (length frame.old ≡ 32768) × (length text.old ≡ 16384) }
     requires out_len { length out.old ≡ 131072 }
     ensures { IfSome result (λ kept. kept ≤ 65536) }
 {
     let mut chunk = [0u8; 65536];
     match rt.stdin().read(&mut chunk) {
-        Ok(0) => read_nothing(rt, None, &line[..held], frame, text, out),
-        Ok(n) => answer_chunk(rt, &chunk[..n], line, held, frame, text, out),
-        Err(failure) => read_nothing(rt, Some(failure), &line[..held], frame, text, out),
+        Ok(0) => read_nothing(rt, None, &line[..held], scratch, out),
+        Ok(n) => answer_chunk(rt, &chunk[..n], line, held, scratch, out),
+        Err(failure) => read_nothing(rt, Some(failure), &line[..held], scratch, out),
     }
 }
 
@@ -138,10 +134,14 @@ fn main(rt: HostRuntime) {
     let mut line = [0u8; 65536];
     let mut frame = [0u8; 32768];
     let mut text = [0u8; 16384];
+    let mut scratch = Scratch {
+        frame: &mut frame,
+        text: &mut text,
+    };
     let mut out = [0u8; 131072];
     let mut held = 0;
     for _ in 0..u64::MAX {
-        let Some(kept) = turn(&rt, &mut line, held, &mut frame, &mut text, &mut out) else {
+        let Some(kept) = turn(&rt, &mut line, held, &mut scratch, &mut out) else {
             return;
         };
         held = kept;

@@ -7,7 +7,7 @@ ghost use Rattle.lines.specs.Front.{AtFront};
 ghost use Rattle.lines.specs.Lent.{Decoded, FrameAnswered, LineAnswered};
 
 use engine::formatting::{Outcome, format_text};
-use rules::scalars::hex_digit;
+use numbers::digit_byte;
 
 // The value of a hexadecimal digit of either case.
 #[tactic(auto, unfolding(rules::specs::Job::digit_value))]
@@ -48,8 +48,8 @@ fn write_hex(bytes: &[u8], out: &mut [u8], at: usize) -> usize
 {
     let mut to = at;
     for byte in bytes {
-        out[to] = hex_digit(*byte / 16);
-        out[to + 1] = hex_digit(*byte % 16);
+        out[to] = digit_byte(*byte / 16);
+        out[to + 1] = digit_byte(*byte % 16);
         to += 2;
     }
     to
@@ -110,20 +110,34 @@ fn answer_frame(frame: &[u8], text: &mut [u8], out: &mut [u8]) -> usize
     write_answer(o, &text[..written], out)
 }
 
-// Answers a line, without its newline. The longest answer has 13 bytes of numbers and a text of 16,384, two digits to
-// each: out has room for those 32,794. Frame and text are lent so that a caller with many lines makes them once.
-pub fn answer_with(line: &[u8], frame: &mut [u8], text: &mut [u8], out: &mut [u8]) -> usize
-    requires in_bounds { 32767 ≤ length frame.old }
-    requires text_len { length text.old ≡ 16384 }
-    requires in_bounds_2 { 32794 ≤ length out.old }
-    ensures { LineAnswered line.now frame.old frame.new text.old text.new out.old out.new result }
-{
-    if 65535 < line.len() {
-        return refuse(out);
-    }
-    match decode(line, frame) {
-        Some(count) => answer_frame(&frame[..count], text, out),
-        None => refuse(out),
+// What is lent for a line: room for its bytes, and for the text of their format. A caller with many lines makes the two
+// once.
+#[derive(Drop)]
+pub struct Scratch<'a> {
+    pub frame: &'a mut [u8],
+    pub text: &'a mut [u8],
+    pub ghost frame_room: { 32767 ≤ length frame.now },
+    pub ghost text_room: { length text.now ≡ 16384 },
+}
+
+impl Scratch<'_> {
+    ghost use Rattle.lines.specs.Same.{SameBuffers};
+
+    // Answers a line, without its newline. The longest answer has 13 bytes of numbers and a text of 16,384, two digits to
+    // each: out has room for those 32,794.
+    pub fn answer_with(&mut self, line: &[u8], out: &mut [u8]) -> usize
+        requires { 32794 ≤ length out.old }
+        ensures answered { LineAnswered line.now self.old.frame.now self.new.frame.now self.old.text.now self.new.text.now out.old out.new result }
+        ensures same_buffers { SameBuffers self.old self.new }
+    {
+        if 65535 < line.len() {
+            return refuse(out);
+        }
+        match decode(line, self.frame) {
+            // of a frame lent as `&` here it would be forgotten that it stays as it is
+            Some(count) => answer_frame(&mut self.frame[..count], self.text, out),
+            None => refuse(out),
+        }
     }
 }
 
@@ -134,5 +148,9 @@ pub fn answer_line(line: &[u8], out: &mut [u8]) -> usize
 {
     let mut frame = [0u8; 32768];
     let mut text = [0u8; 16384];
-    answer_with(line, &mut frame, &mut text, out)
+    let mut scratch = Scratch {
+        frame: &mut frame,
+        text: &mut text,
+    };
+    scratch.answer_with(line, out)
 }

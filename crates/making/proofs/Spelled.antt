@@ -20,6 +20,7 @@ use Rattle.std.specs.Prelude.{None, Some}
 use Rattle.rules.specs.declared.Settings.{Settings}
 use Rattle.rules.proofs.Digits.{digits_one, digits_more}
 use Rattle.pieces.specs.Bytes.{quoted_of, signed, figure_of, digits_in as figure_digits}
+use Rattle.pieces.specs.declared.Figure.{Figure}
 use Rattle.rules.specs.Working.{InPlace}
 use Rattle.making.specs.Texts.{number_of, unnamed_of}
 
@@ -70,11 +71,10 @@ unnamed c e₁ e₂ e₃ e₄ e₅ e₆ e₇ e₈ e₉ =
     )
 
 -- numbers
-module _ (base m s w c : ℕ) (plus : Bool) (z : ℤ) (em : m ≡ magnitude_of z) where
-  pub number_is : signed s ≡ sign_of plus z
-      → figure_of (record { base = base; magnitude = m; sign = s; width = w; comma = c }) ≡ number_of base plus w c z
-  unfolding figure_of figure_digits
-  number_is es = rw (es, em)
+pub number_is : (x : Figure) (plus : Bool) (z : ℤ) → x.magnitude ≡ magnitude_of z → signed x.sign ≡ sign_of plus z
+    → figure_of x ≡ number_of x.base plus x.width x.comma z
+unfolding figure_of figure_digits
+number_is x plus z em es = rw (es, em)
 
 module _ (base : ℕ) (colon plus : Bool) (s : Settings) (z : ℤ) (w c : ℕ) where
   pub in_groups : colon ≡ true → w ≡ or_else s.fourth 3 → c ≡ or_else s.third 44 → 1 ≤ w

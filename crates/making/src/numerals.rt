@@ -5,7 +5,6 @@ ghost use Rattle.pieces.specs.Bytes.{signed, Makes};
 ghost use Rattle.making.specs.Texts.{number_of};
 
 use numbers::magnitude;
-use pieces::figuring::figure_size;
 use pieces::{Body, Content, Figure};
 
 // The sign that is written, as a byte; 0 is none.
@@ -35,7 +34,7 @@ pub fn figure_body(base: u64, plus: bool, width: usize, comma: u8, x: i64) -> Bo
         comma,
     };
     Body {
-        size: figure_size(figure),
+        size: figure.size(),
         word: [0; 12],
         content: Content::Figures(figure),
     }

@@ -27,6 +27,7 @@ pub fn count_decimal(n: u64) -> usize
     }
     let mut power = 10000;
     let mut count = 5;
+    // no `checked_ilog10`: the power itself is what the last digits are counted by
     while count < 17 && power * 10000 <= n {
         power *= 10000;
         count += 4;
@@ -91,6 +92,7 @@ pub fn fill_decimal(n: u64, out: &mut [u8])
 {
     let mut end = out.len();
     let mut rest = n;
+    // no `for`: the digits go out from the end, four in a turn, and what is left of the number moves with them
     while 4 < end {
         let four = (rest % 10000) as u32;
         put_pair(four % 100, end - 2, out);

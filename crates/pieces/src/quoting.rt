@@ -79,6 +79,7 @@ pub fn escape_some(src: &[u8], first_gone: bool, out: &mut [u8], from: usize) ->
     let mut next = 0;
     let mut gone = first_gone;
     let mut to = from;
+    // no `for`: a byte with a backslash takes two places, so the two positions move apart
     while to < out.len() && next < src.len() {
         let byte = src[next];
         gone = !gone && is_marked(byte);

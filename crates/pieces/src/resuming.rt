@@ -8,7 +8,7 @@ use super::quoting::{Spot, escape_some};
 use super::window::reach;
 use table::string_part;
 
-// What is left of a piece, as restOf in specs/Rest has it. But for the place of the string its numbers may be any: no
+// What is left of a piece, as rest_of in specs/Rest has it. But for the place of the string its numbers may be any: no
 // sum is made of them. A state in C has it, so its stage is a number.
 #[repr(C)]
 #[derive(Clone, Copy, Debug, PartialEq, Eq)]

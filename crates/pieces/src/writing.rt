@@ -3,7 +3,6 @@ ghost use Rattle.std.specs.Prelude.{List, ◌≡◌, ℕ, ◌+◌, ◌-◌, ◌�
 ghost use Rattle.pieces.specs.Bytes.{part, body_of, bytes_of, GoodBody, Good};
 
 use super::copying::{copy_part, fill};
-use super::figuring::figure_part;
 use super::quoting::quote_part;
 use super::window::{Cuts, cut};
 use super::{Body, Content, Piece};
@@ -34,7 +33,7 @@ fn body_part(body: Body, table: &[u8], from: usize, out: &mut [u8])
             from,
             out,
         ),
-        Content::Figures(x) => figure_part(x, body.size, from, out),
+        Content::Figures(x) => x.write_part(body.size, from, out),
         Content::Word(n) => copy_part(&body.word[..n], from, out),
     }
 }

@@ -1,9 +1,8 @@
 -- Literal bytes and short directives leave the check of a text, its clauses and its blocks as they were.
 -- Assumes nothing.
-use mathlib.Core.Path.{◌≡◌, refl, sym, ap, ◌∙◌}
-use mathlib.Core.Logic.{inl, inr}
+use mathlib.Core.Path.{◌≡◌, refl, ap, subst, ◌∙◌}
 use mathlib.Core.List.{List}
-use Prim.Native.Nat.{ℕ, ◌+◌, ◌≤◌, ◌<◌}
+use Prim.Native.Nat.{ℕ, ◌+◌, ◌<◌}
 use native.Mathlib.Omega.{arith}
 use lib.ListN.{length, get_or}
 use Rattle.rules.specs.Text.{directive_met, innermost, outer}
@@ -11,9 +10,9 @@ use Rattle.rules.specs.Setting.{Setting}
 use Rattle.rules.proofs.Reading.{item_literal}
 use Rattle.rules.proofs.TextLaws.{Within, next_inside, verdict_literal, verdict_written, levels_literal, levels_writes}
 use Rattle.reader.specs.Shorts.{Brief, form_of, short_directive, IsShort, ShortAt, Skips}
-use Rattle.reader.specs.Shorts.{short_at, next_or, AfterShort, SkipsShort}
+use Rattle.reader.specs.Shorts.{ShortRead}
 use Rattle.reader.specs.declared.short.Short.{Short}
-use Rattle.reader.specs.declared.short.Short.TheVariants.{Other, Is as IsOne}
+use Rattle.std.specs.Prelude.{Option, Some}
 use Rattle.reader.proofs.ShortLaws.{short_well}
 
 pub skip_none : (t : List ℕ) (p : ℕ) → Skips t p p
@@ -51,20 +50,6 @@ module _ {t : List ℕ} {first p : ℕ} (k : Skips t first p) where
         }
 
   -- over a short directive, if one stands at p
-  module _ {q : ℕ} (a : AfterShort t p q) where
-    after_by : (s : Short) → ShortAt t p s → (next_or p s ≡ p → ⊥) → Skips t first (next_or p s) × Within p (length t) (next_or p s)
-    after_by Other u z = absurd (z refl)
-    after_by (IsOne kind detail number byte after) u z = (skip_directive u, skip_on u)
-
-    pub skip_after : (q ≡ p → ⊥) → Skips t first q × Within p (length t) q
-    skip_after z = rw a.is (after_by (short_at t p) a.means (λ e. z (a.is ∙ e)))
-
-    none_by : (s : Short) → ShortAt t p s → next_or p s ≡ p → s ≡ Other
-    none_by Other u z = refl
-    none_by (IsOne kind detail number byte after) u z = absurd (omega (arith, z, (skip_on u).above))
-
-    pub skip_stops : get_or t p 0 ≡ 126 → q ≡ p → SkipsShort t first p
-    skip_stops e z = record { over = k; stops = inr (e, none_by (short_at t p) a.means (sym a.is ∙ z)) }
-
-  pub skip_end : length t ≤ p → SkipsShort t first p
-  skip_end h = record { over = k; stops = inl h }
+  module _ {r : Option Short} (a : ShortRead t p r) where
+    pub skip_short_at : (s : Short) → r ≡ Some s → Skips t first s.after × Within p (length t) s.after
+    skip_short_at s e = let u : ShortAt t p (Some s) = subst (ShortAt t p) e a.means in (skip_directive u, skip_on u)

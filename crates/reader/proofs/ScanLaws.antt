@@ -13,7 +13,7 @@ use lib.ListN.{length, get_or, drop, drop_of_length-le, get_or-eq_default}
 use lib.Seq.{drop-cons}
 use Rattle.rules.specs.Choice.{both}
 use Rattle.rules.specs.Directive.{Reading, start, signed, digits, quote, whole, modifiers, step, scan, blank, having}
-use Rattle.rules.specs.Directive.{no_parameters, closed, pending, with_parameter, is_digit, one_more}
+use Rattle.rules.specs.Directive.{closed, pending, with_parameter, is_digit, one_more}
 use Rattle.rules.specs.Directive.{lower_case, code_of, skipped}
 use Rattle.rules.specs.declared.Code.{Code}
 use Rattle.rules.specs.declared.Code.TheVariants.{Unknown}
@@ -25,9 +25,9 @@ use Rattle.rules.specs.declared.Parameter.TheVariants.{Default, Number, Characte
 use Rattle.rules.specs.declared.Parameters.{Parameters}
 use Rattle.rules.proofs.Reading.{scan_on, scan_end}
 use Rattle.reader.specs.Scans.{digit_at, comma_at, zeros_at, greatest_of, after_at, reading, Numbers}
-use Rattle.std.specs.Prelude.{Option, None, Some, Result, Ok, Err}
+use Rattle.std.specs.Prelude.{Option, None, Some, Result, Ok}
 use Rattle.std.specs.Option.{unwrap_or}
-use Rattle.reader.specs.Scans.{number_parameter, number_to, number_from, misread, Ends, Advances, Parametrises}
+use Rattle.reader.specs.Scans.{number_parameter, number_to, number_from, Ends, Advances, Parametrises}
 use Rattle.reader.specs.Spans.{is_zero, span_of}
 use Rattle.reader.specs.declared.directive.NumberRead.{NumberRead}
 use Rattle.reader.specs.declared.directive.ParameterRead.{ParameterRead}
@@ -408,9 +408,6 @@ pub record Directing (t : List ℕ) (first : ℕ) (ps : Parameters) (i : ℕ) : 
   pub few : ps.count ≤ i
   pub within : i ≤ length t
 
-pub directive_first : (t : List ℕ) (p : ℕ) (ps : Parameters) → ps ≡ no_parameters → p ≤ length t → Directing t p ps p
-directive_first t p ps e h = rw e (record { same = refl; few = omega arith; within = h })
-
 pub pending_read : (o : Option Parameter) → pending (reading o) ≡ unwrap_or o Default
 pending_read None = refl
 pending_read (Some x) = refl
@@ -421,9 +418,6 @@ parameter_ends q u e = rw e at u.advances
 
 module _ {t : List ℕ} {first : ℕ} {ps : Parameters} {i : ℕ} {r : Result ParameterRead Misread}
     (s : Directing t first ps i) (u : Parametrises t i r) where
-  pub directive_none : (e : Misread) → r ≡ Err e → misread e ≡ scan start blank (drop first t) first
-  directive_none e is = sym (s.same ∙ u.is (having blank ps) ∙ rw is)
-
   module _ (q : ParameterRead) (e : r ≡ Ok q) where
     goes_on_lem : scan start blank (drop first t) first ≡ after_at t (reading q.parameter) (having blank ps) q.after
     goes_on_lem = s.same ∙ u.is (having blank ps) ∙ rw e

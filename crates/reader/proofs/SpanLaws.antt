@@ -91,19 +91,6 @@ pub along_first : (f : ℕ → Bool) (t : List ℕ) (first : ℕ) → first ≤ 
 along_first f t first h = record { on = omega arith; within = h; same = refl }
 
 module _ {f : ℕ → Bool} {t : List ℕ} {first i : ℕ} (s : Along f t first i) where
-  pub along_byte : i < length t → f (get_or t i 0) ≡ true → Along f t first (i + 1)
-  along_byte h e = record {
-    on = omega (arith, s.on);
-    within = omega arith;
-    same = omega (arith, s.same, span_on f t i h e);
-  }
-
-  pub along_none : i < length t → f (get_or t i 0) ≡ false → i ≡ first + span_of f (drop first t)
-  along_none h e = omega (arith, s.same, span_none f t i h e)
-
-  pub along_end : length t ≤ i → i ≡ first + span_of f (drop first t)
-  along_end h = omega (arith, s.same, span_end f t i h)
-
   -- n of the sixteen bytes at i are of the class
   pub along_stride : (n : ℕ) → n ≡ count_of f t i 16 → n ≡ 16 → i + 16 ≤ length t → Along f t first (i + 16)
   along_stride n e all h = record {

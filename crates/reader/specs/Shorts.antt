@@ -14,14 +14,12 @@ use Rattle.rules.specs.declared.Parameter.TheVariants.{Default, Number, Characte
 use Rattle.rules.specs.declared.Parameters.{Parameters}
 use Rattle.rules.specs.Setting.{Setting}
 use Rattle.std.specs.Prelude.{Option, None, Some}
-use Rattle.reader.specs.Scans.{digit_at, zeros_at, number_to, number_at, after_at}
+use Rattle.reader.specs.Scans.{digit_at, zeros_at, number_at, after_at}
 use Rattle.reader.specs.declared.directive.NumberRead.{NumberRead}
+use Rattle.reader.specs.declared.short.Kind.{Kind}
+use Rattle.reader.specs.declared.short.Kind.TheVariants.{Object as ObjectKind, Numeral as NumeralKind, Repeat as RepeatKind}
+use Rattle.reader.specs.declared.short.Leading.{Leading}
 use Rattle.reader.specs.declared.short.Short.{Short}
-use Rattle.reader.specs.declared.short.Short.TheVariants.{Other, Is as IsOne}
-
--- a parameter as the code has it: `none` stands for one that is not written
-abbrev pub setting_of : ℕ → ℕ → Setting
-setting_of none n = cond (eqb n none) None (Some n)
 
 -- What may be short: ~a and, with true, ~s; ~d ~x ~o ~b by their base; ~~ ~% ~_ ~| ~/ by the byte that they repeat
 pub data Brief : Type 0 where
@@ -34,35 +32,36 @@ form_of (object q) = Object q
 form_of (numeral base) = Numeral base
 form_of (repeats b) = Repeat b
 
--- The same as numbers: the kind is 0, 1 or 2 in this order, and 3 for what is not short; the detail is 1 for ~s, the
--- base, or the byte repeated
-abbrev pub brief_of : ℕ → ℕ → Brief
-brief_of kind detail = cond (eqb kind 0) (object (eqb detail 1)) (cond (eqb kind 1) (numeral detail) (repeats detail))
+-- The same by kind and detail: the detail is 1 for ~s, the base, or the byte repeated
+abbrev pub brief_of : Kind → ℕ → Brief
+brief_of ObjectKind detail = object (eqb detail 1)
+brief_of NumeralKind detail = numeral detail
+brief_of RepeatKind detail = repeats detail
 
-abbrev pub short_form : ℕ → ℕ → Form
+abbrev pub short_form : Kind → ℕ → Form
 short_form kind detail = form_of (brief_of kind detail)
 
 -- kind and detail by the letter
-abbrev pub short_letters : List (ℕ × (ℕ × ℕ))
+abbrev pub short_letters : List (ℕ × (Option Kind × ℕ))
 short_letters =
-    (letter "a", (0, 0))
-    ∷ (letter "s", (0, 1))
-    ∷ (letter "d", (1, 10))
-    ∷ (letter "x", (1, 16))
-    ∷ (letter "o", (1, 8))
-    ∷ (letter "b", (1, 2))
-    ∷ (letter "~", (2, letter "~"))
-    ∷ (letter "|", (2, 12))
-    ∷ (letter "%", (2, letter "\n"))
-    ∷ (letter "_", (2, letter " "))
-    ∷ (letter "/", (2, letter "\t"))
+    (letter "a", (Some ObjectKind, 0))
+    ∷ (letter "s", (Some ObjectKind, 1))
+    ∷ (letter "d", (Some NumeralKind, 10))
+    ∷ (letter "x", (Some NumeralKind, 16))
+    ∷ (letter "o", (Some NumeralKind, 8))
+    ∷ (letter "b", (Some NumeralKind, 2))
+    ∷ (letter "~", (Some RepeatKind, letter "~"))
+    ∷ (letter "|", (Some RepeatKind, 12))
+    ∷ (letter "%", (Some RepeatKind, letter "\n"))
+    ∷ (letter "_", (Some RepeatKind, letter " "))
+    ∷ (letter "/", (Some RepeatKind, letter "\t"))
     ∷ []
 
-unfoldable pub short_kind : ℕ → ℕ
-short_kind b = (look_up short_letters (3, 0) b).0
+unfoldable pub short_kind : ℕ → Option Kind
+short_kind b = (look_up short_letters (None, 0) b).0
 
 unfoldable pub short_detail : ℕ → ℕ
-short_detail b = (look_up short_letters (3, 0) b).1
+short_detail b = (look_up short_letters (None, 0) b).1
 
 -- the parameters of a short directive: a number x and a character y
 abbrev pub short_parameters : Setting → Setting → Parameters
@@ -101,58 +100,67 @@ pub record IsShort (t : List ℕ) (p : ℕ) (s : Brief) (x y : Setting) (after :
   pub item : item_at t p ≡ Written (short_directive (form_of s) x y after)
   pub suits : ShortIn s x y
 
-abbrev pub ShortAt : List ℕ → ℕ → Short → Type 0
-ShortAt t p Other = Unit {0}
-ShortAt t p (IsOne kind detail number byte after) =
-    IsShort t p (brief_of kind detail) (setting_of 4097 number) (setting_of 256 byte) after
+abbrev pub ShortAt : List ℕ → ℕ → Option Short → Type 0
+ShortAt t p None = Unit {0}
+ShortAt t p (Some s) = IsShort t p (brief_of s.kind s.detail) s.number s.byte s.after
+
+abbrev pub absent : Setting → Bool
+absent None = true
+absent (Some c) = false
 
 -- whether a directive of the kind is short with this character, or none: only a numeral may have one
-abbrev pub fits_in : ℕ → ℕ → Bool
-fits_in kind byte = cond (eqb kind 1) true (cond (eqb kind 3) false (eqb byte 256))
+abbrev pub fits_in : Kind → Setting → Bool
+fits_in ObjectKind byte = absent byte
+fits_in NumeralKind byte = true
+fits_in RepeatKind byte = absent byte
 
-abbrev pub short_of : ℕ → ℕ → ℕ → ℕ → ℕ → Short
-short_of kind detail number byte after = cond (fits_in kind byte) (IsOne kind detail number byte after) Other
+abbrev pub short_of : Option Kind → ℕ → Setting → Setting → ℕ → Option Short
+short_of None detail number byte after = None
+short_of (Some kind) detail number byte after =
+    cond (fits_in kind byte)
+    (Some (record { kind = kind; detail = detail; number = number; byte = byte; after = after })) None
 
 -- the short directive whose parameters are read, and whose code stands at i
-unfoldable pub coded_at : List ℕ → ℕ → ℕ → ℕ → Short
+unfoldable pub coded_at : List ℕ → Setting → Setting → ℕ → Option Short
 coded_at t number byte i =
     let b : ℕ = lower_case (get_or t i 0) in
     short_of (short_kind b) (short_detail b) number byte (i + 1)
 
--- the character c of a `,'c` at i, or 256; and where the text goes on then
-abbrev pub second_at : List ℕ → ℕ → ℕ
-second_at t i = cond (both (eqb (get_or t i 0) (letter ",")) (eqb (get_or t (i + 1) 0) (letter "'"))) (get_or t (i + 2) 0) 256
+-- the character c of a `,'c` at i, if there is one; and where the text goes on then
+abbrev pub second_at : List ℕ → ℕ → Setting
+second_at t i =
+    cond (both (eqb (get_or t i 0) (letter ",")) (eqb (get_or t (i + 1) 0) (letter "'"))) (Some (get_or t (i + 2) 0)) None
 
-abbrev pub after_second : ℕ → ℕ → ℕ
-after_second i byte = cond (eqb byte 256) i (i + 3)
+abbrev pub after_second : ℕ → Setting → ℕ
+after_second i None = i
+after_second i (Some c) = i + 3
+
+-- a number, or none, and where the text goes on after it
+abbrev pub lead_to : Setting → ℕ → Leading
+lead_to x i = record { number = x; after = i }
+
+abbrev pub lead_of : Option NumberRead → Option Leading
+lead_of None = None
+lead_of (Some r) = Some (lead_to (Some r.value) r.after)
 
 -- after the number, the character and the code; behind a number that is refused nothing short stands
-abbrev pub short_after : List ℕ → Option NumberRead → Short
-short_after t None = Other
-short_after t (Some r) = coded_at t r.value (second_at t r.after) (after_second r.after (second_at t r.after))
+abbrev pub short_after : List ℕ → Option Leading → Option Short
+short_after t None = None
+short_after t (Some r) = coded_at t r.number (second_at t r.after) (after_second r.after (second_at t r.after))
 
--- the number that begins at i, or 4097; one that begins with two zeros is refused, so that a directive with thousands of
+-- the number that begins at i, or none; one that begins with two zeros is refused, so that a directive with thousands of
 -- them is read once, the general way
-abbrev pub leading_at : List ℕ → ℕ → Option NumberRead
-leading_at t i = cond (digit_at t i) (cond (zeros_at t i) None (number_at t false i)) (Some (number_to 4097 i))
+abbrev pub leading_at : List ℕ → ℕ → Option Leading
+leading_at t i = cond (digit_at t i) (cond (zeros_at t i) None (lead_of (number_at t false i))) (Some (lead_to None i))
 
 -- the short directive at p, if one stands there
-unfoldable pub short_at : List ℕ → ℕ → Short
-short_at t p = cond (eqb (get_or t p 0) (letter "~")) (short_after t (leading_at t (p + 1))) Other
+unfoldable pub short_at : List ℕ → ℕ → Option Short
+short_at t p = cond (eqb (get_or t p 0) (letter "~")) (short_after t (leading_at t (p + 1))) None
 
 -- r is the short directive at p, and what that says
-pub record ShortRead (t : List ℕ) (p : ℕ) (r : Short) : Type 0 where
+pub record ShortRead (t : List ℕ) (p : ℕ) (r : Option Short) : Type 0 where
   pub is : r ≡ short_at t p
   pub means : ShortAt t p r
-
--- where the text goes on after a short directive at p, or p if none stands there
-abbrev pub next_or : ℕ → Short → ℕ
-next_or p Other = p
-next_or p (IsOne kind detail number byte after) = after
-
-pub record AfterShort (t : List ℕ) (p r : ℕ) : Type 0 where
-  pub is : r ≡ next_or p (short_at t p)
-  pub means : ShortAt t p (short_at t p)
 
 -- where reading stands after a number that may be left out
 abbrev pub leading : Setting → Reading
@@ -167,14 +175,21 @@ pub record NoSign (t : List ℕ) (i : ℕ) : Type 0 where
   pub taken : (get_or t i 0 ≡ letter "V") ⊎ (get_or t i 0 ≡ letter "v") → ⊥
   pub counted : get_or t i 0 ≡ letter "#" → ⊥
 
--- the number that begins at `first`, or none, ends at next, unless a sign, a character, `v` or `#` follows; then nothing
--- short stands there
-pub record Leads (t : List ℕ) (first number after : ℕ) : Type 0 where
-  pub same : short_after t (leading_at t first) ≡ short_after t (Some (number_to number after))
-  pub is : after < length t → NoSign t after → (d : Directive)
-      → scan starting d (drop first t) first ≡ after_at t (leading (setting_of 4097 number)) d after
-  pub within : after ≤ length t
-  pub few : number ≤ 4097
+-- the number that begins at `first`, or none, ends at r.after, unless a sign, a character, `v` or `#` follows; then
+-- nothing short stands there
+pub record Leads (t : List ℕ) (first : ℕ) (r : Leading) : Type 0 where
+  pub is : r.after < length t → NoSign t r.after → (d : Directive)
+      → scan starting d (drop first t) first ≡ after_at t (leading r.number) d r.after
+  pub within : r.after ≤ length t
+  pub few : NumberIn r.number
+
+abbrev pub LeadsIf : List ℕ → ℕ → Option Leading → Type 0
+LeadsIf t first None = Unit {0}
+LeadsIf t first (Some r) = Leads t first r
+
+pub record LeadRead (t : List ℕ) (first : ℕ) (r : Option Leading) : Type 0 where
+  pub same : r ≡ leading_at t first
+  pub leads : LeadsIf t first r
 
 -- whatever blocks are open, what is found in reading from `first` on is found from r on, and both stand in one clause
 pub record Skips (t : List ℕ) (first r : ℕ) : Type 0 where
@@ -186,7 +201,7 @@ pub record Skips (t : List ℕ) (first r : ℕ) : Type 0 where
 
 -- the text ends at r, or a directive stands there that is not short
 abbrev pub Stops : List ℕ → ℕ → Type 0
-Stops t r = (length t ≤ r) ⊎ ((get_or t r 0 ≡ letter "~") × (short_at t r ≡ Other))
+Stops t r = (length t ≤ r) ⊎ ((get_or t r 0 ≡ letter "~") × (short_at t r ≡ None))
 
 pub record SkipsShort (t : List ℕ) (first r : ℕ) : Type 0 where
   pub over : Skips t first r

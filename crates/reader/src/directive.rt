@@ -126,6 +126,7 @@ pub fn read_number(text: &[u8], start: usize, minus: bool) -> Option<NumberRead>
     let most = greatest(minus);
     let mut n = 0;
     let mut i = after_zeros(text, start);
+    // No `for`: where the loop ends is a part of the answer, and it may begin past the end of the text.
     while digit_at(text, i) {
         n = n * 10 + usize::from(text[i] - b'0');
         if most < n {
@@ -283,6 +284,7 @@ fn read_directive(text: &[u8], start: usize) -> Result<Directive, Misread>
 {
     let mut ps = no_parameters();
     let mut i = start;
+    // no `for`: how long a parameter is shows only when it is read
     loop {
         let ParameterRead { parameter, after } = read_parameter(text, i)?;
         if !comma_at(text, after) {

@@ -29,6 +29,7 @@ pub fn after_strides<F: Fn(u8) -> bool>(text: &[u8], start: usize, is_in: F) -> 
     ensures { (f : ℕ → Bool) → Decides (F.post is_in) f → Strides f text.now start result }
 {
     let mut i = start;
+    // No `chunks_exact`: the position is the answer, and a `while` states it as it goes.
     while STRIDE <= text.len() - i {
         if count_stride(text, i, &is_in) != STRIDE {
             return i;

@@ -4,13 +4,11 @@ use Prim.Native.Nat.{ℕ, suc, ◌+◌}
 use mathlib.Core.Path.{◌≡◌, subst}
 use mathlib.Core.Bool.{Bool, true, false, cond, not}
 use mathlib.Core.List.{List, [], ◌∷◌}
-use native.Mathlib.Omega.{arith}
 use borrow.Author.Rules.{rules}
 use lib.Dec.{leb, eqb}
 use lib.ListN.{drop}
 use Rattle.rules.specs.Choice.{both}
 use Rattle.rules.specs.Directive.{lower_case, letters, code_named, CodeRight, Reading, start, signed, digits, quote, whole, modifiers, blank, having, closed, Step, goes, bad, ends, modifier_step, after_step, is_digit, one_more, digit_step, start_step, step, skipped, going, cut_short, on_step, scan, item_of, item_at}
-use Rattle.rules.specs.declared.Code.{Code}
 use Rattle.rules.specs.declared.Code.TheVariants.{Unknown}
 use Rattle.rules.specs.declared.Directive.{Directive}
 use Rattle.rules.specs.declared.Item.{Item}

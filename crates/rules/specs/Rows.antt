@@ -12,7 +12,6 @@ use Rattle.rules.specs.declared.Kinds.{Kinds}
 use Rattle.rules.specs.declared.Kinds.TheVariants.{Any as AnyKind, NoList, Integer, Character as CharacterKind}
 use Rattle.rules.specs.declared.Modifiers.{Modifiers}
 use Rattle.rules.specs.declared.Modifiers.TheVariants.{Neither, Colon, At, Either, Any}
-use Rattle.rules.specs.declared.Origin.{Origin}
 use Rattle.rules.specs.declared.Origin.TheVariants.{Nowhere, Next as NextArgument, NextOrBack, NextOrNumber}
 use Rattle.rules.specs.declared.Parameter.{Parameter}
 use Rattle.rules.specs.declared.Parameter.TheVariants.{Default, Number, Character, Next, Remaining}

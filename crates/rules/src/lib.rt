@@ -1,10 +1,8 @@
 // The types that document 01 speaks of. What they mean is in specs/.
 #![tactic(auto)]
 
-pub mod codes;
 pub mod limits;
 pub mod refusal;
-pub mod scalars;
 
 // The number of an entry of the table, from 0.
 #[derive(Clone, Copy, Debug, PartialEq, Eq)]
@@ -166,7 +164,7 @@ pub struct Row {
     pub plainness: Plainness,
 }
 
-// A directive as it is written. The text goes on at next.
+// A directive as it is written. The text goes on at after.
 #[derive(Clone, Copy, Debug, PartialEq, Eq)]
 pub struct Directive {
     pub code: Code,

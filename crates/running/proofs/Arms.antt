@@ -13,6 +13,9 @@ use Rattle.rules.specs.Working.{none_remain}
 use Rattle.rules.specs.Run.{Flow, refused, begin, Frame, item_acts, nested, run}
 use Rattle.rules.specs.declared.Item.{Item}
 use Rattle.rules.specs.declared.Item.TheVariants.{Literal}
+use Rattle.rules.specs.Refusals.{code_of}
+use Rattle.rules.specs.declared.refusal.Refusal.{Refusal}
+use Rattle.rules.specs.declared.refusal.Refusal.TheVariants.{BadBlock, StepLimit, NoRoom}
 use Rattle.rules.proofs.RunLaws.{begin_yes, begin_no, choose_yes, choose_no, run_acts, run_escapes, nested_yes, nested_no}
 use Rattle.actions.specs.declared.state.Stop.TheVariants.{Ended, Escaped}
 use Rattle.actions.specs.declared.state.Ran.{Ran}
@@ -38,7 +41,7 @@ module _ (v : View) (first count x byte i m at place : ℕ) (b : List ℕ) (k : 
         inside = k;
       }
 
-  pub literal_full : at ≤ length b → length b ≤ at → Acts v (hand first count i) x (Literal byte) m at b b (refused_ran 10 x i m at place)
+  pub literal_full : at ≤ length b → length b ≤ at → Acts v (hand first count i) x (Literal byte) m at b b (refused_ran NoRoom x i m at place)
   unfolding act_of
   literal_full l h = stays _ (λ on out. lacks refl (put_lacks b (byte ∷ []) x m at _ l (omega arith))) refl (omega arith) l k
 
@@ -57,9 +60,9 @@ module _ (s : ℕ → List Level) (n : ℕ) (v : View) (first count level p i le
       }
 
   -- a directive that is refused before it is begun or as it begins
-  pub steps_refused : (code x left' place : ℕ) → ((ks : List Frame) → length ks + level ≡ deepest → run v left (rest_at s p) ks (hand first count i) ≡ refused code x left') → left' ≤ left → at ≤ length b → i ≤ count
-      → Steps s n v (hand first count) level p i left at b b (refused_ran code x i left' at place)
-  steps_refused code x left' place q h l k =
+  pub steps_refused : (refusal : Refusal) (x left' place : ℕ) → ((ks : List Frame) → length ks + level ≡ deepest → run v left (rest_at s p) ks (hand first count i) ≡ refused (code_of refusal) x left') → left' ≤ left → at ≤ length b → i ≤ count
+      → Steps s n v (hand first count) level p i left at b b (refused_ran refusal x i left' at place)
+  steps_refused refusal x left' place q h l k =
       record {
         does = stays _ (λ ks m. here _ refl (q ks m)) refl h l k;
         around = λ e. absurd (no_end refl e);
@@ -73,8 +76,8 @@ module _ (s : ℕ → List Level) (n : ℕ) (v : View) (first count level p i le
   acts_is {x} {q} {item} a ks = run_is ks a.is ∙ run_acts v (hand first count i) x (rest_at s q) item ks left
 
   pub steps_acts_none : {x q : ℕ} {item : Item} → ActsAt s p x item q → left ≡ 0 → (place : ℕ) → at ≤ length b → i ≤ count
-      → Steps s n v (hand first count) level p i left at b b (refused_ran 9 x i left at place)
-  steps_acts_none {x} a z place l k = steps_refused 9 x left place (λ ks _. acts_is a ks ∙ begin_no x left _ z) (omega arith) l k
+      → Steps s n v (hand first count) level p i left at b b (refused_ran StepLimit x i left at place)
+  steps_acts_none {x} a z place l k = steps_refused StepLimit x left place (λ ks _. acts_is a ks ∙ begin_no x left _ z) (omega arith) l k
 
   pub steps_acts : {x : ℕ} {item : Item} {e : List ℕ} {r : Ran} → ActsAt s p x item r.place → (left ≡ 0 → ⊥) → Acts v (hand first count i) x item (left - 1) at b e r → p < r.place → r.place ≤ n
       → Steps s n v (hand first count) level p i left at b e r
@@ -90,9 +93,9 @@ module _ (s : ℕ → List Level) (n : ℕ) (v : View) (first count level p i le
 
   -- `~^`: it ends the innermost iteration, or the whole format, where no argument remains
   pub steps_escape_none : {x q : ℕ} → EscapesAt s p x q → left ≡ 0 → (place : ℕ) → at ≤ length b → i ≤ count
-      → Steps s n v (hand first count) level p i left at b b (refused_ran 9 x i left at place)
+      → Steps s n v (hand first count) level p i left at b b (refused_ran StepLimit x i left at place)
   steps_escape_none {x} {q} a z place l k =
-      steps_refused 9 x left place (λ ks _. run_is ks a.is ∙ run_escapes v (hand first count i) x (rest_at s q) ks left ∙ begin_no x left _ z) (omega arith) l k
+      steps_refused StepLimit x left place (λ ks _. run_is ks a.is ∙ run_escapes v (hand first count i) x (rest_at s q) ks left ∙ begin_no x left _ z) (omega arith) l k
 
   escape_is : {x q : ℕ} → EscapesAt s p x q → (left ≡ 0 → ⊥) → (ks : List Frame)
       → run v left (rest_at s p) ks (hand first count i) ≡ choose (none_remain (hand first count i)) (λ _. leaving v ks (hand first count) (left - 1) i) (λ _. run v (left - 1) (rest_at s q) ks (hand first count i))
@@ -121,15 +124,15 @@ module _ (s : ℕ → List Level) (n : ℕ) (v : View) (first count level p i le
   -- a block that has no level left for it, and one for which there is no step
   pub steps_deep : (x : ℕ) (f : ℕ → List Frame → Flow) → level ≡ 0
       → ((ks : List Frame) → run v left (rest_at s p) ks (hand first count i) ≡ nested v x left ks (λ _. begin x left (λ m. f m ks))) → (place : ℕ) → at ≤ length b → i ≤ count
-      → Steps s n v (hand first count) level p i left at b b (refused_ran 4 x i left at place)
+      → Steps s n v (hand first count) level p i left at b b (refused_ran BadBlock x i left at place)
   steps_deep x f z w place l k =
-      steps_refused 4 x left place (λ ks m. w ks ∙ nested_no v x left ks _ (omega arith)) (omega arith) l k
+      steps_refused BadBlock x left place (λ ks m. w ks ∙ nested_no v x left ks _ (omega arith)) (omega arith) l k
 
   pub steps_block_none : (x : ℕ) (f : ℕ → List Frame → Flow) → (level ≡ 0 → ⊥) → left ≡ 0
       → ((ks : List Frame) → run v left (rest_at s p) ks (hand first count i) ≡ nested v x left ks (λ _. begin x left (λ m. f m ks))) → (place : ℕ) → at ≤ length b → i ≤ count
-      → Steps s n v (hand first count) level p i left at b b (refused_ran 9 x i left at place)
+      → Steps s n v (hand first count) level p i left at b b (refused_ran StepLimit x i left at place)
   steps_block_none x f lv z w place l k =
-      steps_refused 9 x left place (λ ks m. w ks ∙ nested_yes v x left ks _ (omega arith) ∙ begin_no x left _ z) (omega arith) l k
+      steps_refused StepLimit x left place (λ ks m. w ks ∙ nested_yes v x left ks _ (omega arith) ∙ begin_no x left _ z) (omega arith) l k
 
   -- a block that is begun
   pub steps_block : (x q : ℕ) (f : ℕ → List Frame → Flow) {e : List ℕ} {r : Ran} → (level ≡ 0 → ⊥) → (left ≡ 0 → ⊥)

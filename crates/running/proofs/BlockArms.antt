@@ -12,6 +12,10 @@ use Rattle.rules.specs.Working.{Context, none_remain}
 use Rattle.rules.specs.Run.{Flow, refused, begin, nested, Frame, iteration, conditional, Outside, same_arguments, other, afterwards, used_up, one_less, run}
 use Rattle.rules.specs.declared.Directive.{Directive}
 use Rattle.rules.specs.Setting.{Setting}
+use Rattle.rules.specs.Refusals.{code_of}
+use Rattle.rules.specs.declared.refusal.Fault.{Fault}
+use Rattle.rules.specs.declared.refusal.Refusal.{Refusal}
+use Rattle.rules.specs.declared.refusal.Refusal.TheVariants.{StepLimit}
 use Rattle.rules.proofs.RunLaws.{begin_yes, begin_no, run_clause_end, run_passes_over, run_pass, run_chooses, run_iterates}
 use Rattle.actions.specs.declared.state.Stop.{Stop}
 use Rattle.actions.specs.declared.state.Stop.TheVariants.{Ended, Escaped, Refused}
@@ -49,7 +53,7 @@ module _ (s : ℕ → List Level) (n : ℕ) (v : View) (first count level p q i 
   module _ (h : either (none_remain (hand first count i)) (used_up passes) ≡ false) where
     -- no step is left for the next pass
     pub passes_none : left ≡ 0 → (place : ℕ) → at ≤ length b → i ≤ count
-        → Passes s n v (hand first count) level p q i passes left at b b (refused_ran 9 p i left at place)
+        → Passes s n v (hand first count) level p q i passes left at b b (refused_ran StepLimit p i left at place)
     passes_none z place l k =
         record {
           does =
@@ -88,20 +92,20 @@ module _ (s : ℕ → List Level) (n : ℕ) (v : View) (first count level p q i 
             after = λ _. a;
           }
 
-      pub passes_refused : (code x : ℕ) → r.stop ≡ Refused code x → Passes s n v (hand first count) level p q i passes left at b e r
-      passes_refused code x y =
+      pub passes_refused : (fault : Fault) → r.stop ≡ Refused fault → Passes s n v (hand first count) level p q i passes left at b e r
+      passes_refused fault y =
           record {
             does =
                 said r u.does refl refl (omega arith) u.does.inside
-                (λ ks out away m. renamed (pass_is ks out m) r refl refl (λ p w. w) (onward_refused _ _ _ _ r.left r.next.0 code x y));
+                (λ ks out away m. renamed (pass_is ks out m) r refl refl (λ p w. w) (onward_refused _ _ _ _ r.left r.next.0 fault y));
             after = λ e. absurd (no_end y e);
           }
 
 -- a block that is refused as it begins
 module _ (s : ℕ → List Level) (n : ℕ) (v : View) (first count level q : ℕ) (f : List Frame → Flow) (left at : ℕ) (b : List ℕ) where
-  pub blocks_refused : (code x i place : ℕ) → ((ks : List Frame) → f ks ≡ refused code x left) → at ≤ length b → i ≤ count
-      → Blocks s n v (hand first count) level q f left at b b (refused_ran code x i left at place)
-  blocks_refused code x i place h l k =
+  pub blocks_refused : (refusal : Refusal) (x i place : ℕ) → ((ks : List Frame) → f ks ≡ refused (code_of refusal) x left) → at ≤ length b → i ≤ count
+      → Blocks s n v (hand first count) level q f left at b b (refused_ran refusal x i left at place)
+  blocks_refused refusal x i place h l k =
       record {
         does = stays _ (λ ks _. here _ refl (h ks)) refl (omega arith) l k;
         after = λ e. absurd (no_end refl e);
@@ -147,12 +151,12 @@ module _ (s : ℕ → List Level) (n : ℕ) (v : View) (first count level q : �
           after = λ e. absurd (no_end_left y e);
         }
 
-    pub blocks_clause_refused : (code x : ℕ) → r.stop ≡ Refused code x → Blocks s n v (hand first count) level q f left at b e r
-    blocks_clause_refused code x y =
+    pub blocks_clause_refused : (fault : Fault) → r.stop ≡ Refused fault → Blocks s n v (hand first count) level q f left at b e r
+    blocks_clause_refused fault y =
         record {
           does =
               said r u.does refl refl (omega arith) u.does.inside
-              (λ ks m. renamed (clause_is ks m) r refl refl (λ p w. w) (onward_refused _ _ _ _ r.left r.next.0 code x y));
+              (λ ks m. renamed (clause_is ks m) r refl refl (λ p w. w) (onward_refused _ _ _ _ r.left r.next.0 fault y));
           after = λ e. absurd (no_end y e);
         }
 
@@ -170,7 +174,7 @@ module _ (s : ℕ → List Level) (n : ℕ) (v : View) (first count level q : �
   fixed : (on out : ℕ → ℕ → Flow) (j : ℕ) (o : Stop) (l i : ℕ) → onward (λ l _. on l j) (λ l _. out l j) o l i ≡ onward on out o l j
   fixed on out j Ended l i = refl
   fixed on out j Escaped l i = refl
-  fixed on out j (Refused code x) l i = refl
+  fixed on out j (Refused fault) l i = refl
 
   pub blocks_list : (p j first' count' : ℕ) (passes : Setting) {e : List ℕ} {r : Ran}
       → ((ks : List Frame) → f ks ≡ run v left end (iteration p passes (rest_at s q) (innermost (outer (s q))).rest (other (hand first count j)) ∷ ks) (hand first' count' 0))

@@ -6,6 +6,7 @@ use native.Mathlib.Omega.{arith}
 use lib.ListN.{length}
 use Rattle.rules.specs.Table.{View}
 use Rattle.rules.specs.Text.{Level}
+use Rattle.rules.specs.declared.refusal.Fault.{Fault}
 use Rattle.actions.specs.declared.state.Stop.TheVariants.{Ended, Escaped, Refused}
 use Rattle.actions.specs.declared.state.Ran.{Ran}
 use Rattle.actions.specs.Ran.{ended_ran, hand}
@@ -56,10 +57,10 @@ module _ (s : ℕ → List Level) (n : ℕ) (v : View) (first count level p i le
           ends = λ y. absurd (no_end_left q y);
         }
 
-    pub strides_runs_refused : (code x : ℕ) → r.stop ≡ Refused code x → Runs s n v (hand first count) level p i left at b e r
-    strides_runs_refused code x q =
+    pub strides_runs_refused : (f : Fault) → r.stop ≡ Refused f → Runs s n v (hand first count) level p i left at b e r
+    strides_runs_refused f q =
         record {
-          does = said r u.does refl refl (omega arith) u.does.inside (λ ks m. renamed (u.does.same ks m) r refl refl (λ p y. y) (onward_refused _ _ _ _ r.left r.next.0 code x q));
+          does = said r u.does refl refl (omega arith) u.does.inside (λ ks m. renamed (u.does.same ks m) r refl refl (λ p y. y) (onward_refused _ _ _ _ r.left r.next.0 f q));
           ends = λ y. absurd (no_end q y);
         }
 
@@ -72,8 +73,8 @@ module _ (s : ℕ → List Level) (n : ℕ) (v : View) (first count level p i le
     pub runs_left : r.stop ≡ Escaped → Runs s n v (hand first count) level p i left at b e r
     runs_left q = strides_runs_left (strides u) q
 
-    pub runs_refused : (code x : ℕ) → r.stop ≡ Refused code x → Runs s n v (hand first count) level p i left at b e r
-    runs_refused code x q = strides_runs_refused (strides u) code x q
+    pub runs_refused : (f : Fault) → r.stop ≡ Refused f → Runs s n v (hand first count) level p i left at b e r
+    runs_refused f q = strides_runs_refused (strides u) f q
 
 -- what a loop of a runner knows at its head: whatever ends from here is the whole
 pub record Onto (Run : ℕ → ℕ → ℕ → List ℕ → List ℕ → Ran → Type 0) (Whole : List ℕ → Ran → Type 0) (most count : ℕ) (b₀ : List ℕ) (i left at : ℕ) (b : List ℕ) : Type 0 where

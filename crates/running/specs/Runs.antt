@@ -3,7 +3,7 @@ use Rattle.std.specs.Prelude.{◌≡◌, List, ◌∷◌, Bool, true, false, ℕ
 use Rattle.rules.specs.Table.{View}
 use Rattle.rules.specs.Text.{Sequence, end, acts, escapes, iterates, chooses, Level, innermost, outer, before, as_clauses, deepest}
 use Rattle.rules.specs.Working.{Context}
-use Rattle.rules.specs.Run.{Flow, Frame, iteration, conditional, Outside, other, afterwards, with_settings, pick, enter, leave, run}
+use Rattle.rules.specs.Run.{Flow, Frame, iteration, conditional, Outside, afterwards, with_settings, pick, enter, leave, run}
 use Rattle.rules.specs.declared.Code.{Code}
 use Rattle.rules.specs.declared.Code.TheVariants.{Writes, Jump, Escape, Opens, Separator, Closes, Unknown}
 use Rattle.rules.specs.declared.Directive.{Directive}

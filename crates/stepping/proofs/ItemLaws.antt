@@ -18,6 +18,7 @@ use Rattle.rules.specs.declared.Code.TheVariants.{Writes, Jump, Escape, Opens, S
 use Rattle.rules.specs.declared.Directive.{Directive}
 use Rattle.rules.specs.declared.Item.{Item}
 use Rattle.rules.specs.declared.Item.TheVariants.{Literal}
+use Rattle.rules.specs.declared.refusal.Refusal.TheVariants.{StepLimit, NoRoom}
 use Rattle.rules.specs.Run.{item_acts}
 use Rattle.rules.specs.contracts.Code as code_declared
 use Rattle.rules.proofs.Reading.{item_literal}
@@ -37,11 +38,11 @@ module _ (s : ℕ → List Level) (n : ℕ) (v : View) (first count level here i
   StepsHere e r = Steps s n v (hand first count) level here i left at b e r
 
   -- no step is left for one that acts
-  pub acts_none : {p q : ℕ} {item : Item} → ActsAt s here p item q → (r : Ran) → left ≡ 0 → r ≡ refused_ran 9 p i left at q → at ≤ length b → i ≤ count → StepsHere b r
+  pub acts_none : {p q : ℕ} {item : Item} → ActsAt s here p item q → (r : Ran) → left ≡ 0 → r ≡ refused_ran StepLimit p i left at q → at ≤ length b → i ≤ count → StepsHere b r
   acts_none {p} {q} a r z e l k = subst (StepsHere b) (sym e) (steps_acts_none s n v first count level here i left at b a z q l k)
 
   -- the same of a directive that acts alone, by its code
-  pub alone_none : (p : ℕ) (d : Directive) → ActsAlone d.code → AloneAt s here p d d.code → (r : Ran) → left ≡ 0 → r ≡ refused_ran 9 p i left at d.after → at ≤ length b → i ≤ count → StepsHere b r
+  pub alone_none : (p : ℕ) (d : Directive) → ActsAlone d.code → AloneAt s here p d d.code → (r : Ran) → left ≡ 0 → r ≡ refused_ran StepLimit p i left at d.after → at ≤ length b → i ≤ count → StepsHere b r
   alone_none p d o a r z e l k = by d.code o a
     where
       by : (c : Code) → ActsAlone c → AloneAt s here p d c → StepsHere b r
@@ -65,9 +66,9 @@ module _ (s : ℕ → List Level) (n : ℕ) (v : View) (first count level here i
 
     -- a literal byte
     module _ (byte : ℕ) (a : ActsAt s here p (Literal byte) q) (r : Ran) (spot : Spot) (o : spot ≡ record { position = p; place = q; left = left - 1; at = at }) where
-      pub literal_no_room : length b ≤ at → r ≡ refused_ran 10 spot.position i spot.left spot.at spot.place → at ≤ length b → i ≤ count → StepsHere b r
+      pub literal_no_room : length b ≤ at → r ≡ refused_ran NoRoom spot.position i spot.left spot.at spot.place → at ≤ length b → i ≤ count → StepsHere b r
       literal_no_room f e l k =
-          subst (StepsHere b) (sym (e ∙ ap (λ (y : Spot). refused_ran 10 y.position i y.left y.at y.place) o))
+          subst (StepsHere b) (sym (e ∙ ap (λ (y : Spot). refused_ran NoRoom y.position i y.left y.at y.place) o))
           (steps_acts s n v first count level here i left at b a z (literal_full v first count p byte i (left - 1) at q b k l f) h.least h.most)
 
       pub literal_put : at < length b → r ≡ ended_ran i spot.left (at + 1) spot.place → i ≤ count → StepsHere (set b at byte) r

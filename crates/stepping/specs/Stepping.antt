@@ -16,12 +16,12 @@ use Rattle.rules.specs.declared.Directive.{Directive}
 use Rattle.rules.specs.Setting.{Setting}
 use Rattle.std.specs.Prelude.{None}
 use Rattle.rules.specs.declared.Settings.{Settings}
-use Rattle.reader.specs.Shorts.{setting_of, short_form, short_at}
-use Rattle.reader.specs.declared.short.Short.TheVariants.{Other}
+use Rattle.reader.specs.Shorts.{short_form, short_at}
+use Rattle.reader.specs.declared.short.Kind.{Kind}
 use Rattle.parameters.specs.Settling.{hand_at}
 use Rattle.parameters.specs.declared.arguments.Hand.{Hand}
 use Rattle.actions.specs.Acting.{Performed}
-use Rattle.actions.specs.Ran.{ended_ran, hand}
+use Rattle.actions.specs.Ran.{no_room, ended_ran, hand}
 use Rattle.running.specs.Runs.{Strides}
 
 -- a directive that neither opens a block nor ends a sequence
@@ -54,32 +54,32 @@ escaped spot count i =
 abbrev pub is_ended : Stop → Bool
 is_ended Ended = true
 is_ended Escaped = false
-is_ended (Refused code p) = false
+is_ended (Refused f) = false
 
 -- a number x and a character y as settings
 abbrev pub short_settings : Setting → Setting → Settings
 short_settings x y = record { first = x; second = y; third = None; fourth = None; fifth = None }
 
 -- what a short directive does once it is begun, where i is the next argument
-abbrev pub WritesShort : List ℕ → Hand → ℕ → ℕ → ℕ → ℕ → ℕ → Spot → List ℕ → List ℕ → Ran → Type 0
+abbrev pub WritesShort : List ℕ → Hand → ℕ → Kind → ℕ → Setting → Setting → Spot → List ℕ → List ℕ → Ran → Type 0
 WritesShort t hand i kind detail number byte spot b e r =
     (d : Directive) → d.colon ≡ false → d.atsign ≡ false
     → Performed (λ on. write_from (view_of t) spot.position spot.left (short_form kind detail) d (hand_at hand 0)
-    (short_settings (setting_of 4097 number) (setting_of 256 byte)) i on
-    (source_of (short_form kind detail) false (short_settings (setting_of 4097 number) (setting_of 256 byte)))) hand.count spot b e r
+    (short_settings number byte) i on
+    (source_of (short_form kind detail) false (short_settings number byte))) hand.count spot b e r
 
 -- a directive stands at p that is not short
 abbrev pub NotShort : List ℕ → ℕ → Type 0
-NotShort t p = (get_or t p 0 ≡ letter "~") × (short_at t p ≡ Other)
+NotShort t p = (get_or t p 0 ≡ letter "~") × (short_at t p ≡ None)
 
 -- a directive at p that finds no room has done nothing: with its step back, all is as it was met
 abbrev pub Unbegun : ℕ → ℕ → ℕ → ℕ → List ℕ → List ℕ → Ran → Type 0
 Unbegun p i left at b e r =
-    (x : ℕ) → r.stop ≡ Refused 10 x → (ended_ran r.next.0 (r.left + 1) r.at x ≡ ended_ran i left at p) × (e ≡ b)
+    (x : ℕ) → r.stop ≡ no_room x → (ended_ran r.next.0 (r.left + 1) r.at x ≡ ended_ran i left at p) × (e ≡ b)
 
 -- items from p on, where the directive at x finds no room: all before it is done, and the run stands before it. So it
 -- can go on from there in another buffer
 abbrev pub HeldUp : (ℕ → List Level) → ℕ → View → (ℕ → Context) → ℕ → ℕ → ℕ → ℕ → List ℕ → List ℕ → Ran → Type 0
 HeldUp s n v c p i left at b e r =
-    (x : ℕ) → r.stop ≡ Refused 10 x → (level : ℕ)
+    (x : ℕ) → r.stop ≡ no_room x → (level : ℕ)
     → Strides s n v c level p i left at b e (ended_ran r.next.0 (r.left + 1) r.at x)

@@ -31,7 +31,7 @@ fn shape_of(code: Code, colon: bool, after: usize) -> Shape
     }
 }
 
-// The shape of a mark, after which the text goes on at next.
+// The shape of a mark, after which the text goes on at after.
 fn shape_of_mark(mark: Mark, after: usize) -> Shape
     ensures { result ≡ shape_of_code (mark_code mark) (mark_colon mark) after }
 {
@@ -80,6 +80,7 @@ pub fn next_clause(text: &[u8], start: usize) -> ClauseEnd
 {
     let mut p = start;
     let mut depth: usize = 0;
+    // no `for`: how long an item is shows only when it is read
     loop {
         p = skip_short(text, p);
         match shape_at(text, p) {
@@ -122,6 +123,7 @@ pub fn after_block(text: &[u8], start: usize) -> usize
     ensures { AfterBlock text.now start result }
 {
     let mut p = start;
+    // no `for`: where the next clause begins shows only when this one is gone over
     loop {
         match next_clause(text, p) {
             ClauseEnd::Last { after, .. } => return after,

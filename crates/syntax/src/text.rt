@@ -23,6 +23,7 @@ fn check_from(
     let mut p = start;
     let mut separators: usize = 0;
     let mut fallback = false;
+    // no `for`: how long an item is shows only when it is read
     loop {
         p = skip_short(text, p);
         let s = Scope {

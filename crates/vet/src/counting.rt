@@ -55,6 +55,7 @@ fn count_clauses(
     let mut z = d.after;
     let mut fallback = false;
     let mut ends = Ends::Nowhere;
+    // no `for`: where the next clause begins shows only when this one is counted
     loop {
         let counted = count_sequence(format, question, z, start)?;
         ends = meet(ends, counted.reach);
@@ -170,6 +171,7 @@ fn count_sequence(
     let mut p = start;
     let mut next = first;
     let mut sum: usize = 0;
+    // no `for`: how long an element is shows only when it is counted
     loop {
         match count_element(format, question, p, next)? {
             Element::Leads { reach, place } => {

@@ -95,7 +95,7 @@ impl Padding {
 
 // ~d ~x ~o ~b: the least integer, in groups with `:`.
 #[tactic(auto, using(vet_rules::proofs::Padding::larger_max))]
-fn worst_numeral(base: u64, colon: bool, width: usize, group: usize) -> usize
+pub fn worst_numeral(base: u64, colon: bool, width: usize, group: usize) -> usize
     requires le_base { (2 ≤ base) × (base ≤ 36) }
     requires le_group { 1 ≤ group }
     ensures { result ≡ numeral_most base colon width group }

@@ -1,17 +1,17 @@
 -- A call: what it writes is the front of what remains, and its new state means the rest. Assumes nothing.
-use Prim.Native.Nat.{ℕ, zero, suc, ◌+◌, ◌≤◌, ◌<◌}
+use Prim.Native.Nat.{ℕ, zero, suc, ◌+◌, ◌-◌, ◌≤◌, ◌<◌}
 use mathlib.Core.Path.{◌≡◌, refl, sym, ap, subst, ◌∙◌}
 use mathlib.Core.Bool.{Bool, true, false}
-use mathlib.Core.List.{List, [], ◌∷◌, ◌++◌, append-nil}
-use denote.Enum.Declared.{tag_of}
-use types.Run.{OneOf, miss}
+use mathlib.Core.List.{List, [], ◌++◌, append-nil}
 use native.Mathlib.Omega.{arith}
 use lib.Dec.{eqb}
+use Rattle.std.specs.Prelude.{Ok, Err}
 use lib.ListN.{length, take, drop, length-append, take-append-drop}
 use lib.Seq.{length-take-le, take_at, drop_at}
 use borrow.Author.Tests.{lt-ltb, le-ltb, ne_eqb, le-leb}
 use Rattle.rules.specs.Answer.{flow_of}
 use Rattle.rules.specs.Choice.{either}
+use Rattle.rules.specs.Refusals.{code_of}
 use Rattle.rules.specs.Flow.{limit, Finish}
 use Rattle.rules.specs.Table.{entry_count, argument_count, view_of, table_verdict}
 use Rattle.rules.specs.Text.{text_verdict}
@@ -31,31 +31,27 @@ use Rattle.filling.specs.declared.giving.Progress.{Progress}
 use Rattle.filling.specs.declared.giving.Reach.{Reach}
 use Rattle.filling.specs.declared.giving.Reach.TheVariants.{On, Over, Full}
 use Rattle.filling.specs.declared.steps.Step.{Step}
-use Rattle.filling.specs.contracts.giving.Reach as reach_declared
 use Rattle.filling.specs.Filling.{to_give, Advances}
 use Rattle.filling.specs.Steps.{Standing, is_on}
 use Rattle.windows.specs.declared.state.State.{State}
 use Rattle.windows.specs.declared.state.Resumed.{Resumed}
 use Rattle.windows.specs.States.{here_of, is_sound, to_come, if_sound, unless_wrong, remains, is_ended}
 use Rattle.windows.specs.Calls.{Shown, more, all, shown_in, Resumes}
-use Rattle.windows.specs.Continuing.{no_blocks, start_of, ended_state, ended_with, begun_state, more_with, more_on, resumed_by, resumed_at, Halts, over, full, Continues}
+use Rattle.windows.specs.Continuing.{no_blocks, start_of, ended_state, ended_with, begun_state, more_with, resumed_by, resumed_at, Halts, over, full, Continues}
 use Rattle.windows.proofs.CallLaws.{as_ended, ended_remains, ended_shown, idle_shown}
 use Rattle.windows.proofs.StateLaws.{in_range_lem, begun_remains}
-
--- the answer of steps that are not over
-pub resumed_more : (keys : List ℕ) (step : Step) → keys ≡ 0 ∷ 2 ∷ [] → OneOf keys (tag_of reach_declared.the_type step.put.reach) → {r : Resumed}
-    → r ≡ more_on step → r ≡ resumed_at step
-resumed_more keys step q o {r} is = is ∙ by step.put.reach refl o
-  where
-    by : (y : Reach) → step.put.reach ≡ y → OneOf keys (tag_of reach_declared.the_type y) → more_on step ≡ resumed_at step
-    by On k o = sym (ap (λ (x : Reach). resumed_by x step) k)
-    by (Over code p) k o = absurd (miss (0 ∷ 2 ∷ []) 1 tt (subst (λ (i : List ℕ). OneOf i 1) q o))
-    by Full k o = sym (ap (λ (x : Reach). resumed_by x step) k)
 
 module _ (t table : List ℕ) where
   ended_means : (code p steps : ℕ) → remains t table (ended_state code p steps) ≡ as_ended t table (ended_state code p steps)
   unfolding remains
   ended_means code p steps = refl
+
+  -- nothing is to come but the end
+  ends : {x : Told} {from n : ℕ} {b e : List ℕ} (code p steps : ℕ) {r : Resumed} → Appends x.bytes from b e n [] → x.finish ≡ record { code = code; position = p; steps = steps }
+      → r ≡ ended_with code p steps n → Continues t table x from b e r
+  ends {x} {from} {n} {b} {e} code p steps a f is =
+      subst (Continues t table x from b e) (sym is)
+      (record { written = rw ended_means a; finish = rw ended_means f; halts = over refl })
 
   -- 1. The run goes on from where it stands.
 
@@ -66,13 +62,9 @@ module _ (t table : List ℕ) where
       where
         by : (y : Reach) → step.put.reach ≡ y → is_on y ≡ false → r ≡ resumed_by y step → Continues t table x from b e r
         by On q off is = let z : ◌≡◌ {A = ℕ} 0 1 = cc in absurd (omega arith)
-        by (Over code p) q off is =
-            subst (Continues t table x from b e) (sym is)
-            (record {
-              written = rw ended_means (rw q at w.written);
-              finish = rw ended_means (rw q at w.finish);
-              halts = over refl;
-            })
+        by (Over (Ok u)) q off is = ends 0 0 (limit - step.put.progress.here.left) (rw q at w.written) (rw q at w.finish) is
+        by (Over (Err f)) q off is =
+            ends (code_of f.refusal) f.position (limit - step.put.progress.here.left) (rw q at w.written) (rw q at w.finish) is
         by Full q off is =
             let f = w.full q in
             let m = begun_remains t table step.put.progress.given (w.sound (rw q)) f.1.1 a in
@@ -87,13 +79,8 @@ module _ (t table : List ℕ) where
 
   pub refuses : {x : Told} {b : List ℕ} (code p : ℕ) {r : Resumed} → x ≡ told_over code p limit → r ≡ ended_with code p 0 0
       → Continues t table x 0 b b r
-  refuses {x} {b} code p q is =
-      subst (Continues t table x 0 b b) (sym is)
-      (record {
-        written = rw (q, ended_means) (append_none [] 0 b (omega arith));
-        finish = rw (q, ended_means);
-        halts = over refl;
-      })
+  refuses {b = b} code p q is =
+      ends code p 0 (rw q (append_none [] 0 b (omega arith))) (ap (λ (y : Told). y.finish) q) is
 
   abbrev fresh : Verdict → Told
   fresh v = unless_wrong v (λ _. told (flow_of t (view_of table)))

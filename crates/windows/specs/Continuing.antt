@@ -1,5 +1,6 @@
 -- How a call goes on from where the run stands, and what it promises there. Assumes nothing: these are definitions.
-use Rattle.std.specs.Prelude.{ℕ, ◌-◌, ◌<◌, ◌≡◌, List, length, replicate}
+use Rattle.std.specs.Prelude.{ℕ, ◌-◌, ◌<◌, ◌≡◌, List, Ok, Err, length, replicate}
+use Rattle.rules.specs.Refusals.{code_of}
 use Rattle.rules.specs.Flow.{limit}
 use Rattle.pieces.specs.Rest.{Appends}
 use Rattle.pieces.specs.declared.resuming.QuoteRest.{QuoteRest}
@@ -77,7 +78,8 @@ more_on r = more_with r.put.progress.at (begun_state r.put.progress.here r.nest 
 
 abbrev pub resumed_by : Reach → Step → Resumed
 resumed_by On r = more_on r
-resumed_by (Over code p) r = ended_with code p (limit - r.put.progress.here.left) r.put.progress.at
+resumed_by (Over (Ok u)) r = ended_with 0 0 (limit - r.put.progress.here.left) r.put.progress.at
+resumed_by (Over (Err f)) r = ended_with (code_of f.refusal) f.position (limit - r.put.progress.here.left) r.put.progress.at
 resumed_by Full r = more_on r
 
 abbrev pub resumed_at : Step → Resumed

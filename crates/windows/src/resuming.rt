@@ -139,15 +139,17 @@ fn resumed_at(step: Step) -> Resumed
         progress,
         rest,
     } = step.put;
+    let steps = MOST_STEPS - progress.here.left;
     match reach {
-        Reach::Over { code, position } => {
-            ended(code, position, MOST_STEPS - progress.here.left, progress.at)
+        Reach::Over(Ok(())) => ended(0, 0, steps, progress.at),
+        Reach::Over(Err(fault)) => {
+            ended(fault.refusal.code(), fault.position, steps, progress.at)
         }
         _ => begun(progress, step.nest, rest),
     }
 }
 
-// The run from where it stands, with room for so many numbers of landmarks.
+// The run from where it stands, with room for so many landmarks.
 fn run_with<const ROOM: usize>(
     format: &[u8],
     table: &[u8],

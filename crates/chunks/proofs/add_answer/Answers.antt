@@ -5,16 +5,16 @@ use Rattle.chunks.proofs.Buffers.{line_added}
 use Rattle.chunks.proofs.add_answer.Goals as goal
 
 pub overflow_add-end : goal.overflow_add-end
-overflow_add-end c = omega (arith, longest_answer c.args.line.now c.answer_with-count.ensures.answer)
+overflow_add-end c = omega (arith, longest_answer c.args.line.now c.answer_with-count.ensures.answered.answer)
 
 pub bounds-out-end : goal.bounds-out-end
-bounds-out-end c = omega (arith, longest_answer c.args.line.now c.answer_with-count.ensures.answer, c.requires.in_bounds, c.requires.filled_in_bounds)
+bounds-out-end c = omega (arith, longest_answer c.args.line.now c.answer_with-count.ensures.answered.answer)
 
 pub overflow_add-result : goal.overflow_add-result
-overflow_add-result c = omega (arith, longest_answer c.args.line.now c.answer_with-count.ensures.answer)
+overflow_add-result c = omega (arith, longest_answer c.args.line.now c.answer_with-count.ensures.answered.answer)
 
-pub returns : goal.returns
-returns c =
+pub returns-clause-answered : goal.returns-clause-answered
+returns-clause-answered c =
     line_added c.args.out.now c.args.filled
-    (omega (arith, longest_answer c.args.line.now c.answer_with-count.ensures.answer, c.requires.in_bounds, c.requires.filled_in_bounds))
-    c.answer_with-count.ensures
+    (omega (arith, longest_answer c.args.line.now c.answer_with-count.ensures.answered.answer))
+    c.answer_with-count.ensures.answered

@@ -4,8 +4,8 @@ use borrow.Author.Tests.{tests}
 use Rattle.chunks.proofs.Buffers.{last_none, last_one}
 use Rattle.chunks.proofs.answer_last.Goals as goal
 
-pub returns-then-is_empty : goal.returns-then-is_empty
-returns-then-is_empty c = last_none c.args.line.now (search (rules, tests))
+pub returns-then-is_empty-clause-answered : goal.returns-then-is_empty-clause-answered
+returns-then-is_empty-clause-answered c = last_none c.args.line.now (search (rules, tests))
 
-pub returns : goal.returns
-returns c = rw (last_one c.args.line.now (search (rules, tests))) c.add_answer.ensures
+pub returns-clause-answered : goal.returns-clause-answered
+returns-clause-answered c = rw (last_one c.args.line.now (search (rules, tests))) c.add_answer.ensures.answered

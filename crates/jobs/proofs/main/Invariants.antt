@@ -5,8 +5,6 @@ use Rattle.jobs.proofs.main.Given as goal
 abbrev pub invariant-loop : goal.invariant-loop
 invariant-loop l = record {
   line : length l.line ≡ 65536;
-  frame : length l.frame ≡ 32768;
-  text : length l.text ≡ 16384;
   out : length l.out ≡ 131072;
   held : l.held ≤ 65536;
 }

@@ -7,5 +7,5 @@ loop-byte-init c = hex_none c.requires
 
 pub loop-byte-preserved : goal.loop-byte-preserved
 loop-byte-preserved c =
-    hex_more c.requires c.loop-byte.invariant c.loop-byte-test.true c.hex_digit.ensures
-    c.hex_digit-in-loop-byte.ensures
+    hex_more c.requires c.loop-byte.invariant c.loop-byte-test.true c.digit_byte.ensures
+    c.digit_byte-in-loop-byte.ensures

@@ -1,4 +1,5 @@
 -- A form acts as 01 has it. Assumes nothing.
+use Rattle.rules.specs.declared.refusal.Refusal.TheVariants.{BadParameter}
 use Rattle.actions.proofs.ActLaws.{performed_as, performed_refused, acts_writes, settings_ill}
 use Rattle.parameters.proofs.Ranges.{form_in_range}
 use Rattle.parameters.proofs.Answers.{run_settled, run_refused}
@@ -39,7 +40,7 @@ returns-then-not-is_well_written c =
     let a = c.args in
     let v = view_of a.table.now in
     let ill = sym c.is_well_written.ensures ∙ c.if-not-is_well_written.true in
-    performed_refused _ 5 a.next.0 c.refuse.ensures
+    performed_refused _ BadParameter a.next.0 c.refuse.ensures
     (λ on. acts_writes v a.spot.position a.spot.left a.d (hand_at a.hand a.next.0) on a.form c.requires.code_value
     ∙ settings_ill v a.spot.position a.spot.left a.d (hand_at a.hand a.next.0) _ ill)
     c.requires.at_in_bounds c.requires.next_le_count

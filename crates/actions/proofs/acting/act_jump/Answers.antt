@@ -1,4 +1,5 @@
 -- A jump acts as 01 has it. Assumes nothing.
+use Rattle.rules.specs.declared.refusal.Refusal.TheVariants.{BadParameter}
 use native.Mathlib.Omega.{arith}
 use Rattle.parameters.proofs.WorkLaws.{hand_small}
 use Rattle.parameters.proofs.Ranges.{jump_in_range}
@@ -47,7 +48,7 @@ returns-then-not-is_well_written c =
     let a = c.args in
     let v = view_of a.table.now in
     let ill = sym c.is_well_written.ensures ∙ c.if-not-is_well_written.true in
-    λ b l. performed_refused _ 5 a.next.0 c.refuse.ensures
+    λ b l. performed_refused _ BadParameter a.next.0 c.refuse.ensures
     (λ on. acts_jump v a.spot.position a.spot.left a.d (hand_at a.hand a.next.0) on c.requires.code_value
     ∙ settings_ill v a.spot.position a.spot.left a.d (hand_at a.hand a.next.0) _ ill)
     l c.requires.next_le_count

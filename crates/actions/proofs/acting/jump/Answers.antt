@@ -1,4 +1,5 @@
 -- The position a jump goes to. Assumes nothing.
+use Rattle.rules.specs.declared.refusal.Refusal.TheVariants.{NoArgument}
 use Rattle.actions.proofs.Sources.{unwrapped}
 use Rattle.actions.proofs.ActLaws.{performed_as, performed_refused, jump_at, jump_back, jump_before, jump_forth}
 use Rattle.rules.specs.Act.{Act, jump_to}
@@ -31,7 +32,7 @@ pub returns-then-i-n : goal.returns-then-i-n
 returns-then-i-n c =
     let a = c.args in
     let n = c.unwrap_or-n.ensures ∙ unwrapped a.settings.first 1 in
-    λ value b l. performed_refused _ 6 a.i.0 c.refuse.ensures
+    λ value b l. performed_refused _ NoArgument a.i.0 c.refuse.ensures
     (λ on. ap (λ (u : Act). joined value a.spot.position a.spot.left u on) (jump_before a.count a.d a.settings a.i.0 c.if-d.false (not-false _ c.if-not-d.false) (omega (arith, c.if-i-n.true, n))))
     l (c.requires.i_le_count.0)
 

@@ -1,4 +1,5 @@
 -- A piece is written whole or refused. Assumes nothing.
+use Rattle.rules.specs.declared.refusal.Refusal.TheVariants.{NoRoom}
 use Rattle.actions.specs.Ran.{ended_ran}
 use Rattle.actions.proofs.Buffer.{lent_length, put_lent}
 use Rattle.actions.proofs.ActLaws.{performed_put, performed_full, untouched_on, untouched_refused}
@@ -36,4 +37,4 @@ returns-clause-puts c =
     performed_full a.spot a.next.0 a.count a.out.now w _ a.before.0 c.refuse.ensures c.requires.at_in_bounds (omega (arith, c.if-n-out.false)) c.requires.before_le_count.0
 
 pub returns-clause-untouched : goal.returns-clause-untouched
-returns-clause-untouched c = untouched_refused _ 10 c.refuse.ensures
+returns-clause-untouched c = untouched_refused _ NoRoom c.refuse.ensures

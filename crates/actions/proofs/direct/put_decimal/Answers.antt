@@ -1,5 +1,6 @@
 -- `actions::direct::put_decimal` meets its contract: padding, the sign and the digits, or a refusal for want of room.
 -- Assumes nothing.
+use Rattle.rules.specs.declared.refusal.Refusal.TheVariants.{NoRoom}
 use Prim.Native.Nat.{ℕ, ◌+◌, ◌-◌}
 use mathlib.Core.Path.{◌≡◌, ap, ◌∙◌}
 use mathlib.Core.Bool.{false}
@@ -86,4 +87,4 @@ returns-clause-puts c =
 
 pub returns-clause-untouched : goal.returns-clause-untouched
 returns-clause-untouched c =
-    untouched_refused _ 10 c.refuse.ensures
+    untouched_refused _ NoRoom c.refuse.ensures

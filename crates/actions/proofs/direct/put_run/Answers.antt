@@ -1,4 +1,5 @@
 -- `actions::direct::put_run` meets its contract: the byte is repeated, or a refusal for want of room. Assumes nothing.
+use Rattle.rules.specs.declared.refusal.Refusal.TheVariants.{NoRoom}
 use mathlib.Core.Path.{sym}
 use lib.ListN.{replicate, length-replicate}
 use Rattle.actions.proofs.DirectLaws.{direct_put, direct_full, run_put}
@@ -20,4 +21,4 @@ returns-clause-puts c =
     λ count k. direct_full a.spot a.next.0 count a.n a.out.now (replicate a.n a.byte) (sym (length-replicate a.n a.byte)) _ a.next.0 c.refuse.ensures c.requires c.if-n-out.false k
 
 pub returns-clause-untouched : goal.returns-clause-untouched
-returns-clause-untouched c = untouched_refused _ 10 c.refuse.ensures
+returns-clause-untouched c = untouched_refused _ NoRoom c.refuse.ensures

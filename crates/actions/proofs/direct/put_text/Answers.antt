@@ -1,5 +1,6 @@
 -- `actions::direct::put_text` meets its contract: the string and then spaces, or a refusal for want of room.
 -- Assumes nothing.
+use Rattle.rules.specs.declared.refusal.Refusal.TheVariants.{NoRoom}
 use Rattle.actions.proofs.DirectLaws.{direct_put, direct_full, text_length, text_put}
 use Rattle.actions.proofs.ActLaws.{untouched_on, untouched_refused}
 use Rattle.actions.proofs.direct.put_text.Goals as goal
@@ -23,4 +24,4 @@ returns-clause-puts c =
     λ count k l. direct_full a.spot a.next.0 count n a.out.now _ (text_length c.requires.string_in a.width n q) _ a.before.0 c.refuse.ensures c.requires.at_in_bounds c.if-n-out.false k
 
 pub returns-clause-untouched : goal.returns-clause-untouched
-returns-clause-untouched c = untouched_refused _ 10 c.refuse.ensures
+returns-clause-untouched c = untouched_refused _ NoRoom c.refuse.ensures

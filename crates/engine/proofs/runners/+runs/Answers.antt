@@ -17,6 +17,7 @@ use Rattle.parameters.proofs.SettleLaws.{all_supplied_lem}
 use Rattle.parameters.proofs.Answers.{next_reaches, run_settled, run_refused}
 use Rattle.blocks.specs.Clauses.{on_chosen, ChosenIn}
 use Rattle.rules.specs.declared.refusal.Refusal.{Refusal}
+use Rattle.rules.specs.declared.refusal.Refusal.TheVariants.{BadParameter}
 use Rattle.blocks.specs.declared.clauses.Chosen.{Chosen}
 use Rattle.blocks.specs.declared.clauses.Chosen.TheVariants.{At, Nothing}
 use Rattle.blocks.specs.Parts.{ends_at, iterates, on_over, outside_of, OverIn}
@@ -231,7 +232,7 @@ run_iteration-returns-in-Ok t c =
 pub run_opened-returns-then-not-is_well_written : goal.run_opened-returns-then-not-is_well_written
 run_opened-returns-then-not-is_well_written t c =
     let a = c.args in
-    blocks_told (levels_at a.text.now) (length a.text.now) (view_of a.table.now) a.hand.first.0 a.hand.count a.level a.d.after (opening (iterates a.d.code) (levels_at a.text.now) (view_of a.table.now) (hand_at a.hand) a.spot.position a.d a.d.after a.next.0 a.spot.left) a.spot.left a.spot.at a.out.now _ 5 a.spot.position a.next.0 _ c.refuse.ensures (λ ks. settings_ill (view_of a.table.now) a.spot.position a.spot.left a.d (hand_at a.hand a.next.0) _ (sym c.is_well_written.ensures ∙ not-true _ c.if-not-is_well_written.true-raw)) c.requires.at_in_bounds c.requires.next_le_count
+    blocks_told (levels_at a.text.now) (length a.text.now) (view_of a.table.now) a.hand.first.0 a.hand.count a.level a.d.after (opening (iterates a.d.code) (levels_at a.text.now) (view_of a.table.now) (hand_at a.hand) a.spot.position a.d a.d.after a.next.0 a.spot.left) a.spot.left a.spot.at a.out.now _ BadParameter a.spot.position a.next.0 _ c.refuse.ensures (λ ks. settings_ill (view_of a.table.now) a.spot.position a.spot.left a.d (hand_at a.hand a.next.0) _ (sym c.is_well_written.ensures ∙ not-true _ c.if-not-is_well_written.true-raw)) c.requires.at_in_bounds c.requires.next_le_count
 
 pub run_opened-settle_directive-requires-clause-all_supplied : goal.run_opened-settle_directive-requires-clause-all_supplied
 run_opened-settle_directive-requires-clause-all_supplied t c = all_supplied_lem c.requires.in_hand

@@ -13,12 +13,12 @@ returns-in-Escaped c =
     let a = c.args in
     record {
       left = λ _. subst (λ (y : Spot). EndsBlock (levels_at a.text.now) (length a.text.now) y a.q a.r.next.0 c.end_block.result) c.spot_at.ensures c.end_block.ensures;
-      refused = λ code x y. absurd (left_not_refused c.in-Escaped.is y);
+      refused = λ f y. absurd (left_not_refused c.in-Escaped.is y);
     }
 
 pub returns-in_default : goal.returns-in_default
 returns-in_default c =
     record {
       left = λ y. absurd (not_left _ c.args.r.stop refl (opened c.in_default.in_default-own.keys2) y);
-      refused = λ code x y. refl;
+      refused = λ f y. refl;
     }

@@ -6,27 +6,17 @@ use mir.ValLaws.{to_z-of_z}
 use mir.Syntax.{w64}
 use Rattle.rules.specs.Number.{magnitude_of, sign_of}
 use Rattle.rules.proofs.Digits.{count_word}
-use Rattle.pieces.specs.Bytes.{GoodFigure}
 use Rattle.making.proofs.Spelled.{number_is}
 use Rattle.making.proofs.Made.{made_figures, makes_same}
 use Rattle.making.proofs.numerals.figure_body.Goals as goal
-use Rattle.making.proofs.numerals.figure_body.Goals.{After-sign_byte}
 
-good : (c : After-sign_byte)
-    → GoodFigure (record { base = c.args.base; magnitude = c.magnitude.result; sign = c.sign_byte.result; width = c.args.width; comma = c.args.comma })
-good c = record {
-  base = c.requires.le_base;
-  width = c.requires.width_bound;
-  digits = count_word c.args.base _ c.requires.le_base.0 (omega (arith, c.magnitude.type_inv));
-}
-
-pub figure_size-requires : goal.figure_size-requires
-figure_size-requires c = good c
+pub invariant_of-figure-clause-digits_bound : goal.invariant_of-figure-clause-digits_bound
+invariant_of-figure-clause-digits_bound c =
+    count_word c.args.base _ c.requires.le_base.0 (omega (arith, c.magnitude.type_inv))
 
 pub returns : goal.returns
 returns c =
     let back = to_z-of_z w64 c.args.x c.ranges.x in
-    λ t. makes_same (number_is c.args.base _ _ c.args.width c.args.comma c.args.plus
-    c.args.x (c.magnitude.ensures ∙ ap magnitude_of back)
-    (c.sign_byte.ensures ∙ ap (sign_of c.args.plus) back))
-    (made_figures t _ _ _ (good (goal.at.returns c).After-sign_byte) c.figure_size.ensures.size c.figure_size.ensures.within)
+    let is = number_is _ c.args.plus c.args.x (c.magnitude.ensures ∙ ap magnitude_of back)
+    (c.sign_byte.ensures ∙ ap (sign_of c.args.plus) back) in
+    λ t. makes_same is (made_figures t _ _ _ c.size.ensures.size c.size.ensures.within)

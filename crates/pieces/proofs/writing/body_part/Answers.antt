@@ -30,11 +30,8 @@ quote_part-requires-clause-size_value c =
 pub quote_part-requires-clause-size_bound : goal.quote_part-requires-clause-size_bound
 quote_part-requires-clause-size_bound c = c.requires.good_body.small
 
-pub figure_part-requires-clause-good_figure : goal.figure_part-requires-clause-good_figure
-figure_part-requires-clause-good_figure c = (is_figures c.requires.good_body _ c.in-Figures.is).places
-
-pub figure_part-requires-clause-size_value : goal.figure_part-requires-clause-size_value
-figure_part-requires-clause-size_value c = (is_figures c.requires.good_body _ c.in-Figures.is).size
+pub write_part-requires-clause-size_value : goal.write_part-requires-clause-size_value
+write_part-requires-clause-size_value c = (is_figures c.requires.good_body _ c.in-Figures.is).size
 
 pub shared_ref_as_front-copy_part : goal.shared_ref_as_front-copy_part
 shared_ref_as_front-copy_part c = omega (arith, (is_word c.requires.good_body _ c.in-Word.is).places)
@@ -69,7 +66,7 @@ returns-in-Quoted c =
 pub returns-in-Figures : goal.returns-in-Figures
 returns-in-Figures c =
     rw (is_figures c.requires.good_body _ c.in-Figures.is).text
-    c.figure_part.ensures
+    c.write_part.ensures
 
 pub returns-in-Word : goal.returns-in-Word
 returns-in-Word c =
