@@ -6,7 +6,8 @@ use parameters::Hand;
 use rules::ArgumentPosition;
 use rules::refusal::{Fault, Refusal};
 
-// How the run of a sequence stops: at its end, at an escape that leaves it, or refused.
+// How the run of a sequence stops: at its end, at an escape that leaves it, or refused. Three cases, by which the laws of
+// flows go: a Result would ask for the escape inside it.
 #[derive(Clone, Copy, PartialEq, Eq, Debug)]
 pub enum Stop {
     Ended,

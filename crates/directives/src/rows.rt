@@ -10,6 +10,7 @@ use rules::{
 };
 
 // The tags of kinds.
+// Numbers and no enum: `takes_kind` answers for every number, and an enum would ask more of its callers.
 const INTEGER: usize = 1;
 
 const CHARACTER: usize = 2;

@@ -16,7 +16,8 @@ use pieces::{Content, Piece};
 use rules::refusal::{Fault, Refusal};
 use rules::{Code, Directive, Form};
 
-// How far a step came: the run goes on, it is over, at its end or refused, or the next byte has no room.
+// How far a step came: the run goes on, it is over, at its end or refused, or the next byte has no room. Three cases, of
+// which a Result inside an Option would be no plainer.
 #[derive(Clone, Copy)]
 pub enum Reach {
     On,

@@ -13,7 +13,7 @@ pub enum Kind {
     OverArguments,
 }
 
-// What stands for the passes left where they are not limited.
+// What stands for the passes left where they are not limited: the state that C keeps has a number for them.
 const UNLIMITED: u16 = 65535;
 
 // An open block: what it is, the place of its opener and that of its inside, the passes left, and the arguments in hand

@@ -40,6 +40,7 @@ pub enum Content {
 #[derive(Clone, Copy)]
 pub struct Body {
     pub size: usize,
+    // in the body itself, since nothing takes memory
     pub word: [u8; 12],
     pub content: Content,
 }

@@ -23,4 +23,5 @@ pub const MOST_NUMBER: u16 = 4096;
 pub const MOST_CHARACTER: u16 = 127;
 
 // The tag of the last kind.
+// A number and no enum: a vet gets kinds as bytes from C.
 pub const LAST_KIND: u8 = 4;

@@ -96,6 +96,7 @@ fn right_for(entry: Entry, n: usize, pool: usize, i: usize) -> bool
 {
     let high = entry.high as usize;
     let low = entry.low as usize;
+    // by the tags of the table that C hands over
     match entry.tag {
         0 => high == 0 && low <= 1,
         1 => true,

@@ -11,7 +11,7 @@ pub struct Reach {
 }
 
 // Where the ways through a conditional end: none is known yet; all at the argument `next`, the longest with `size` bytes;
-// or at more than one argument.
+// or at more than one argument. Three cases, as the definitions have them: an Option would hide one in another.
 #[derive(Clone, Copy, Debug, PartialEq, Eq)]
 pub enum Ends {
     Nowhere,

@@ -27,7 +27,7 @@ use rules::{ArgumentPosition, EntryIndex};
 use syntax::text::check_text;
 use table::{argument_count, check_table};
 
-// The code of a call that did not come to the end. It is no code of 01.
+// The code of a call that did not come to the end. It is no code of 01, and a number as C gets it.
 pub const MORE: u32 = 256;
 
 // The stages of a state: begun, and any above it ended. A state is a caller's, so its stage is a number.
