@@ -92,7 +92,9 @@ fn find_clause(
     }
 }
 
-// The place after the block whose inside is at start, where known is that place or one of a clause of it, or behind one.
+// The place after the block whose inside is at start, where known is that place or one of a clause of it, or behind one. It
+// stays a call, so that what calls it is small enough to be put in place: a pass of an iteration copies less (measured).
+#[inline(never)]
 pub fn block_end(text: &[u8], marks: &[Landmark], start: usize, known: usize) -> usize
     requires landmarks { Landmarks text.now marks.now }
     requires inside_at { InsideAt text.now start known }

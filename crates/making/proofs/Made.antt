@@ -5,13 +5,12 @@ use Prim.Native.Nat.{ℕ, ◌+◌, ◌-◌, ◌≤◌}
 use native.Mathlib.Omega.{arith}
 use lib.ListN.{length, replicate, length-append, length-replicate}
 use lib.Seq.{take-append_seam}
-use Rattle.pieces.specs.Bytes.{part, quoted_of, figure_of, content_of, bytes_of, Inside, Makes, Gives}
+use Rattle.pieces.specs.Bytes.{part, quoted_of, figure_of, content_of, bytes_of, Inside, GoodFigure, Makes, Gives}
 use Rattle.pieces.specs.Given.{StringIn}
 use Rattle.pieces.specs.declared.Content.TheVariants.{Run, Copied, Quoted, Figures, Word}
 use Rattle.pieces.specs.declared.Body.{Body}
 use Rattle.pieces.specs.declared.Figure.{Figure}
 use Rattle.pieces.specs.declared.Piece.{Piece}
-use Rattle.pieces.proofs.Numerals.{figure_good}
 use Rattle.pieces.proofs.Parts.{length_part}
 
 pub makes_same : {t : List ℕ} {b : Body} {xs ys : List ℕ} → xs ≡ ys → Makes t b xs → Makes t b ys
@@ -75,11 +74,10 @@ module _ (t word : List ℕ) where
     is = refl;
   }
 
-  pub made_figures : (x : Figure) (size : ℕ) → size ≡ length (figure_of x) → size ≤ 128
+  pub made_figures : (x : Figure) (size : ℕ) → GoodFigure x → size ≡ length (figure_of x) → size ≤ 128
       → Makes t (record { size = size; word = word; content = Figures x }) (figure_of x)
   unfolding content_of Inside
-  made_figures x size e h =
-      record { good = record { size = e; small = omega arith; inside = figure_good x }; is = refl }
+  made_figures x size g e h = record { good = record { size = e; small = omega arith; inside = g }; is = refl }
 
 -- padding on its two sides
 pub made_piece : {t : List ℕ} {b : Body} {text : List ℕ} (l r pad : ℕ) → l + r ≤ 16384 → Makes t b text

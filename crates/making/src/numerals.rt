@@ -4,14 +4,14 @@ ghost use Rattle.rules.specs.Number.{sign_of};
 ghost use Rattle.pieces.specs.Bytes.{signed, Makes};
 ghost use Rattle.making.specs.Texts.{number_of};
 
-use numbers::magnitude;
+use numbers::{is_negative, magnitude};
 use pieces::{Body, Content, Figure};
 
 // The sign that is written, as a byte; 0 is none.
 fn sign_byte(plus: bool, x: i64) -> u8
     ensures { signed result ≡ sign_of plus x }
 {
-    if x < 0 {
+    if is_negative(x) {
         b'-'
     } else if plus && x != 0 {
         b'+'

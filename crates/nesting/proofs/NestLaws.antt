@@ -12,10 +12,13 @@ use Rattle.rules.specs.Choice.{both}
 use Rattle.rules.specs.Text.{Level}
 use Rattle.rules.specs.Run.{Frame}
 use Rattle.std.specs.Prelude.{Some}
+use Rattle.rules.specs.Setting.{Setting}
 use Rattle.nesting.specs.declared.nests.Block.{Block}
+use Rattle.nesting.specs.declared.nests.Kind.{Kind}
+use Rattle.nesting.specs.declared.nests.Kind.TheVariants.{Conditional, OverList, OverArguments}
 use Rattle.nesting.specs.declared.nests.Nest.{Nest}
 use Rattle.rules.proofs.Tests.{both_true, true_both}
-use Rattle.nesting.specs.Nest.{kind_by, passes_of, block_at, cut, frame_of, frames_of, block_lies, all_lie, Pushes}
+use Rattle.nesting.specs.Nest.{kind_by, number_of_kind, passes_of, block_at, with_passes, cut, frame_of, frames_of, block_lies, all_lie, Pushes}
 
 -- a number of passes that is limited
 pub limits : (n : ℕ) → (n ≡ 65535 → ⊥) → passes_of n ≡ Some n
@@ -23,6 +26,12 @@ limits n h = rw (ne_eqb n 65535 h)
 
 pub limited : (n : ℕ) → n < 65535 → passes_of n ≡ Some n
 limited n h = limits n (λ q. omega (arith, q))
+
+-- a kind is read back from its number
+pub kind_numbered : (k : Kind) → kind_by (number_of_kind k) ≡ k
+kind_numbered Conditional = refl
+kind_numbered OverList = refl
+kind_numbered OverArguments = refl
 
 -- the block is written behind the open ones
 module _ (o : Nest) (b : Block) (kind passes : ℕ) where
@@ -66,6 +75,29 @@ module _ (o : Nest) (b : Block) (kind passes : ℕ) where
               get_or-set_other o.counts o.depth x b.hand.count 0 (λ e. omega (arith, e)),
               get_or-set_other o.positions o.depth x b.next.0 0 (λ e. omega (arith, e)),
             ) refl;
+      }
+
+-- the block behind the open ones is open again
+module _ (o : Nest) (n : ℕ) where
+  abbrev again : Nest
+  again =
+      record {
+        depth = o.depth + 1;
+        kinds = o.kinds;
+        places = o.places;
+        insides = o.insides;
+        passes = set o.passes o.depth n;
+        starts = o.starts;
+        counts = o.counts;
+        positions = o.positions;
+      }
+
+  pub reopens : {x : Setting} → passes_of n ≡ x → o.depth < 8 → length o.passes ≡ 8 → Pushes o (with_passes (block_at o o.depth) x) again
+  reopens q r e =
+      record {
+        depth = refl;
+        block = rw (get_or-set_same o.passes o.depth n 0 (omega (arith, r, e)), q) refl;
+        others = λ i h. rw (get_or-set_other o.passes o.depth i n 0 (λ z. omega (arith, z))) refl;
       }
 
 -- frames and bounds by the blocks that are open

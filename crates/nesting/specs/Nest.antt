@@ -20,6 +20,12 @@ kind_by zero = Conditional
 kind_by (suc zero) = OverList
 kind_by (suc (suc k)) = OverArguments
 
+-- the number that is written for a kind
+abbrev pub number_of_kind : Kind → ℕ
+number_of_kind Conditional = 0
+number_of_kind OverList = 1
+number_of_kind OverArguments = 2
+
 -- the passes left, by their number; the greatest stands for no limit
 abbrev pub passes_of : ℕ → Setting
 passes_of n = cond (eqb n 65535) None (Some n)
@@ -35,6 +41,10 @@ block_at o i =
       hand = record { first = record { 0 = get_or o.starts i 0 }; count = get_or o.counts i 0 };
       next = record { 0 = get_or o.positions i 0 };
     }
+
+-- the same block, with other passes left
+abbrev pub with_passes : Block → Setting → Block
+with_passes b x = record { kind = b.kind; place = b.place; inside = b.inside; passes = x; hand = b.hand; next = b.next }
 
 -- what a block is, by its kind. Its inside and what follows it are read off the text, where s gives the sequences that
 -- are open at each place

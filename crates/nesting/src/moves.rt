@@ -9,7 +9,7 @@ ghost use Rattle.parameters.specs.Settling.{hand_at};
 ghost use Rattle.running.specs.Runs.{rest_at, leaving, picking, entering, opening};
 ghost use Rattle.blocks.specs.Landmarks.{Landmarks};
 ghost use Rattle.blocks.specs.Parts.{opens_block, iterates};
-ghost use Rattle.nesting.specs.Nest.{frames_of, FitsPasses};
+ghost use Rattle.nesting.specs.Nest.{block_at, frames_of, FitsPasses};
 ghost use Rattle.nesting.specs.Moves.{kind_of, on_at, ended_at, refused_at, Sound, Ready, weight, Moves, MovesHere, Closes, Passing, ends_block, after_block};
 
 use crate::inputs::Inputs;
@@ -243,6 +243,7 @@ fn close_iteration(inputs: Inputs<'_>, here: Here, block: Block, outside: Nest) 
 fn end_pass(inputs: Inputs<'_>, here: Here, block: Block, outside: Nest) -> Moved
     requires landmarks { Landmarks inputs.text.now inputs.marks.now }
     requires passing { Passing inputs.text.now inputs.table.now here block outside }
+    requires stands { block ≡ block_at outside outside.depth }
     ensures { Moves inputs.entry.text.now inputs.entry.table.now (ends_block inputs.entry.text.now inputs.entry.table.now here block outside) here.left (weight here outside + 1) result }
 {
     if is_over(block.passes, here.next, here.hand) {
@@ -251,16 +252,12 @@ fn end_pass(inputs: Inputs<'_>, here: Here, block: Block, outside: Nest) -> Move
     if here.left == 0 {
         return Moved::refused(Refusal::StepLimit, block.place, here, outside);
     }
-    let again = Block {
-        passes: one_less(block.passes),
-        ..block
-    };
     let inside = Here {
         place: block.inside,
         left: here.left - 1,
         ..here
     };
-    Moved::on(inside, outside.pushed(again))
+    Moved::on(inside, outside.reopened(one_less(block.passes)))
 }
 
 // The end of a sequence: of a clause, of a pass, or of the whole text.

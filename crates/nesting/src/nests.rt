@@ -1,6 +1,6 @@
 // The open blocks, the outermost first.
-ghost use Rattle.std.specs.Prelude.{◌≡◌, ◌<◌};
-ghost use Rattle.nesting.specs.Nest.{kind_by, block_at, cut, passes_of, Fits, FitsPasses, Pushes};
+ghost use Rattle.std.specs.Prelude.{◌≡◌, ◌<◌, get_or};
+ghost use Rattle.nesting.specs.Nest.{kind_by, number_of_kind, block_at, with_passes, cut, passes_of, Fits, FitsPasses, Pushes};
 
 use parameters::Hand;
 use rules::{ArgumentPosition, EntryIndex, Setting};
@@ -56,7 +56,7 @@ impl Kind {
     }
 
     fn number(self) -> u16
-        ensures { kind_by result ≡ self }
+        ensures { result ≡ number_of_kind self }
     {
         self as u16
     }
@@ -119,7 +119,8 @@ impl Nest {
     pub fn pushed(mut self, block: Block) -> Nest
         requires depth_bound { self.depth < 8 }
         requires fits { Fits block }
-        ensures { Pushes self block result }
+        ensures pushes { Pushes self block result }
+        ensures kind { get_or result.kinds self.depth 0 ≡ number_of_kind block.kind }
     {
         let i = self.depth;
         self.kinds[i] = block.kind.number();
@@ -129,6 +130,20 @@ impl Nest {
         self.starts[i] = block.hand.first.0 as u16;
         self.counts[i] = block.hand.count as u16;
         self.positions[i] = block.next.0 as u16;
+        self.depth = i + 1;
+        self
+    }
+
+    // The block behind the open ones is open again, with so many passes left. Its other numbers stay, the kind's too, for
+    // which a caller's state may have any.
+    pub fn reopened(mut self, passes: Setting) -> Nest
+        requires depth_bound { self.depth < 8 }
+        requires fits { FitsPasses passes }
+        ensures pushes { Pushes self (with_passes (block_at self self.depth) passes) result }
+        ensures kinds { result.kinds ≡ self.kinds }
+    {
+        let i = self.depth;
+        self.passes[i] = number_of(passes);
         self.depth = i + 1;
         self
     }

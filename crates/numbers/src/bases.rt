@@ -39,6 +39,7 @@ pub fn count_by_bits(bits: u32, n: u64) -> usize
 }
 
 // Fills out with the digits of n, from the right.
+#[tactic(auto, using(crate::proofs::Filling::turn_more))]
 pub fn fill_in(base: u64, n: u64, out: &mut [u8])
     requires le_base { (2 ≤ base) × (base ≤ 36) }
     requires out_len { length out.old ≡ length (digits_of base n) }

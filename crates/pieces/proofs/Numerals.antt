@@ -32,25 +32,21 @@ module _ (x : Figure) where
   unfolding figure_of signed
   with_sign e = rw (ne_eqb x.sign 0 e)
 
--- what a figure's type says of it
-pub figure_good : (x : Figure) → GoodFigure x
-figure_good x = record { base = x.base_bounds; width = x.width_bound; digits = x.digits_bound }
-
 -- a number's text is at most 128 bytes long
-pub digits_most : (x : Figure) → length (digits_in x) ≤ 127
-digits_most x =
+pub digits_most : (x : Figure) → GoodFigure x → length (digits_in x) ≤ 127
+digits_most x g =
     elim (dec_eq x.width 0) [
-      | yes e ↦ omega (arith, ap length (ungrouped x e), x.digits_bound)
+      | yes e ↦ omega (arith, ap length (ungrouped x e), g.digits)
       | no e ↦
           let ds = digits_of x.base x.magnitude in
-          omega (arith, ap length (in_groups x e), grouped_most x.width x.comma ds (omega (arith, e)), x.digits_bound)
+          omega (arith, ap length (in_groups x e), grouped_most x.width x.comma ds (omega (arith, e)), g.digits)
     ]
 
-pub figure_most : (x : Figure) → length (figure_of x) ≤ 128
-figure_most x =
+pub figure_most : (x : Figure) → GoodFigure x → length (figure_of x) ≤ 128
+figure_most x g =
     elim (dec_eq x.sign 0) [
-      | yes e ↦ omega (arith, ap length (unsigned x e), digits_most x)
-      | no e ↦ omega (arith, ap length (with_sign x e), digits_most x)
+      | yes e ↦ omega (arith, ap length (unsigned x e), digits_most x g)
+      | no e ↦ omega (arith, ap length (with_sign x e), digits_most x g)
     ]
 
 -- a byte and then a text, in a buffer that has room for just that

@@ -1,11 +1,13 @@
--- A part of a text. Assumes nothing.
+-- A part of a text, and the loop that copies one. Assumes nothing.
 use mathlib.Core.Path.{◌≡◌, refl, sym, ap}
 use mathlib.Core.List.{List, [], ◌∷◌, ◌++◌}
-use Prim.Native.Nat.{ℕ, zero, suc, ◌-◌, ◌≤◌, min}
+use Prim.Native.Nat.{ℕ, zero, suc, ◌+◌, ◌-◌, ◌≤◌, ◌<◌, min}
 use native.Mathlib.Nat.{not-suc-le-zero, zero-sub, suc-sub-suc, zero-min, min-zero, suc-min-suc, sub-zero}
+use native.Mathlib.Numerals.{add-one}
 use native.Mathlib.Omega.{arith}
-use lib.ListN.{length, take, replicate, length-take, length-drop}
-use lib.Seq.{take_all}
+use lib.ListN.{length, take, drop, set, get_or, replicate, length-set, length-take, length-drop, drop_of_length-le}
+use lib.Seq.{drop-cons, take_all}
+use Rattle.rules.proofs.Writing.{Writing, write_none, write_one, write_all_lem}
 use Rattle.pieces.specs.Bytes.{part}
 
 -- a front of two texts
@@ -42,3 +44,26 @@ pub part_whole : (f n : ℕ) (xs : List ℕ) → n ≡ length xs → n ≤ lengt
 part_whole zero n xs e h = sym (part_all n xs e)
 part_whole (suc f) n [] e h = rw e
 part_whole (suc f) n (x ∷ xs) e h = absurd (omega arith)
+
+-- The loop that fills a slice of a size with the text v from its front, i bytes of it so far
+pub record Copying (v : List ℕ) (size : ℕ) (out : List ℕ) (i : ℕ) : Type 0 where
+  pub ahead : Writing v out i (drop i v)
+  pub same : length out ≡ size
+
+pub copy_none : (v out : List ℕ) → length v ≡ length out → Copying v (length out) out 0
+copy_none v out e = record { ahead = write_none v out (sym e); same = refl }
+
+module _ {v : List ℕ} {size : ℕ} {out : List ℕ} {i : ℕ} (w : Copying v size out i) where
+  pub copy_inside : i < length out → i < length v
+  copy_inside h = omega (arith, w.ahead.room, length-drop i v)
+
+  pub copy_more : (x : ℕ) → i < length out → x ≡ get_or v i 0 → Copying v size (set out i x) (i + 1)
+  copy_more x h e =
+      let k : i < length v = copy_inside h in
+      let front : drop i v ≡ x ∷ drop (i + 1) v = rw (e, add-one) (drop-cons v i 0 k) in
+      record { ahead = write_one x (drop (i + 1) v) (rw front at w.ahead); same = simp length-set w.same }
+
+  pub copy_all : length out ≤ i → out ≡ v
+  copy_all h =
+      let none : length v ≤ i = omega (arith, w.ahead.room, length-drop i v) in
+      write_all_lem (rw (drop_of_length-le v {i = i} none) at w.ahead)

@@ -232,7 +232,7 @@ module _ (t : List ℕ) (q : QuoteRest) {from : ℕ} {b e : List ℕ} {missing a
   in_padding : Appends (rest_of t q) from b e at (replicate missing q.pad)
   in_padding = rw (rest_padding t q h) p.written
 
-  pub padding_left : (stage : ℕ) → (missing ≡ 0 → stage ≡ 0) → (missing ≢ 0 → stage ≡ 4)
+  pub padding_left : (stage : ℕ) → (missing ≡ 0 → stage ≡ 0) → (missing ≢ 0 → 3 < stage)
       → WritesRest t q from b e
       (record { rest = quote_rest stage q.before q.start q.end missing q.pad; at = at })
   padding_left stage done more =
@@ -243,7 +243,7 @@ module _ (t : List ℕ) (q : QuoteRest) {from : ℕ} {b e : List ℕ} {missing a
             rest_written t q _ (rw (rest_done t rest (done z)) (rw z at in_padding)) in_table
             (λ n. absurd (n (done z)))
         | no z ↦
-            let is : rest_of t rest ≡ replicate missing q.pad = rest_padding t rest (omega (arith, more z)) in
+            let is : rest_of t rest ≡ replicate missing q.pad = rest_padding t rest (more z) in
             rest_written t q _ (rw is in_padding) in_table
             (λ _. (
               omega (arith, z, p.place, p.over, p.written.most, p.written.least),

@@ -59,7 +59,6 @@ beside before behind pad text = replicate before pad ++ (text ++ replicate behin
 unfoldable pub bytes_of : List ℕ → Piece → List ℕ
 bytes_of t p = beside p.before p.behind p.pad (body_of t p.body)
 
--- what the type of a figure says of it
 pub record GoodFigure (x : Figure) : Type 0 where
   pub base : (2 ≤ x.base) × (x.base ≤ 36)
   pub width : x.width ≤ 4096

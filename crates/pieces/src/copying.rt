@@ -8,14 +8,13 @@ pub fn fill(byte: u8, out: &mut [u8])
     out.fill(byte);
 }
 
-// Fills out with the bytes of src from `from` on.
+// Fills out with the bytes of src from `from` on. No `copy_from_slice`: it calls `memmove`, which the archives for C would
+// ask for.
 pub fn copy_part(src: &[u8], from: usize, out: &mut [u8])
     requires { length out.old ≤ length src.now - from }
     ensures { out.new ≡ part from (length out.old) src.now }
 {
-    let count = out.len();
-    // where nothing is asked for, `from` may lie anywhere
-    if 0 < count {
-        out.copy_from_slice(&src[from..from + count]);
+    for i in 0..out.len() {
+        out[i] = src[from + i];
     }
 }

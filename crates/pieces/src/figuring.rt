@@ -1,6 +1,6 @@
 // A number with its sign: its size, the whole of it, and a part of it.
 ghost use Rattle.std.specs.Prelude.{◌≡◌, ◌-◌, ◌≤◌, length};
-ghost use Rattle.pieces.specs.Bytes.{part, digits_in, figure_of};
+ghost use Rattle.pieces.specs.Bytes.{part, digits_in, figure_of, GoodFigure};
 
 use super::Figure;
 use super::copying::copy_part;
@@ -10,6 +10,7 @@ impl Figure {
     // The size of the digits, with their separators.
     #[tactic(auto, using(crate::proofs::Numerals::ungrouped, crate::proofs::Numerals::in_groups))]
     fn digits_size(self) -> usize
+        requires { GoodFigure self }
         ensures size { result ≡ length (digits_in self) }
         ensures within { result ≤ 127 }
     {
@@ -22,6 +23,7 @@ impl Figure {
 
     #[tactic(auto, using(crate::proofs::Numerals::unsigned, crate::proofs::Numerals::with_sign))]
     pub fn size(self) -> usize
+        requires { GoodFigure self }
         ensures size { result ≡ length (figure_of self) }
         ensures within { result ≤ 128 }
     {
@@ -32,7 +34,8 @@ impl Figure {
     // The digits. Without groups they go straight to their place.
     #[tactic(auto, using(crate::proofs::Numerals::ungrouped, crate::proofs::Numerals::in_groups))]
     fn write_digits(self, out: &mut [u8])
-        requires { length out.old ≡ length (digits_in self) }
+        requires good_figure { GoodFigure self }
+        requires out_len { length out.old ≡ length (digits_in self) }
         ensures { out.new ≡ digits_in self }
     {
         if self.width == 0 {
@@ -48,7 +51,8 @@ impl Figure {
     // The sign and the digits.
     #[tactic(auto, using(crate::proofs::Numerals::unsigned, crate::proofs::Numerals::with_sign))]
     fn write_whole(self, out: &mut [u8])
-        requires { length out.old ≡ length (figure_of self) }
+        requires good_figure { GoodFigure self }
+        requires out_len { length out.old ≡ length (figure_of self) }
         ensures { out.new ≡ figure_of self }
     {
         if self.sign == 0 {
@@ -62,6 +66,7 @@ impl Figure {
     // A part, by way of a local array, or all of it. Where the whole is asked for, the compiler knows it and drops the test.
     #[tactic(auto, using(crate::proofs::Numerals::figure_most))]
     pub fn write_part(self, size: usize, from: usize, out: &mut [u8])
+        requires good_figure { GoodFigure self }
         requires size_value { size ≡ length (figure_of self) }
         requires out_len_bound { length out.old ≤ size - from }
         ensures { out.new ≡ part from (length out.old) (figure_of self) }

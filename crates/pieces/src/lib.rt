@@ -2,9 +2,6 @@
 // for is in specs/Bytes, what it may be made from in specs/Given, and what is left of one that is cut in specs/Rest.
 #![tactic(auto)]
 
-ghost use Rattle.std.specs.Prelude.{◌≤◌, length};
-ghost use Rattle.rules.specs.Number.{digits_of};
-
 pub mod copying; // fills and copies
 pub mod window; // where a window falls in a text of three segments
 pub mod quoting; // a string in quotes
@@ -20,9 +17,6 @@ pub struct Figure {
     pub sign: u8,
     pub width: usize,
     pub comma: u8,
-    pub ghost base_bounds: { (2 ≤ base) × (base ≤ 36) },
-    pub ghost width_bound: { width ≤ 4096 },
-    pub ghost digits_bound: { length (digits_of base magnitude) ≤ 64 },
 }
 
 // Where the bytes of a text come from. A string is given by its place in the table.

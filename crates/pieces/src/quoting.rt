@@ -15,13 +15,18 @@ fn is_marked(byte: u8) -> bool
     matches!(byte, b'"' | b'\\')
 }
 
-// The length of a string in quotes.
+// The length of a string in quotes. A sum has no branches, so the compiler looks at many bytes at once; `filter` and
+// `count` go byte by byte.
 pub fn quoted_size(src: &[u8]) -> usize
     requires { length src.now ≤ 65536 }
     ensures size { result ≡ length (quoted_of src.now) }
     ensures within { result ≤ 131074 }
 {
-    2 + src.len() + src.iter().filter(|byte| is_marked(**byte)).count()
+    let mut marked: u32 = 0;
+    for byte in src {
+        marked += u32::from(is_marked(*byte));
+    }
+    2 + src.len() + marked as usize
 }
 
 // The whole string in quotes.

@@ -100,17 +100,14 @@ fn write_padding(q: QuoteRest, out: &mut [u8], from: usize) -> RestWritten
     ensures { (t : List ℕ) → RestIn t q → WritesRest t q from out.old out.new result }
 {
     let (behind, at) = pad_some(q.behind, q.pad, out, from);
+    // a caller's state may have any number from that of the padding on: it stays
     let stage = if behind == 0 {
-        Stage::Done
+        Stage::Done.into()
     } else {
-        Stage::Padding
+        q.stage
     };
     RestWritten {
-        rest: QuoteRest {
-            stage: stage.into(),
-            behind,
-            ..q
-        },
+        rest: QuoteRest { stage, behind, ..q },
         at,
     }
 }

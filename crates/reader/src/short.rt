@@ -193,6 +193,7 @@ pub fn read_short(text: &[u8], p: usize) -> Option<Short>
 }
 
 // The position after the literal bytes and the short directives that stand from start on.
+#[inline(always)]
 pub fn skip_short(text: &[u8], start: usize) -> usize
     ensures { SkipsShort text.now start result }
 {

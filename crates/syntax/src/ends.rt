@@ -45,7 +45,8 @@ fn shape_of_mark(mark: Mark, after: usize) -> Shape
     }
 }
 
-// The shape of the item at p.
+// The shape of the item at p. Put in place where it is called, as next_clause is.
+#[inline(always)]
 pub fn shape_at(text: &[u8], p: usize) -> Shape
     ensures { result ≡ shape_of p (item_at text.now p) }
 {
@@ -73,7 +74,9 @@ pub enum ClauseEnd {
     },
 }
 
-// From a place inside a clause, its end. Blocks that begin on the way are gone over: depth of them are open.
+// From a place inside a clause, its end. Blocks that begin on the way are gone over: depth of them are open. Put in place
+// where it is called: as a call it would answer by memory (measured).
+#[inline(always)]
 pub fn next_clause(text: &[u8], start: usize) -> ClauseEnd
     requires { start ≤ length text.now }
     ensures { EndsClause text.now start result }

@@ -1,23 +1,23 @@
 -- `making::numerals::sign_byte` meets its contract: the sign by whether the number is negative, zero or positive.
 -- Assumes nothing.
-use mathlib.Core.Path.{◌≡◌, refl, sym, ◌∙◌}
+use mathlib.Core.Path.{◌≡◌, refl, sym, ap, ◌∙◌}
 use mathlib.Core.Bool.{false}
 use mathlib.Core.List.{[]}
 use Prim.Native.Nat.{zero, suc, ◌≤◌, ◌<◌, ◌^◌}
 use native.Mathlib.Omega.{arith}
 use lib.IntN.{ℤ, pos, negsuc}
-use lib.Signed.{lt_z}
 use mir.Syntax.{w64}
 use mir.Val.{SFits, of_z, to_z}
 use mir.ValLaws.{to_z-of_z}
 use Rattle.rules.specs.Number.{is_negative, magnitude_of, sign_of}
-use Rattle.rules.proofs.Signs.{negative_below, sign_negative, sign_zero, sign_positive}
+use Rattle.rules.proofs.Signs.{sign_negative, sign_zero, sign_positive}
 use Rattle.pieces.specs.Bytes.{signed}
 use Rattle.making.proofs.numerals.sign_byte.Goals as goal
 use Rattle.making.proofs.numerals.sign_byte.Goals.{else-plus-via-then-plus+else-x-ne0, else-plus-via-else-plus}
 
-negative : {z : ℤ} → SFits w64 z → lt_z (to_z w64 (of_z w64 z)) (pos 0) ≡ is_negative z
-negative {z} f = rw (to_z-of_z w64 z f) (negative_below z)
+-- the number that is asked for its sign, by way of its bits
+same : {z : ℤ} → SFits w64 z → is_negative (to_z w64 (of_z w64 z)) ≡ is_negative z
+same {z} f = ap is_negative (to_z-of_z w64 z f)
 
 some_bits : (z : ℤ) → (of_z w64 z ≡ 0 → ⊥) → is_negative z ≡ false → 1 ≤ magnitude_of z
 some_bits (pos n) h e = omega (arith, h)
@@ -32,14 +32,14 @@ no_sign (pos zero) e = refl
 no_sign (pos (suc n)) e = refl
 no_sign (negsuc n) e = absurd (cc e)
 
-pub returns-then-x-lt0 : goal.returns-then-x-lt0
+pub returns-then-is_negative : goal.returns-then-is_negative
 unfolding signed
-returns-then-x-lt0 c = sym (sign_negative c.args.plus c.args.x (sym (negative c.ranges.x) ∙ c.if-x-lt0.true))
+returns-then-is_negative c = sym (sign_negative c.args.plus c.args.x (sym (same c.ranges.x) ∙ sym c.is_negative.ensures ∙ c.if-is_negative.true))
 
 pub returns-then-x-ne0 : goal.returns-then-x-ne0
 unfolding signed
 returns-then-x-ne0 c =
-    let e = sym (negative c.ranges.x) ∙ c.if-x-lt0.false in
+    let e = sym (same c.ranges.x) ∙ sym c.is_negative.ensures ∙ c.if-is_negative.false in
     sym (sign_positive c.args.plus c.args.x e (some_bits c.args.x c.if-x-ne0.true e) ∙ rw c.if-plus.true)
 
 pub returns-else-plus : goal.returns-else-plus
@@ -47,5 +47,5 @@ unfolding signed
 returns-else-plus c =
     sym (elim c.else-plus.branch [
       | else-plus-via-then-plus+else-x-ne0 w ↦ sign_zero c.args.plus c.args.x (no_bits c.args.x c.ranges.x w.if-x-ne0.false)
-      | else-plus-via-else-plus w ↦ rw w.if-plus.false (no_sign c.args.x (sym (negative c.ranges.x) ∙ c.if-x-lt0.false))
+      | else-plus-via-else-plus w ↦ rw w.if-plus.false (no_sign c.args.x (sym (same c.ranges.x) ∙ sym c.is_negative.ensures ∙ c.if-is_negative.false))
     ])

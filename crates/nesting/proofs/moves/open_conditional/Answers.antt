@@ -28,7 +28,7 @@ block_end-place-requires-clause-inside_at c =
 pub returns-in-Ok-At : goal.returns-in-Ok-At
 returns-in-Ok-At c =
     let a = c.args in
-    λ j. conditional_on a.inputs.text.now a.inputs.table.now a.here a.nest a.d c.requires.ready a.settled.settings a.settled.next c.requires.next_le_count (let is : c.choose_clause.result ≡ Ok (At c.in-Ok-At.place c.in-Ok-At.next) = search rules in subst (Chooses a.inputs.text.now a.inputs.table.now a.here.hand a.d a.settled.settings a.settled.next.0) is c.choose_clause.ensures) j c.pushed.ensures c.on.ensures
+    λ j. conditional_on a.inputs.text.now a.inputs.table.now a.here a.nest a.d c.requires.ready a.settled.settings a.settled.next c.requires.next_le_count (let is : c.choose_clause.result ≡ Ok (At c.in-Ok-At.place c.in-Ok-At.next) = search rules in subst (Chooses a.inputs.text.now a.inputs.table.now a.here.hand a.d a.settled.settings a.settled.next.0) is c.choose_clause.ensures) j c.pushed.ensures.pushes c.on.ensures
 
 pub returns-in-Ok-Nothing : goal.returns-in-Ok-Nothing
 returns-in-Ok-Nothing c =

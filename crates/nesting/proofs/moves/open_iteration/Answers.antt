@@ -26,4 +26,4 @@ returns-in-Err c =
 pub returns-in-Ok : goal.returns-in-Ok
 returns-in-Ok c =
     let a = c.args in
-    λ j. iteration_on a.inputs.text.now a.inputs.table.now a.here a.nest a.d c.requires.ready a.settled.settings a.settled.next c.requires.next_le_count c.in-Ok.ensures c.iteration_kind.ensures c.next_after.ensures j c.pushed.ensures c.on.ensures
+    λ j. iteration_on a.inputs.text.now a.inputs.table.now a.here a.nest a.d c.requires.ready a.settled.settings a.settled.next c.requires.next_le_count c.in-Ok.ensures c.iteration_kind.ensures c.next_after.ensures j c.pushed.ensures.pushes c.on.ensures

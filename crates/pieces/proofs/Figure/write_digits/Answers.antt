@@ -10,7 +10,7 @@ use Rattle.pieces.proofs.Figure.write_digits.Goals as goal
 
 pub write_grouped-requires-clause-out_len : goal.write_grouped-requires-clause-out_len
 write_grouped-requires-clause-out_len c =
-    c.requires
+    c.requires.out_len
     ∙ ap length (in_groups c.args.self c.if-self-eq0.false)
     ∙ sym (ap length (ap (λ (l : List ℕ). grouped c.args.self.width c.args.self.comma l)
     (read_back _ _ _ _ c.fill_digits-2.ensures

@@ -18,11 +18,11 @@ returns-then-out-size c =
 
 pub slice_bounds-write_whole-end : goal.slice_bounds-write_whole-end
 slice_bounds-write_whole-end c =
-    rw length-take (omega (arith, c.requires.size_value, figure_most c.args.self))
+    rw length-take (omega (arith, c.requires.size_value, figure_most c.args.self c.requires.good_figure))
 
-pub write_whole-requires-2 : goal.write_whole-requires-2
-write_whole-requires-2 c =
-    rw length-take (omega (arith, c.requires.size_value, figure_most c.args.self))
+pub write_whole-requires-2-clause-out_len : goal.write_whole-requires-2-clause-out_len
+write_whole-requires-2-clause-out_len c =
+    rw length-take (omega (arith, c.requires.size_value, figure_most c.args.self c.requires.good_figure))
 
 pub returns : goal.returns
 returns c =

@@ -7,19 +7,19 @@ use Rattle.pieces.proofs.Numerals.{with_sign, sign_put, sign_room}
 use Rattle.pieces.proofs.Figure.write_whole.Goals as goal
 
 pub slice_bounds-write_digits-count : goal.slice_bounds-write_digits-count
-slice_bounds-write_digits-count c = simp length-set (omega (arith, (c.requires ∙ ap length (with_sign c.args.self c.if-self-eq0.false))))
+slice_bounds-write_digits-count c = simp length-set (omega (arith, (c.requires.out_len ∙ ap length (with_sign c.args.self c.if-self-eq0.false))))
 
 pub slice_bounds-write_digits-start : goal.slice_bounds-write_digits-start
-slice_bounds-write_digits-start c = simp length-set (omega (arith, (c.requires ∙ ap length (with_sign c.args.self c.if-self-eq0.false))))
+slice_bounds-write_digits-start c = simp length-set (omega (arith, (c.requires.out_len ∙ ap length (with_sign c.args.self c.if-self-eq0.false))))
 
-pub write_digits-requires-2 : goal.write_digits-requires-2
-write_digits-requires-2 c =
+pub write_digits-requires-2-clause-out_len : goal.write_digits-requires-2-clause-out_len
+write_digits-requires-2-clause-out_len c =
     sign_room c.args.out.now c.args.self.sign (digits_in c.args.self)
-    (c.requires ∙ ap length (with_sign c.args.self c.if-self-eq0.false))
+    (c.requires.out_len ∙ ap length (with_sign c.args.self c.if-self-eq0.false))
 
 pub returns : goal.returns
 returns c =
     sign_put c.args.out.now c.args.self.sign (digits_in c.args.self)
-    (c.requires ∙ ap length (with_sign c.args.self c.if-self-eq0.false))
+    (c.requires.out_len ∙ ap length (with_sign c.args.self c.if-self-eq0.false))
     c.write_digits-2.ensures
     ∙ sym (with_sign c.args.self c.if-self-eq0.false)

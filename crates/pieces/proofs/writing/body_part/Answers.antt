@@ -30,6 +30,9 @@ quote_part-requires-clause-size_value c =
 pub quote_part-requires-clause-size_bound : goal.quote_part-requires-clause-size_bound
 quote_part-requires-clause-size_bound c = c.requires.good_body.small
 
+pub write_part-requires-clause-good_figure : goal.write_part-requires-clause-good_figure
+write_part-requires-clause-good_figure c = (is_figures c.requires.good_body _ c.in-Figures.is).places
+
 pub write_part-requires-clause-size_value : goal.write_part-requires-clause-size_value
 write_part-requires-clause-size_value c = (is_figures c.requires.good_body _ c.in-Figures.is).size
 
