@@ -1,5 +1,5 @@
 // The open blocks, the outermost first.
-ghost use Rattle.std.specs.Prelude.{◌≡◌, ◌<◌, get_or};
+ghost use Rattle.std.specs.Prelude.{◌≡◌, ◌<◌, set};
 ghost use Rattle.nesting.specs.Nest.{kind_by, number_of_kind, block_at, with_passes, cut, passes_of, Fits, FitsPasses, Pushes};
 
 use parameters::Hand;
@@ -120,7 +120,7 @@ impl Nest {
         requires depth_bound { self.depth < 8 }
         requires fits { Fits block }
         ensures pushes { Pushes self block result }
-        ensures kind { get_or result.kinds self.depth 0 ≡ number_of_kind block.kind }
+        ensures kinds { result.kinds ≡ set self.kinds self.depth (number_of_kind block.kind) }
     {
         let i = self.depth;
         self.kinds[i] = block.kind.number();
