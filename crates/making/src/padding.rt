@@ -36,7 +36,8 @@ fn padding(minwidth: usize, padinc: usize, minpad: usize, size: usize) -> usize
 
 // A text with no padding.
 pub fn bare_piece(body: Body) -> Piece
-    ensures { (t text : List ℕ) → Makes t body text → Gives t result text }
+    ensures gives { (t text : List ℕ) → Makes t body text → Gives t result text }
+    ensures same_body { result.body ≡ body }
 {
     padded_piece(body, 0, 0, b' ')
 }
@@ -44,7 +45,8 @@ pub fn bare_piece(body: Body) -> Piece
 // A text with padding on its two sides.
 pub fn padded_piece(body: Body, before: usize, behind: usize, pad: u8) -> Piece
     requires { before + behind ≤ 16384 }
-    ensures { (t text : List ℕ) → Makes t body text → Gives t result (beside before behind pad text) }
+    ensures gives { (t text : List ℕ) → Makes t body text → Gives t result (beside before behind pad text) }
+    ensures same_body { result.body ≡ body }
 {
     Piece {
         before,
@@ -58,7 +60,8 @@ pub fn padded_piece(body: Body, before: usize, behind: usize, pad: u8) -> Piece
 pub fn around(atsign: bool, settings: Settings, body: Body) -> Piece
     requires in_places { InPlaces padding_places settings }
     requires size_bound { body.size ≤ 131074 }
-    ensures { (t text : List ℕ) → Makes t body text → Gives t result (around_of atsign settings text) }
+    ensures gives { (t text : List ℕ) → Makes t body text → Gives t result (around_of atsign settings text) }
+    ensures same_body { result.body ≡ body }
 {
     let minwidth = settings.first.unwrap_or(0);
     let padinc = settings.second.unwrap_or(1);
@@ -69,5 +72,56 @@ pub fn around(atsign: bool, settings: Settings, body: Body) -> Piece
         padded_piece(body, count, 0, pad)
     } else {
         padded_piece(body, 0, count, pad)
+    }
+}
+
+#[cfg(test)]
+mod tests {
+    use super::*;
+    use pieces::{Content, Figure};
+
+    // A body keeps its number and its size, even one that says the wrong size of itself.
+    #[test]
+    fn padding_keeps_the_body(rt: HostRuntime) {
+        let body = Body {
+            size: 9,
+            word: *b"abcdefghijkl",
+            content: Content::Figures(Figure {
+                base: 16,
+                magnitude: 255,
+                sign: b'-',
+                width: 2,
+                comma: b'.',
+            }),
+        };
+        let settings = Settings {
+            first: Some(20),
+            second: None,
+            third: None,
+            fourth: None,
+            fifth: None,
+        };
+        for (piece, before, behind) in [
+            (bare_piece(body), 0, 0),
+            (padded_piece(body, 3, 4, b'*'), 3, 4),
+            (around(true, settings, body), 11, 0),
+            (around(false, settings, body), 0, 11),
+        ] {
+            assert_eq!(rt; (piece.before, piece.behind), (before, behind));
+            assert_eq!(rt; piece.body.size, 9);
+            assert_eq!(rt; piece.body.word, *b"abcdefghijkl");
+            assert!(rt;
+                matches!(
+                    piece.body.content,
+                    Content::Figures(Figure {
+                        base: 16,
+                        magnitude: 255,
+                        sign: b'-',
+                        width: 2,
+                        comma: b'.',
+                    })
+                )
+            );
+        }
     }
 }

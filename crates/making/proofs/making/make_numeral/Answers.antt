@@ -26,4 +26,4 @@ returns c =
     λ t.
     let m = makes_same (ap (number_of base c.args.atsign c.if-colon.group c.byte_or-comma.result) (to_z-of_z w64 x c.ranges.x) ∙ text) (c.figure_body-body.ensures t) in
     gives_same (left_is _ c.saturating_sub-missing.ensures (c.unwrap_or.ensures ∙ or_else_is s.first 0) c.byte_or.ensures (makes_size m))
-    (c.padded_piece.ensures t _ m)
+    (c.padded_piece.ensures.gives t _ m)

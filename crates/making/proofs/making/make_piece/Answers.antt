@@ -14,7 +14,7 @@ pub returns-in-Object : goal.returns-in-Object
 unfolding text_of
 returns-in-Object c =
     gives_same (text_at c.in-Object.is c.args.colon c.args.atsign c.args.settings (meant c.args.table.now c.args.argument))
-    (c.around.ensures _ _ c.bare_body.ensures)
+    (c.around.ensures.gives _ _ c.bare_body.ensures)
 
 pub returns-in-Numeral : goal.returns-in-Numeral
 unfolding text_of
@@ -33,7 +33,7 @@ returns-in-Glyph c =
     (c.code_of.ensures c.args.table.now)
     ∙ text_at c.in-Glyph.is c.args.colon c.args.atsign
     c.args.settings (meant c.args.table.now c.args.argument))
-    (c.bare_piece.ensures c.args.table.now _
+    (c.bare_piece.ensures.gives c.args.table.now _
     (c.glyph_body.ensures c.args.table.now))
 
 pub returns-in-Plural : goal.returns-in-Plural
@@ -43,7 +43,7 @@ returns-in-Plural c =
     (c.is_one.ensures c.args.table.now)
     ∙ text_at c.in-Plural.is c.args.colon c.args.atsign
     c.args.settings (meant c.args.table.now c.args.argument))
-    (c.bare_piece-in-Plural.ensures c.args.table.now _
+    (c.bare_piece-in-Plural.ensures.gives c.args.table.now _
     (c.plural_body.ensures c.args.table.now))
 
 pub returns-in-Repeat : goal.returns-in-Repeat
@@ -52,12 +52,12 @@ returns-in-Repeat c =
     gives_same (fill_same _ _ _ (c.unwrap_or.ensures ∙ or_else_is c.args.settings.first 1)
     ∙ text_at c.in-Repeat.is c.args.colon c.args.atsign
     c.args.settings (meant c.args.table.now c.args.argument))
-    (c.bare_piece-in-Repeat.ensures c.args.table.now _ (c.run_body.ensures c.args.table.now))
+    (c.bare_piece-in-Repeat.ensures.gives c.args.table.now _ (c.run_body.ensures c.args.table.now))
 
 pub returns-in-Fold : goal.returns-in-Fold
 unfolding text_of
 returns-in-Fold c =
     gives_same (text_at c.in-Fold.is c.args.colon c.args.atsign
     c.args.settings (meant c.args.table.now c.args.argument))
-    (c.bare_piece-in-Fold.ensures c.args.table.now _
+    (c.bare_piece-in-Fold.ensures.gives c.args.table.now _
     (c.fold_body.ensures c.args.table.now))

@@ -2,5 +2,5 @@
 use Rattle.making.proofs.Made.{made_piece}
 use Rattle.making.proofs.padding.padded_piece.Goals as goal
 
-pub returns : goal.returns
-returns c = λ t text m. made_piece _ _ _ c.requires m
+pub returns-clause-gives : goal.returns-clause-gives
+returns-clause-gives c = λ t text m. made_piece _ _ _ c.requires m
